@@ -1,4 +1,5 @@
 -- `slots` divides the length, and caps it.
+use Rattle.contacts.specs.Table.{slotsOf}
 use native.Mathlib.Omega.{arith}
 use Rattle.contacts.proofs.slots.Statement.{statement}
 use Rattle.contacts.proofs.slots.Tie as tie
