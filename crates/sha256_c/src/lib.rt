@@ -1,6 +1,6 @@
 // SHA-256 for C and Rust.
 ghost use mathlib.Core.Path.{_≡_};
-ghost use Rattle.sha256.specs.Sha.{sha256};
+ghost use Rattle.sha256.specs.Sha256.{sha256};
 
 // Stores the hash of `src` in `out`. A C program declares it so:
 //

@@ -10,7 +10,7 @@ ghost use mathlib.Core.Path.{_≡_};
 ghost use mathlib.Core.Bool.{true};
 ghost use Prim.Native.Nat.{_+_, _*_, _≤_, _<_};
 ghost use lib.ListN.{length, replicate};
-ghost use Rattle.sha256.specs.Sha.{sha256};
+ghost use Rattle.sha256.specs.Sha256.{sha256};
 use libc::STDOUT_FILENO;
 use lines::Line;
 use lines::Number;

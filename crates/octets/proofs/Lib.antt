@@ -1,0 +1,6 @@
+pub mod Bools
+pub mod Searching
+pub mod Parts
+pub mod Strings
+pub mod Numbers
+pub mod Stores
