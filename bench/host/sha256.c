@@ -19,9 +19,11 @@ static hash_fn *named(const char *name) {
     return NULL;
 }
 
+/* The processor's time of this process: a message of 1 MB takes longer than a turn of the scheduler, so that by the clock on the wall
+   other programs' turns would count. */
 static double now_ns(void) {
     struct timespec t;
-    clock_gettime(CLOCK_MONOTONIC, &t);
+    clock_gettime(CLOCK_PROCESS_CPUTIME_ID, &t);
     return (double)t.tv_sec * 1e9 + (double)t.tv_nsec;
 }
 
