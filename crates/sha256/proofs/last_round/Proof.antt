@@ -1,7 +1,11 @@
 use borrow.Author.Needs.{needs}
-use mathlib.Core.Path.{_≡_}
-use Rattle.sha256.proofs.round_at.Statement.{statement}
-use Rattle.sha256.proofs.round_at.Tie as tie
+use denote.Ref.{now}
+use Rattle.sha256.proofs.Schedule.{last-law}
+use Rattle.sha256.proofs.last_round.Statement.{statement}
+use Rattle.sha256.proofs.last_round.Tie as tie
+
+add-round : tie.Need-add-round
+add-round c = search needs
 
 mul-round : tie.Need-mul-round
 mul-round c = search needs
@@ -19,12 +23,14 @@ round-requires : tie.Need-round-requires
 round-requires c κs = search needs
 
 returns : tie.Need-returns
-returns c = rw (c .before .before .before .pre .1) at (c .round .ensures)
+returns c = λ b s. let a = c .before .before .before .args in
+    last-law b s (a .v) (c .round .result) (now (a .w)) (now (a .k)) (a .i) (c .before .before .before .pre .0) (c .before .before .before .pre .1) (c .round .ensures)
 
-pub round-at-spec : {M : Type 1} → statement M
-round-at-spec =
+pub last-round-spec : {M : Type 1} → statement M
+last-round-spec =
     tie.close
     (tie.spec
+    add-round
     mul-round
     element-copy-out-round
     mul-round-2
