@@ -1,7 +1,7 @@
 -- The schedule as an array that is filled word by word, and the rounds that run beside it. Assumes nothing.
 use mathlib.Core.Path.{_≡_, refl, _∙_, ap, sym, subst}
 use mathlib.Core.Logic.{⊎-elim}
-use mathlib.Core.List.{List, [], _∷_, _++_}
+use mathlib.Core.List.{List, [], _∷_}
 use Prim.Native.Nat.{ℕ, zero, suc, _+_, _-_, _*_, _%_, _<_, _≤_}
 use native.Mathlib.Nat.{zero-add, suc-add, add-zero, add-suc, add-assoc, mod-add-mod, eq-or-lt-of-le}
 use native.Mathlib.Numerals.{add-one}

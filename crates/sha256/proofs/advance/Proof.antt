@@ -1,3 +1,4 @@
+-- `sha256::advance` meets its contract. A round, and the next word of the schedule in the place of its word. Assumes nothing.
 use borrow.Author.Needs.{needs}
 use denote.Ref.{now}
 use Rattle.sha256.proofs.Schedule.{advance-law}
@@ -65,8 +66,12 @@ element-write-w : tie.Need-element-write-w
 element-write-w c = search needs
 
 returns : tie.Need-returns
-returns c = λ b s. let a = c .before .before .before .before .before .before .before .before .args in
-    advance-law b s (a .v) (c .before .before .before .before .before .round .result) (now (a .w)) (now (a .k)) (a .t) (a .i) (c .later-word .result) (c .before .before .before .before .before .before .before .before .pre .0) (c .before .before .before .before .before .before .before .before .pre .1) (c .before .before .before .before .before .round .ensures) (c .later-word .ensures)
+returns c b s =
+    let p = c .before .before .before .before .before .before .before .before in
+    let a = p .args in
+    let v = c .before .before .before .before .before .round in
+    let x = c .later-word in
+    advance-law b s (a .v) (v .result) (now (a .w)) (now (a .k)) (a .t) (a .i) (x .result) (p .pre .0) (p .pre .1) (v .ensures) (x .ensures)
 
 pub advance-spec : {M : Type 1} → statement M
 advance-spec =

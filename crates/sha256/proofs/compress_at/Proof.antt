@@ -1,3 +1,4 @@
+-- `sha256::compress_at` meets its contract. The words loaded, 48 rounds, 16 rounds, and the sum. Assumes nothing.
 use borrow.Author.Needs.{needs}
 use mathlib.Core.Path.{_∙_}
 use Prim.Native.Nat.{_+_}

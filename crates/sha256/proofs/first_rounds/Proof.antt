@@ -1,3 +1,4 @@
+-- `sha256::first_rounds` meets its contract. The loop's invariant: 16 rounds are done for each turn. Assumes nothing.
 use native.Mathlib.Omega.{arith}
 use Prim.Native.Nat.{ℕ, _≤_, _+_, _-_, _*_}
 use mathlib.Core.Path.{_≡_}
@@ -29,8 +30,10 @@ loop-less : tie.Need-loop-less Inv-loop μ-loop
 loop-less c = omega arith
 
 loop-again : tie.Need-loop-again Inv-loop μ-loop
-loop-again c = let l = c .before .before .before .loop in
-    (omega arith, λ b d. done-at (16 * (l .i + 1)) (c .advance-sixteen .ensures b (c .before .before .before .before .args .s) (l .inv .1 b d)) (sixteen-more (l .i)))
+loop-again c =
+    let l = c .before .before .before .loop in
+    let s = c .before .before .before .before .args .s in
+    (omega arith, λ b d. done-at (16 * (l .i + 1)) (c .advance-sixteen .ensures b s (l .inv .1 b d)) (sixteen-more (l .i)))
 
 returns : tie.Need-returns Inv-loop μ-loop
 returns c = let e : c .before .loop .i ≡ 3 = omega arith in rw e at (c .before .loop .inv .1)

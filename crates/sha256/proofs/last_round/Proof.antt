@@ -1,3 +1,4 @@
+-- `sha256::last_round` meets its contract. A round that leaves the words as they are. Assumes nothing.
 use borrow.Author.Needs.{needs}
 use denote.Ref.{now}
 use Rattle.sha256.proofs.Schedule.{last-law}
@@ -23,8 +24,10 @@ round-requires : tie.Need-round-requires
 round-requires c κs = search needs
 
 returns : tie.Need-returns
-returns c = λ b s. let a = c .before .before .before .args in
-    last-law b s (a .v) (c .round .result) (now (a .w)) (now (a .k)) (a .i) (c .before .before .before .pre .0) (c .before .before .before .pre .1) (c .round .ensures)
+returns c b s =
+    let p = c .before .before .before in
+    let a = p .args in
+    last-law b s (a .v) (c .round .result) (now (a .w)) (now (a .k)) (a .i) (p .pre .0) (p .pre .1) (c .round .ensures)
 
 pub last-round-spec : {M : Type 1} → statement M
 last-round-spec =
