@@ -166,6 +166,7 @@ fn round(s: State, k: u32, w: u32) -> State
     }
 }
 
+// A byte as a word: a cast in a function of its own, so that its callers need not show that it fits.
 fn wide(x: u8) -> u32
     ensures { λ r. ⌜ r ≡ x ⌝ }
 {
@@ -179,6 +180,7 @@ fn word_of(p: u8, q: u8, r: u8, s: u8) -> u32
     wide(p) * 0x100_0000 + wide(q) * 0x1_0000 + wide(r) * 0x100 + wide(s)
 }
 
+// The word that starts at `at`.
 fn word_at(src: &[u8], at: usize) -> u32
     requires { ⌜ at + 4 ≤ length (now src) ⌝ }
     ensures { λ r. ⌜ r ≡ number (part (now (src .entry)) at (at + 4)) ⌝ }
@@ -208,8 +210,8 @@ fn advance(v: State, k: &[u32; 64], w: &mut [u32; 16], t: usize, i: usize) -> St
     r
 }
 
-// Sixteen rounds in a row. All places are constants here, so the words and the working variables stay in registers, and are
-// renamed in place of being moved.
+// Sixteen rounds in a row. All places in `w` are constants here, so that the words and the working variables can stay in
+// registers, and no round has to move them.
 fn advance_sixteen(v: State, k: &[u32; 64], w: &mut [u32; 16], t: usize) -> State
     requires { ⌜ Sixteen t (now k) ⌝ }
     ensures { λ r. ⌜ ((b : List ℕ) (s : State) → Done b s t (now (w .entry)) v → Done b s (t + 16) (now (w .exit)) r) ⌝ }
@@ -252,6 +254,7 @@ fn last_round(v: State, k: &[u32; 64], w: &[u32; 16], i: usize) -> State
     round(v, k[48 + i], w[i])
 }
 
+// The last sixteen rounds, in a row like the others.
 fn last_rounds(v: State, k: &[u32; 64], w: &[u32; 16]) -> State
     requires { ⌜ now k ≡ roundConstants ⌝ }
     ensures { λ r. ⌜ ((b : List ℕ) (s : State) → Done b s 48 (now (w .entry)) v → Done b s 64 (now (w .entry)) r) ⌝ }
@@ -274,6 +277,7 @@ fn last_rounds(v: State, k: &[u32; 64], w: &[u32; 16]) -> State
     last_round(v, k, w, 15)
 }
 
+// The hash value and the working variables, summed word by word.
 fn add(s: State, v: State) -> State
     ensures { λ r. ⌜ r ≡ plus s v ⌝ }
 {
@@ -393,6 +397,7 @@ fn put_word(out: &mut [u8; 32], at: usize, x: u32)
     out[at + 3] = low(y);
 }
 
+// The eight words of the hash value, as bytes.
 fn digest_of(s: State) -> [u8; 32]
     ensures { λ r. ⌜ r ≡ digest s ⌝ }
 {
@@ -412,6 +417,7 @@ fn digest_of(s: State) -> [u8; 32]
 pub fn hash(src: &[u8]) -> [u8; 32]
     ensures { λ r. ⌜ r ≡ sha256 (now (src .entry)) ⌝ }
 {
+    // The table is laid out here once, and lent to every block.
     let k = K;
     let s = absorb(initial_state(), &k, src, src.len() / 64);
     let t = tail(src);
