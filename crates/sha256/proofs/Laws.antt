@@ -1,9 +1,9 @@
 -- What a caller may use of a hash: it is 32 bytes. Assumes nothing.
 use mathlib.Core.Path.{_≡_, refl}
 use mathlib.Core.List.{List, [], _∷_, _++_}
-use Prim.Native.Nat.{ℕ, zero, suc, _/_, _%_, _^_, _*_, _<_}
+use Prim.Native.Nat.{ℕ, zero, suc, _/_, _^_, _*_}
 use native.Mathlib.Omega.{arith}
-use lib.ListN.{length, getD}
+use lib.ListN.{length}
 use Rattle.octets.specs.Octets.{Bytes, bigEndian}
 use Rattle.sha256.specs.declared.State.{State}
 use Rattle.sha256.specs.Sha256.{absorbed, initial, pad, digest, sha256}

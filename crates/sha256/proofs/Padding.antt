@@ -1,6 +1,6 @@
 -- The last blocks of a message, and the hash as the whole blocks and then the last. Assumes nothing.
 use mathlib.Core.Path.{_≡_, refl, _∙_, ap, sym}
-use mathlib.Core.List.{List, [], _∷_, _++_, append-assoc}
+use mathlib.Core.List.{List, _∷_, _++_, append-assoc}
 use Prim.Native.Nat.{ℕ, zero, suc, _+_, _-_, _*_, _/_, _%_, _<_, _≤_}
 use native.Mathlib.Nat.{add-zero, add-suc}
 use native.Mathlib.Numerals.{add-one}
@@ -30,25 +30,32 @@ copy-more s i x h hb e =
 
 -- ---- the last blocks
 
--- n bytes, the one bit and the length, stored in an array of zeros
+-- the one bit, stored in zeros
+one-bit : (rest : List ℕ) (n z k : ℕ) → length rest ≡ n → 128 - n ≡ suc (z + k)
+    → set (rest ++ replicate (128 - n) 0) n 0x80 ≡ (rest ++ (0x80 ∷ replicate z 0)) ++ replicate k 0
+one-bit rest n z k h e =
+    let r : replicate {A = ℕ} (z + k) 0 ≡ replicate z 0 ++ replicate k 0 = sym (replicate-append-replicate z k 0) in
+    rw (e, r)
+    (set-at rest 0 (replicate z 0 ++ replicate k 0) 0x80 n h ∙ sym (append-assoc rest (0x80 ∷ replicate z 0) (replicate k 0)))
+
+-- the length, stored after the zeros
+put-after : (p z b : List ℕ) (a : ℕ) → length p ≡ a → length b ≤ length z → take (a + length b) (sets (p ++ z) a b) ≡ p ++ b
+put-after p z b a h g =
+    let e : sets (p ++ z) a b ≡ (p ++ b) ++ drop (a + length b) (p ++ z) =
+    sets-eq b (p ++ z) a (simp length-append (omega arith)) ∙ ap (λ (q : List ℕ). (q ++ b) ++ drop (a + length b) (p ++ z)) (take-at p z a h) in
+    rw e (take-at (p ++ b) (drop (a + length b) (p ++ z)) (a + length b) (simp length-append (omega arith)))
+
+-- the last n bytes, the one bit and the length
 fill : (rest b : List ℕ) (n l : ℕ) → length rest ≡ n → n < 64 → l ≡ lastBlocks n → length b ≡ 8
     → take (64 * l) (sets (set (rest ++ replicate (128 - n) 0) n 0x80) (64 * l - 8) b) ≡ rest ++ (0x80 ∷ replicate ((119 - n) % 64) 0) ++ b
 fill rest b n l hn h hl hb =
-    let p : List ℕ = rest ++ (0x80 ∷ replicate ((119 - n) % 64) 0) in
-    let z : List ℕ = replicate (127 - n - (119 - n) % 64) 0 in
-    let a1 : 128 - n ≡ suc (127 - n) = omega arith in
-    let a2 : (119 - n) % 64 + (127 - n - (119 - n) % 64) ≡ 127 - n = omega arith in
-    let lp : length (rest ++ (0x80 ∷ replicate ((119 - n) % 64) 0)) ≡ 64 * l - 8 = simp (length-append, length-replicate) (omega arith) in
-    let x : set (rest ++ replicate (128 - n) 0) n 0x80 ≡ p ++ z =
-    rw a1 (set-at rest 0 (replicate (127 - n) 0) 0x80 n hn
-    ∙ ap (λ (y : List ℕ). rest ++ 0x80 ∷ y) (ap (λ (j : ℕ). replicate j 0) (sym a2) ∙ sym (replicate-append-replicate ((119 - n) % 64) (127 - n - (119 - n) % 64) 0))
-    ∙ sym (append-assoc rest (0x80 ∷ replicate ((119 - n) % 64) 0) z)) in
-    let y : sets (p ++ z) (64 * l - 8) b ≡ p ++ b ++ drop (64 * l - 8 + length b) (p ++ z) =
-    sets-eq b (p ++ z) (64 * l - 8) (simp (length-append, length-replicate) (omega (arith, hb)))
-    ∙ ap (λ (q : List ℕ). q ++ b ++ drop (64 * l - 8 + length b) (p ++ z)) (take-at p z (64 * l - 8) lp) in
-    ap (λ (q : List ℕ). take (64 * l) (sets q (64 * l - 8) b)) x
-    ∙ ap (take (64 * l)) y
-    ∙ take-at (p ++ b) (drop (64 * l - 8 + length b) (p ++ z)) (64 * l) (simp (length-append, length-replicate) (omega (arith, hb)))
+    let e : 64 * l ≡ 64 * l - 8 + length b = omega arith in
+    let k : 128 - n ≡ suc ((119 - n) % 64 + (127 - n - (119 - n) % 64)) = omega arith in
+    ap (λ (q : List ℕ). take (64 * l) (sets q (64 * l - 8) b)) (one-bit rest n ((119 - n) % 64) (127 - n - (119 - n) % 64) hn k)
+    ∙ ap (λ (j : ℕ). take j (sets ((rest ++ (0x80 ∷ replicate ((119 - n) % 64) 0)) ++ replicate (127 - n - (119 - n) % 64) 0) (64 * l - 8) b)) e
+    ∙ put-after (rest ++ (0x80 ∷ replicate ((119 - n) % 64) 0)) (replicate (127 - n - (119 - n) % 64) 0) b (64 * l - 8)
+    (simp (length-append, length-replicate) (omega arith))
+    (simp length-replicate (omega arith))
 
 length-field : (x : ℕ) → length (bigEndian 8 x) ≡ 8
 unfolding bigEndian
@@ -101,7 +108,7 @@ absorbed-add p zero m s = rw add-zero
 absorbed-add p (suc q) m s =
     let e : 64 * p + 64 * q ≡ 64 * (p + q) = omega arith in
     let ih : absorbed (p + q) m s ≡ absorbed q (drop (64 * p) m) (absorbed p m s) = absorbed-add p q m s in
-    rw (add-suc, ih, drop-drop, e, block-size (64 * q), block-size (64 * (p + q)))
+    rw (add-suc p q, ih, drop-drop, e, block-size (64 * q), block-size (64 * (p + q)))
 
 -- an array that starts with the blocks
 absorbed-take : (l : ℕ) (t p : List ℕ) (s : State) → take (64 * l) t ≡ p → 64 * l ≤ length p → absorbed l t s ≡ absorbed l p s

@@ -2,11 +2,11 @@
 ghost use mathlib.Core.Path.{_≡_};
 ghost use mathlib.Core.List.{List, _++_};
 ghost use Prim.Native.Nat.{ℕ, _+_, _*_, _/_, _%_, _<_, _≤_, _-_};
-ghost use lib.ListN.{length, getD, take, drop, replicate};
+ghost use lib.ListN.{length, take, drop, replicate};
 ghost use lib.Seq.{sets};
 ghost use Rattle.octets.specs.Octets.{part, number, bigEndian};
-ghost use Rattle.sha256.specs.Inner.{Done, lastBlocks};
-ghost use Rattle.sha256.specs.Sha256.{_⊞_, rotr, bigSigma0, bigSigma1, smallSigma0, smallSigma1, ch, maj, roundConstants, turn, turns, schedule, plus, compress, absorbed, initial, pad, digest, sha256};
+ghost use Rattle.sha256.specs.Inner.{Done, Sixteen, lastBlocks};
+ghost use Rattle.sha256.specs.Sha256.{_⊞_, rotr, bigSigma0, bigSigma1, smallSigma0, smallSigma1, ch, maj, roundConstants, turn, schedule, plus, compress, absorbed, initial, pad, digest, sha256};
 
 // The constants of the rounds, 4.2.2.
 const K: [u32; 64] = [
@@ -166,6 +166,7 @@ fn round(s: State, k: u32, w: u32) -> State
     }
 }
 
+// A byte as a word: a cast in a function of its own, so that its callers need not show that it fits.
 fn wide(x: u8) -> u32
     ensures { λ r. ⌜ r ≡ x ⌝ }
 {
@@ -179,6 +180,7 @@ fn word_of(p: u8, q: u8, r: u8, s: u8) -> u32
     wide(p) * 0x100_0000 + wide(q) * 0x1_0000 + wide(r) * 0x100 + wide(s)
 }
 
+// The word that starts at `at`.
 fn word_at(src: &[u8], at: usize) -> u32
     requires { ⌜ at + 4 ≤ length (now src) ⌝ }
     ensures { λ r. ⌜ r ≡ number (part (now (src .entry)) at (at + 4)) ⌝ }
@@ -186,66 +188,96 @@ fn word_at(src: &[u8], at: usize) -> u32
     word_of(src[at], src[at + 1], src[at + 2], src[at + 3])
 }
 
-// The sixteen words of the block at `at`, with room for the rest of the schedule.
-fn load(src: &[u8], at: usize) -> [u32; 64]
+// The sixteen words of the block at `at`.
+fn load(src: &[u8], at: usize) -> [u32; 16]
     requires { ⌜ at + 64 ≤ length (now src) ⌝ }
-    ensures { λ r. ⌜ (length r ≡ 64) × (take 16 r ≡ schedule 16 (part (now (src .entry)) at (at + 64))) ⌝ }
+    ensures { λ r. ⌜ r ≡ schedule 16 (part (now (src .entry)) at (at + 64)) ⌝ }
 {
-    let mut w = [0u32; 64];
+    let mut w = [0u32; 16];
     for i in 0..16 {
         w[i] = word_at(src, at + 4 * i);
     }
     w
 }
 
-// Round t.
-fn round_at(v: State, k: &[u32; 64], w: &[u32; 64], t: usize) -> State
-    requires { ⌜ (t < 64) × (now k ≡ roundConstants) ⌝ }
-    ensures { λ r. ⌜ r ≡ turn (getD roundConstants t 0) (getD (now (w .entry)) t 0) v ⌝ }
+// Round t + i, and in the place of its word the word sixteen places on in the schedule.
+fn advance(v: State, k: &[u32; 64], w: &mut [u32; 16], t: usize, i: usize) -> State
+    requires { ⌜ (i < 16) × Sixteen t (now k) ⌝ }
+    ensures { λ r. ⌜ ((b : List ℕ) (s : State) → Done b s (t + i) (now (w .entry)) v → Done b s (t + (i + 1)) (now (w .exit)) r) ⌝ }
 {
-    round(v, k[t], w[t])
-}
-
-// Round t, and the word of the schedule sixteen places on, while its sources are at hand.
-fn advance(v: State, k: &[u32; 64], w: &mut [u32; 64], t: usize) -> State
-    requires { ⌜ (t < 48) × (now k ≡ roundConstants) ⌝ }
-    ensures { λ r. ⌜ ((b : List ℕ) (s : State) → Done b s t (now (w .entry)) v → Done b s (t + 1) (now (w .exit)) r) ⌝ }
-{
-    let r = round_at(v, k, w, t);
-    w[t + 16] = later_word(w[t + 14], w[t + 9], w[t + 1], w[t]);
+    let r = round(v, k[t + i], w[i]);
+    w[i] = later_word(w[(i + 14) % 16], w[(i + 9) % 16], w[(i + 1) % 16], w[i]);
     r
 }
 
-// Eight rounds in a row: their results are renamed in place of being moved from one variable to the next.
-fn advance_eight(v: State, k: &[u32; 64], w: &mut [u32; 64], t: usize) -> State
-    requires { ⌜ (t + 8 ≤ 48) × (now k ≡ roundConstants) ⌝ }
-    ensures { λ r. ⌜ ((b : List ℕ) (s : State) → Done b s t (now (w .entry)) v → Done b s (t + 8) (now (w .exit)) r) ⌝ }
+// Sixteen rounds in a row. All places in `w` are constants here, so that the words and the working variables can stay in
+// registers, and no round has to move them.
+fn advance_sixteen(v: State, k: &[u32; 64], w: &mut [u32; 16], t: usize) -> State
+    requires { ⌜ Sixteen t (now k) ⌝ }
+    ensures { λ r. ⌜ ((b : List ℕ) (s : State) → Done b s t (now (w .entry)) v → Done b s (t + 16) (now (w .exit)) r) ⌝ }
 {
-    let v1 = advance(v, k, w, t);
-    let v2 = advance(v1, k, w, t + 1);
-    let v3 = advance(v2, k, w, t + 2);
-    let v4 = advance(v3, k, w, t + 3);
-    let v5 = advance(v4, k, w, t + 4);
-    let v6 = advance(v5, k, w, t + 5);
-    let v7 = advance(v6, k, w, t + 6);
-    advance(v7, k, w, t + 7)
+    let v = advance(v, k, w, t, 0);
+    let v = advance(v, k, w, t, 1);
+    let v = advance(v, k, w, t, 2);
+    let v = advance(v, k, w, t, 3);
+    let v = advance(v, k, w, t, 4);
+    let v = advance(v, k, w, t, 5);
+    let v = advance(v, k, w, t, 6);
+    let v = advance(v, k, w, t, 7);
+    let v = advance(v, k, w, t, 8);
+    let v = advance(v, k, w, t, 9);
+    let v = advance(v, k, w, t, 10);
+    let v = advance(v, k, w, t, 11);
+    let v = advance(v, k, w, t, 12);
+    let v = advance(v, k, w, t, 13);
+    let v = advance(v, k, w, t, 14);
+    advance(v, k, w, t, 15)
 }
 
-// Eight of the last sixteen rounds, which need no more words.
-fn round_eight(v: State, k: &[u32; 64], w: &[u32; 64], t: usize) -> State
-    requires { ⌜ (t + 8 ≤ 64) × (now k ≡ roundConstants) ⌝ }
-    ensures { λ r. ⌜ ((s : State) → v ≡ turns t (now (w .entry)) s → r ≡ turns (t + 8) (now (w .entry)) s) ⌝ }
+// The first 48 rounds, each of which makes a word for a later round.
+fn first_rounds(s: State, k: &[u32; 64], w: &mut [u32; 16]) -> State
+    requires { ⌜ now k ≡ roundConstants ⌝ }
+    ensures { λ r. ⌜ ((b : List ℕ) → Done b s 0 (now (w .entry)) s → Done b s 48 (now (w .exit)) r) ⌝ }
 {
-    let v1 = round_at(v, k, w, t);
-    let v2 = round_at(v1, k, w, t + 1);
-    let v3 = round_at(v2, k, w, t + 2);
-    let v4 = round_at(v3, k, w, t + 3);
-    let v5 = round_at(v4, k, w, t + 4);
-    let v6 = round_at(v5, k, w, t + 5);
-    let v7 = round_at(v6, k, w, t + 6);
-    round_at(v7, k, w, t + 7)
+    let mut v = s;
+    for i in 0..3 {
+        v = advance_sixteen(v, k, w, 16 * i);
+    }
+    v
 }
 
+// Round 48 + i, one of the last sixteen, after which no more words are needed.
+fn last_round(v: State, k: &[u32; 64], w: &[u32; 16], i: usize) -> State
+    requires { ⌜ (i < 16) × (now k ≡ roundConstants) ⌝ }
+    ensures { λ r. ⌜ ((b : List ℕ) (s : State) → Done b s (48 + i) (now (w .entry)) v → Done b s (48 + (i + 1)) (now (w .entry)) r) ⌝ }
+{
+    round(v, k[48 + i], w[i])
+}
+
+// The last sixteen rounds, in a row like the others.
+fn last_rounds(v: State, k: &[u32; 64], w: &[u32; 16]) -> State
+    requires { ⌜ now k ≡ roundConstants ⌝ }
+    ensures { λ r. ⌜ ((b : List ℕ) (s : State) → Done b s 48 (now (w .entry)) v → Done b s 64 (now (w .entry)) r) ⌝ }
+{
+    let v = last_round(v, k, w, 0);
+    let v = last_round(v, k, w, 1);
+    let v = last_round(v, k, w, 2);
+    let v = last_round(v, k, w, 3);
+    let v = last_round(v, k, w, 4);
+    let v = last_round(v, k, w, 5);
+    let v = last_round(v, k, w, 6);
+    let v = last_round(v, k, w, 7);
+    let v = last_round(v, k, w, 8);
+    let v = last_round(v, k, w, 9);
+    let v = last_round(v, k, w, 10);
+    let v = last_round(v, k, w, 11);
+    let v = last_round(v, k, w, 12);
+    let v = last_round(v, k, w, 13);
+    let v = last_round(v, k, w, 14);
+    last_round(v, k, w, 15)
+}
+
+// The hash value and the working variables, summed word by word.
 fn add(s: State, v: State) -> State
     ensures { λ r. ⌜ r ≡ plus s v ⌝ }
 {
@@ -259,29 +291,6 @@ fn add(s: State, v: State) -> State
         g: sum(s.g, v.g),
         h: sum(s.h, v.h),
     }
-}
-
-// The first 48 rounds on the block whose sixteen words `w` starts with. They fill the rest of `w`.
-fn first_rounds(s: State, k: &[u32; 64], w: &mut [u32; 64]) -> State
-    requires { ⌜ now k ≡ roundConstants ⌝ }
-    ensures { λ r. ⌜ ((b : List ℕ) → Done b s 0 (now (w .entry)) s → Done b s 48 (now (w .exit)) r) ⌝ }
-{
-    let mut v = s;
-    for i in 0..6 {
-        v = advance_eight(v, k, w, 8 * i);
-    }
-    v
-}
-
-fn last_rounds(s: State, k: &[u32; 64], w: &[u32; 64]) -> State
-    requires { ⌜ now k ≡ roundConstants ⌝ }
-    ensures { λ r. ⌜ ((s₀ : State) → s ≡ turns 48 (now (w .entry)) s₀ → r ≡ turns 64 (now (w .entry)) s₀) ⌝ }
-{
-    let mut v = s;
-    for i in 6..8 {
-        v = round_eight(v, k, w, 8 * i);
-    }
-    v
 }
 
 // The block of `src` that starts at `at`, taken into the hash value.
@@ -361,7 +370,7 @@ fn last_blocks(rest: usize) -> usize
     requires { ⌜ rest < 64 ⌝ }
     ensures { λ r. ⌜ r ≡ lastBlocks rest ⌝ }
 {
-    if rest < 56 { 1 } else { 2 }
+    (rest + 72) / 64
 }
 
 // What follows the whole blocks of a message: its last bytes and the padding, one block or two.
@@ -388,6 +397,7 @@ fn put_word(out: &mut [u8; 32], at: usize, x: u32)
     out[at + 3] = low(y);
 }
 
+// The eight words of the hash value, as bytes.
 fn digest_of(s: State) -> [u8; 32]
     ensures { λ r. ⌜ r ≡ digest s ⌝ }
 {
@@ -407,6 +417,7 @@ fn digest_of(s: State) -> [u8; 32]
 pub fn hash(src: &[u8]) -> [u8; 32]
     ensures { λ r. ⌜ r ≡ sha256 (now (src .entry)) ⌝ }
 {
+    // The table is laid out here once, and lent to every block.
     let k = K;
     let s = absorb(initial_state(), &k, src, src.len() / 64);
     let t = tail(src);

@@ -1,5 +1,6 @@
+-- `sha256::absorb` meets its contract. The loop's invariant: the hash value is that after the blocks passed. Assumes nothing.
 use native.Mathlib.Omega.{arith}
-use Prim.Native.Nat.{_≤_, _<_, _+_, _-_, _*_}
+use Prim.Native.Nat.{_≤_, _-_}
 use mathlib.Core.Path.{_≡_, refl}
 use native.Mathlib.Numerals.{add-one}
 use Rattle.sha256.specs.Sha256.{absorbed}

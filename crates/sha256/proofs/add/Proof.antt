@@ -1,3 +1,4 @@
+-- `sha256::add` meets its contract. Each word is the sum of two. Assumes nothing.
 use borrow.Author.Needs.{needs}
 use Rattle.sha256.specs.Sha256.{plus}
 use Rattle.sha256.proofs.add.Statement.{statement}

@@ -1,3 +1,4 @@
+-- `sha256::digest_of` meets its contract. Eight words stored one after the other. Assumes nothing.
 use borrow.Author.Needs.{needs}
 use Rattle.octets.specs.Octets.{bigEndian}
 use Rattle.sha256.specs.Sha256.{digest}
@@ -30,7 +31,15 @@ put-word-requires-8 c κs = search needs
 
 returns : tie.Need-returns
 unfolding digest bigEndian
-returns c = rw (c .put-word8 .ensures, c .before .before .put-word7 .ensures, c .before .before .before .before .put-word6 .ensures, c .before .before .before .before .before .before .put-word5 .ensures, c .before .before .before .before .before .before .before .before .put-word4 .ensures, c .before .before .before .before .before .before .before .before .before .before .put-word3 .ensures, c .before .before .before .before .before .before .before .before .before .before .before .before .put-word2 .ensures, c .before .before .before .before .before .before .before .before .before .before .before .before .before .before .put-word .ensures)
+returns c =
+    let c7 = c .before .before in
+    let c6 = c7 .before .before in
+    let c5 = c6 .before .before in
+    let c4 = c5 .before .before in
+    let c3 = c4 .before .before in
+    let c2 = c3 .before .before in
+    let c1 = c2 .before .before in
+    rw (c .put-word8 .ensures, c7 .put-word7 .ensures, c6 .put-word6 .ensures, c5 .put-word5 .ensures, c4 .put-word4 .ensures, c3 .put-word3 .ensures, c2 .put-word2 .ensures, c1 .put-word .ensures)
 
 pub digest-of-spec : {M : Type 1} → statement M
 digest-of-spec =

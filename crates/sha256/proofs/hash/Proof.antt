@@ -1,3 +1,4 @@
+-- `sha256::hash` meets its contract. The whole blocks, and then the last one or two; here the code's table of constants is compared with the definition's. Assumes nothing.
 use borrow.Author.Needs.{needs}
 use mathlib.Core.Path.{refl}
 use Prim.Native.Nat.{_/_, _%_}
@@ -33,7 +34,10 @@ digest-of-requires : tie.Need-digest-of-requires
 digest-of-requires c κs = search needs
 
 returns : tie.Need-returns
-returns c = let m = now (c .before .before .before .before .before .before .before .before .before .before .args .src) in cc (hash-law m (c .before .before .before .before .before .tail .result) (length m / 64) (lastBlocks (length m % 64)) refl refl (c .before .before .before .before .before .tail .ensures))
+returns c =
+    let t = c .before .before .before .before .before .tail in
+    let m = now (c .before .before .before .before .before .before .before .before .before .before .args .src) in
+    cc (hash-law m (t .result) (length m / 64) (lastBlocks (length m % 64)) refl refl (t .ensures))
 
 pub hash-spec : {M : Type 1} → statement M
 hash-spec =

@@ -1,3 +1,4 @@
+-- `sha256::later_word` meets its contract. The four terms of the sum. Assumes nothing.
 use borrow.Author.Needs.{needs}
 use Rattle.sha256.proofs.later_word.Statement.{statement}
 use Rattle.sha256.proofs.later_word.Tie as tie

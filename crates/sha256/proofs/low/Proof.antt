@@ -1,3 +1,4 @@
+-- `sha256::low` meets its contract. A mask of eight bits is the remainder modulo 256. Assumes nothing.
 use lib.Bits.{mask-lt, and-mask}
 use Rattle.sha256.proofs.low.Statement.{statement}
 use Rattle.sha256.proofs.low.Tie as tie

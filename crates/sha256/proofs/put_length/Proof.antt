@@ -1,3 +1,4 @@
+-- `sha256::put_length` meets its contract. Eight stores of the length in bits. Assumes nothing.
 use borrow.Author.Needs.{needs}
 use Prim.Native.Nat.{_*_}
 use denote.Ref.{now}
@@ -75,7 +76,9 @@ element-write-out-8 : tie.Need-element-write-out-8
 element-write-out-8 c = search needs
 
 returns : tie.Need-returns
-returns c = cc (store-eight (now (c .before .before .before .before .before .before .before .before .args .out)) (c .before .before .before .before .before .before .before .before .args .at) (c .before .before .before .before .before .before .before .before .args .len * 8))
+returns c =
+    let a = c .before .before .before .before .before .before .before .before .args in
+    cc (store-eight (now (a .out)) (a .at) (a .len * 8))
 
 pub put-length-spec : {M : Type 1} → statement M
 put-length-spec =

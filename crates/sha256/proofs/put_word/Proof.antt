@@ -1,3 +1,4 @@
+-- `sha256::put_word` meets its contract. Four stores of a word. Assumes nothing.
 use borrow.Author.Needs.{needs}
 use denote.Ref.{now}
 use Rattle.sha256.proofs.Words.{store-four}
@@ -38,7 +39,9 @@ element-write-out-4 : tie.Need-element-write-out-4
 element-write-out-4 c = search needs
 
 returns : tie.Need-returns
-returns c = cc (store-four (now (c .before .before .before .before .args .out)) (c .before .before .before .before .args .at) (c .before .before .before .before .args .x))
+returns c =
+    let a = c .before .before .before .before .args in
+    cc (store-four (now (a .out)) (a .at) (a .x))
 
 pub put-word-spec : {M : Type 1} → statement M
 put-word-spec =

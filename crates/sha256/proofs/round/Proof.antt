@@ -1,3 +1,4 @@
+-- `sha256::round` meets its contract. T1, T2 and the eight new variables. Assumes nothing.
 use borrow.Author.Needs.{needs}
 use Rattle.sha256.specs.Sha256.{turn, t1, t2}
 use Rattle.sha256.proofs.round.Statement.{statement}

@@ -1,3 +1,4 @@
+-- `sha256::tail` meets its contract. The last bytes, the one bit and the length, stored in an array of zeros. Assumes nothing.
 use borrow.Author.Needs.{needs}
 use mathlib.Core.Path.{refl}
 use Prim.Native.Nat.{_%_}
@@ -30,8 +31,10 @@ put-length-requires : tie.Need-put-length-requires
 put-length-requires c κs = search needs
 
 returns : tie.Need-returns
-returns c = let m = now (c .before .before .before .before .before .args .src) in
-    rw (c .put-length .ensures, c .before .before .last-blocks .ensures, c .before .before .before .rest-of .ensures) (tail-law m (length m % 64) (lastBlocks (length m % 64)) refl refl)
+returns c =
+    let m = now (c .before .before .before .before .before .args .src) in
+    rw (c .put-length .ensures, c .before .before .last-blocks .ensures, c .before .before .before .rest-of .ensures)
+    (tail-law m (length m % 64) (lastBlocks (length m % 64)) refl refl)
 
 pub tail-spec : {M : Type 1} → statement M
 tail-spec =

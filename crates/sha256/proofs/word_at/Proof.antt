@@ -1,3 +1,4 @@
+-- `sha256::word_at` meets its contract. The number of four bytes. Assumes nothing.
 use borrow.Author.Needs.{needs}
 use mathlib.Core.Path.{_∙_}
 use denote.Ref.{now}
@@ -30,7 +31,9 @@ word-of-requires : tie.Need-word-of-requires
 word-of-requires c κs = search needs
 
 returns : tie.Need-returns
-returns c = c .word-of .ensures ∙ number-four (now (c .before .before .before .before .before .before .args .src)) (c .before .before .before .before .before .before .args .at) (c .before .before .before .before .before .before .pre)
+returns c =
+    let p = c .before .before .before .before .before .before in
+    c .word-of .ensures ∙ number-four (now (p .args .src)) (p .args .at) (p .pre)
 
 pub word-at-spec : {M : Type 1} → statement M
 word-at-spec =
