@@ -1,2 +1,5 @@
 pub mod Runs
 pub mod Steps
+pub mod Order
+pub mod Kept
+pub mod World

@@ -1,2 +1,5 @@
 pub mod Stream
 pub mod Inner
+pub mod Frames
+pub mod Order
+pub mod World
