@@ -27,7 +27,7 @@ shut-only (Prefix k) h = absurd (false≢true h)
 shut-only (Body want have) h = absurd (false≢true h)
 
 -- ---- form
-abbrev LeadForm : Lead → Type 0
+abbrev pub LeadForm : Lead → Type 0
 LeadForm (On h) = heldForm h ≡ true
 LeadForm (Length n) = n ≤ bodyLimit
 LeadForm (Bad r) = Unit {0}

@@ -3,3 +3,4 @@ pub mod Steps
 pub mod Order
 pub mod Kept
 pub mod World
+pub mod Heads

@@ -195,8 +195,11 @@ gives-empty n k m bs f e g =
     rw (cond-yes (eqb n 0) (out fresh k (Message 0) m) (shift k (runOf (Body n 0) m (drop k bs))) (eq-eqb n 0 e))
     (record { got = λ i. record { framing = g i; taken = k; answer = Message 0 }; buffer = refl })
 
+pub begun-some : (n k : ℕ) (m bs : List ℕ) → (n ≡ 0 → ⊥) → begunOf n k m bs ≡ shift k (runOf (Body n 0) m (drop k bs))
+begun-some n k m bs e = cond-no (eqb n 0) (out fresh k (Message 0) m) (shift k (runOf (Body n 0) m (drop k bs))) (ne-eqb n 0 e)
+
 pub gives-begun : (n k : ℕ) (m bs : List ℕ) (r : Received) (m′ : List ℕ) → (n ≡ 0 → ⊥) → Gives (shift k (runOf (Body n 0) m (drop k bs))) r m′ → Gives (begunOf n k m bs) r m′
-gives-begun n k m bs r m′ e g = rw (cond-no (eqb n 0) (out fresh k (Message 0) m) (shift k (runOf (Body n 0) m (drop k bs))) (ne-eqb n 0 e)) g
+gives-begun n k m bs r m′ e g = rw (begun-some n k m bs e) g
 
 pub gives-lead : (h : Held) (m bs : List ℕ) (p : Prefixed) (l : Lead) (r : Received) (m′ : List ℕ) → p ≡ prefixOf h bs → p .lead ≡ l
     → Gives (leads l (p .taken) m bs) r m′ → Gives (runOf (Prefix h) m bs) r m′

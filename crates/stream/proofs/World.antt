@@ -72,8 +72,8 @@ module _ {P A B O : Type 0} (L : Layer P A B O) where
   abbrev pub landed : ℕ → P → Shared A O → ℕ → Out → Here
   landed i p h n o =
       record {
-        line = record { who = p; framing = halted L i p (h .state) (o .got .answer) n (o .buffer) (o .got .framing); buffer = o .buffer; taken = n };
-        shared = noteIf L (isMore (o .got .answer)) i h (noted L i p (h .state) (o .got .answer) n (o .buffer));
+        line = record { who = p; framing = halted (L .stops) i p (h .state) (o .got .answer) n (o .buffer) (o .got .framing); buffer = o .buffer; taken = n };
+        shared = noteIf L (isMore (o .got .answer)) i h (noted (L .put) i p (h .state) (o .got .answer) n (o .buffer));
       }
 
   abbrev pub lands : ℕ → Here → Out → Here
@@ -173,12 +173,12 @@ module _ {P A B O : Type 0} (L : Layer P A B O) where
       pub line : Fine Peer (d .line)
       pub good : Good (d .shared .state)
 
-    noted-good : (i : ℕ) (p : P) (a : A) (w : Answer) (n : ℕ) (m : List ℕ) → Peer p → Good a → Good (noted L i p a w n m)
+    noted-good : (i : ℕ) (p : P) (a : A) (w : Answer) (n : ℕ) (m : List ℕ) → Peer p → Good a → Good (noted (L .put) i p a w n m)
     noted-good i p a (Message k) n m h g = S .puts i p a (message n (take k m)) h g
     noted-good i p a (Refused r) n m h g = S .puts i p a (refused n r) h g
     noted-good i p a More n m h g = g
 
-    halted-form : (i : ℕ) (p : P) (a : A) (w : Answer) (n : ℕ) (m : List ℕ) (f : Framing) → inForm f ≡ true → inForm (halted L i p a w n m f) ≡ true
+    halted-form : (i : ℕ) (p : P) (a : A) (w : Answer) (n : ℕ) (m : List ℕ) (f : Framing) → inForm f ≡ true → inForm (halted (L .stops) i p a w n m f) ≡ true
     halted-form i p a (Message k) n m f h = cond-ind (λ (x : Framing). inForm x ≡ true) (L .stops i p a (message n (take k m))) Shut f (λ e. refl) (λ e. h)
     halted-form i p a (Refused r) n m f h = h
     halted-form i p a More n m f h = h
@@ -240,7 +240,7 @@ module _ {P A B O : Type 0} (L : Layer P A B O) where
         go : (t : Bool) → isShut (d .line .framing) ≡ t → ((y : Here) (cs : List ℕ) → Well y → length cs < f → feed L i f y cs ≡ play i y cs) → feed L i (suc f) d bs ≡ play i d bs
         go true h ih = feed-shut i f d bs h ∙ sym (play-shut i d bs h)
         go false h ih =
-            feed-open i f d bs (called L i (d .line) (d .shared .state) o) h (S .receives i (d .line) (d .shared .state) bs (w .line) h (w .good))
+            feed-open i f d bs (called (L .put) (L .stops) i (d .line) (d .shared .state) o) h (S .receives i (d .line) (d .shared .state) bs (w .line) h (w .good))
             ∙ cond-ind (λ (y : Here). y ≡ play i d bs) (isMore (o .got .answer)) (lands i d o) (feed L i f (lands i d o) (drop (o .got .taken) bs)) (on-more h) (on-event ih h)
 
     pub handed-play : (i : ℕ) (d : Here) (p : List ℕ) → Well d → handed L i d p ≡ play i d p

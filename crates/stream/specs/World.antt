@@ -78,8 +78,34 @@ isMore (Message n) = false
 isMore (Refused r) = false
 isMore More = true
 
+-- ---- what the framing's answer comes to, after so many bytes of the connection
+
+abbrev pub noted : {P A : Type 0} → (ℕ → P → A → Event → A) → ℕ → P → A → Answer → ℕ → List ℕ → A
+noted put i p a (Message n) at m = put i p a (message at (take n m))
+noted put i p a (Refused r) at m = put i p a (refused at r)
+noted put i p a More at m = a
+
+abbrev pub halted : {P A : Type 0} → (ℕ → P → A → Event → Bool) → ℕ → P → A → Answer → ℕ → List ℕ → Framing → Framing
+halted stops i p a (Message n) at m f = cond (stops i p a (message at (take n m))) Shut f
+halted stops i p a (Refused r) at m f = f
+halted stops i p a More at m f = f
+
+abbrev pub called : {P A : Type 0} → (ℕ → P → A → Event → A) → (ℕ → P → A → Event → Bool) → ℕ → Line P → A → Out → Called P A
+called put stops i l a o =
+    let at = l .taken + o .got .taken in
+    record {
+      line = record { who = l .who; framing = halted stops i (l .who) a (o .got .answer) at (o .buffer) (o .got .framing); buffer = o .buffer; taken = at };
+      state = noted put i (l .who) a (o .got .answer) at (o .buffer);
+      count = o .got .taken;
+      more = isMore (o .got .answer);
+    }
+
+-- the layer whose `receive` is this crate's, with what events and other calls do
+abbrev pub bare : {P A B O : Type 0} → (ℕ → P → A → Event → A) → (ℕ → P → A → Event → Bool) → (ℕ → B → Line P → A → Did (Line P) A) → (A → O → A) → Layer P A B O
+bare put stops act host = record { receive = λ i l a bs. called put stops i l a (receiveOf (l .framing) (l .buffer) bs); put = put; stops = stops; act = act; host = host }
+
+-- ---- the host
 module _ {P A B O : Type 0} (L : Layer P A B O) where
-  -- ---- the host
   abbrev pub noteIf : Bool → ℕ → Shared A O → A → Shared A O
   noteIf more i h a = record { state = a; order = cond more (h .order) (h .order ++ (happened i ∷ [])) }
 
@@ -119,28 +145,7 @@ module _ {P A B O : Type 0} (L : Layer P A B O) where
   calls s [] = s
   calls s (c ∷ cs) = calls (call s c) cs
 
-  -- ---- what the framing's answer comes to
-  abbrev pub noted : ℕ → P → A → Answer → ℕ → List ℕ → A
-  noted i p a (Message n) at m = L .put i p a (message at (take n m))
-  noted i p a (Refused r) at m = L .put i p a (refused at r)
-  noted i p a More at m = a
-
-  abbrev pub halted : ℕ → P → A → Answer → ℕ → List ℕ → Framing → Framing
-  halted i p a (Message n) at m f = cond (L .stops i p a (message at (take n m))) Shut f
-  halted i p a (Refused r) at m f = f
-  halted i p a More at m f = f
-
-  abbrev pub called : ℕ → Line P → A → Out → Called P A
-  called i l a o =
-      let at = l .taken + o .got .taken in
-      record {
-        line = record { who = l .who; framing = halted i (l .who) a (o .got .answer) at (o .buffer) (o .got .framing); buffer = o .buffer; taken = at };
-        state = noted i (l .who) a (o .got .answer) at (o .buffer);
-        count = o .got .taken;
-        more = isMore (o .got .answer);
-      }
-
-  -- ---- the plain reading: the next message or stream refusal of a connection's string
+-- ---- the plain reading
 
 -- a connection's bytes as a string: the unread ones, the place of their first, and whether the connection is shut
 pub record Wire (P : Type 0) : Type 0 where
@@ -181,7 +186,7 @@ pub record Fine {P : Type 0} (Peer : P → Type 0) (l : Line P) : Type 0 where
 -- peers, states and lines stay so. `Fits b` says which acts may be done: those that open a connection with a buffer too short may not
 pub record Sound {P A B O : Type 0} (L : Layer P A B O) (Peer : P → Type 0) (Good : A → Type 0) (Fits : B → Type 0) : Type 0 where
   pub receives : (i : ℕ) (l : Line P) (a : A) (bs : List ℕ) → Fine Peer l → isShut (l .framing) ≡ false → Good a
-      → L .receive i l a bs ≡ called L i l a (runOf (l .framing) (l .buffer) bs)
+      → L .receive i l a bs ≡ called (L .put) (L .stops) i l a (runOf (l .framing) (l .buffer) bs)
   pub puts : (i : ℕ) (p : P) (a : A) (e : Event) → Peer p → Good a → Good (L .put i p a e)
   pub act-line : (i : ℕ) (b : B) (l : Line P) (a : A) → Fits b → Fine Peer l → Good a → Fine Peer (L .act i b l a .line)
   pub act-good : (i : ℕ) (b : B) (l : Line P) (a : A) → Fits b → Fine Peer l → Good a → Good (L .act i b l a .shared)
