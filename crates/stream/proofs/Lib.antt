@@ -4,3 +4,5 @@ pub mod Order
 pub mod Kept
 pub mod World
 pub mod Heads
+pub mod Frames
+pub mod Plain

@@ -110,7 +110,7 @@ module _ {P A B O : Type 0} (L : Layer P A B O) where
   unfolding byte
   byte-shut i d b h = let e : d .line .framing ≡ Shut = shut-only (d .line .framing) h in (λ k. act rules i (withFraming d (e k)) (takes b)) ∙ (λ k. withFraming d (sym e k))
 
-  byte-by : (i : ℕ) (d : Here) (b : ℕ) (a : Answer) → stepOf (d .line .framing) b .answer ≡ a → isShut (d .line .framing) ≡ false
+  pub byte-by : (i : ℕ) (d : Here) (b : ℕ) (a : Answer) → stepOf (d .line .framing) b .answer ≡ a → isShut (d .line .framing) ≡ false
       → byte i d b ≡ lands i d (out (stepOf (d .line .framing) b .framing) 1 a (storeOf (d .line .framing) (d .line .buffer) b))
   unfolding byte
   byte-by i d b a e h = ap picked e ∙ go a

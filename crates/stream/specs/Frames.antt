@@ -75,3 +75,8 @@ framingOf bs = partFraming (prefixAt bs .lead) (prefixAt bs .taken) bs
 
 abbrev pub halfOf : List ℕ → List ℕ
 halfOf bs = partBody (prefixAt bs .lead) (prefixAt bs .taken) bs
+
+-- ---- events one after the other, where `put` is what an event does to what is kept
+unfoldable pub puts : {A : Type 0} → (A → Event → A) → A → List Event → A
+puts put a [] = a
+puts put a (e ∷ es) = puts put (put a e) es

@@ -3,3 +3,4 @@ pub mod Inner
 pub mod Frames
 pub mod Order
 pub mod World
+pub mod Claims

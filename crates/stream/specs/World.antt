@@ -174,6 +174,24 @@ module _ {P A B O : Type 0} (L : Layer P A B O) where
   plainly w (happened i ∷ ms) = plainly (putBack w i (next i (here w i))) ms
   plainly w (asked o ∷ ms) = plainly (record { lines = w .lines; shared = L .host (w .shared) o }) ms
 
+-- the bytes of connection i as one string
+unfoldable pub stringOf : {B O : Type 0} → ℕ → List (Call B O) → List ℕ
+stringOf i [] = []
+stringOf i (hand j p ∷ cs) = cond (eqb i j) (p ++ stringOf i cs) (stringOf i cs)
+stringOf i (does j b ∷ cs) = stringOf i cs
+stringOf i (asks o ∷ cs) = stringOf i cs
+
+-- the connections of a world before the calls, nothing read yet
+abbrev pub unread : {P A B O : Type 0} → World P A O → List (Call B O) → Sys (Wire P) A
+unread s cs = record { lines = λ i. record { who = s .lines i .who; shut = false; taken = s .lines i .taken; left = stringOf i cs }; shared = s .shared .state }
+
+-- calls that hand over pieces, or are on no connection
+unfoldable pub Hands : {B O : Type 0} → List (Call B O) → Type 0
+Hands [] = Unit {0}
+Hands (hand i p ∷ cs) = Hands cs
+Hands (does i b ∷ cs) = ⊥
+Hands (asks o ∷ cs) = Hands cs
+
 -- ---- what the theorems ask of a layer
 
 -- a connection in form, with a receive buffer large enough, and, while it is open, a peer that may be
