@@ -6,3 +6,5 @@ pub mod World
 pub mod Heads
 pub mod Frames
 pub mod Plain
+pub mod Past
+pub mod Claims

@@ -105,7 +105,7 @@ module _ (f : Framing) (m bs : List ℕ) where
   abbrev rest : Out
   rest = cond (ltb (length m) bodyLimit) (stays f m no.SmallBuffer) (cond (isShut f) (stays f m no.Shut) (runOf f m bs))
 
-  call-bad : inForm f ≡ false → receiveOf f m bs ≡ stays f m no.OutOfForm
+  pub call-bad : inForm f ≡ false → receiveOf f m bs ≡ stays f m no.OutOfForm
   unfolding receiveOf
   call-bad h = cond-yes (not (inForm f)) (stays f m no.OutOfForm) rest (ap not h)
 
@@ -113,7 +113,7 @@ module _ (f : Framing) (m bs : List ℕ) where
   unfolding receiveOf
   call-good h = cond-no (not (inForm f)) (stays f m no.OutOfForm) rest (ap not h)
 
-  call-small : inForm f ≡ true → length m < bodyLimit → receiveOf f m bs ≡ stays f m no.SmallBuffer
+  pub call-small : inForm f ≡ true → length m < bodyLimit → receiveOf f m bs ≡ stays f m no.SmallBuffer
   call-small h l = call-good h ∙ cond-yes (ltb (length m) bodyLimit) _ _ (lt-ltb _ _ l)
 
   call-fits : inForm f ≡ true → bodyLimit ≤ length m → receiveOf f m bs ≡ cond (isShut f) (stays f m no.Shut) (runOf f m bs)

@@ -1,4 +1,4 @@
--- The theorems of this crate, as statements; proofs/Claims.antt proves each under the same name in small letters.
+-- The theorems of this crate, as statements; proofs/Claims.antt proves each (`Cut` is proved by `cut`, `SeveralPlainly` by `several-plainly`).
 use Prim.Native.Nat.{ℕ, _+_, _≤_}
 use mathlib.Core.Path.{_≡_}
 use mathlib.Core.List.{List, [], _∷_}
@@ -64,8 +64,8 @@ pub record ReadOut {P A O : Type 0} (w : Sys (Wire P) A) (s : World P A O) : Typ
   pub state : s .shared .state ≡ w .shared
   pub lines : (i : ℕ) → Left (w .lines i) (s .lines i)
 
-abbrev pub Plainly : Type 1
-Plainly =
+abbrev pub SeveralPlainly : Type 1
+SeveralPlainly =
     (P A B O : Type 0) (L : Layer P A B O) (Peer : P → Type 0) (Good : A → Type 0) (Fits : B → Type 0) → Sound L Peer Good Fits
     → (s : World P A O) → Ready Peer Good s → ((i : ℕ) → s .lines i .framing ≡ fresh) → s .shared .order ≡ []
     → (cs : List (Call B O)) → Hands cs
@@ -75,8 +75,8 @@ Plainly =
 abbrev pub Anyone : {X : Type 0} → X → Type 0
 Anyone x = Unit {0}
 
-abbrev pub Bare : Type 1
-Bare =
+abbrev pub OwnReceive : Type 1
+OwnReceive =
     (P A B O : Type 0) (put : ℕ → P → A → Event → A) (stops : ℕ → P → A → Event → Bool) (act : ℕ → B → Line P → A → Did (Line P) A) (host : A → O → A) (Fits : B → Type 0)
     → ((i : ℕ) (b : B) (l : Line P) (a : A) → Fits b → Fine Anyone l → Fine Anyone (act i b l a .line))
     → Sound (bare put stops act host) Anyone Anyone Fits
