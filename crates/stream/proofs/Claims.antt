@@ -1,13 +1,10 @@
 -- The theorems of this crate: each claim of specs/Claims.antt. Assumes nothing.
-use Prim.Native.Nat.{ℕ, _+_, _≤_}
-use mathlib.Core.Path.{_≡_, refl, sym, ap, _∙_, subst}
-use mathlib.Core.List.{List, []}
-use mathlib.Core.Bool.{Bool, false}
-use Rattle.stream.specs.Stream.{bodyLimit, isShut, Out, runOf}
-use Rattle.stream.specs.Frames.{Event, frames}
-use Rattle.stream.specs.Order.{Did}
-use Rattle.stream.specs.World.{Line, Shared, Called, called, joined, bare, Fine, Sound}
-use Rattle.stream.specs.Claims.{Cut, Reading, Several, SeveralPlainly, OwnReceive, Past, alone, opened, Reads, Anyone}
+use mathlib.Core.Path.{refl, sym, ap, _∙_, subst}
+use mathlib.Core.Bool.{false}
+use Rattle.stream.specs.Stream.{Out}
+use Rattle.stream.specs.Frames.{frames}
+use Rattle.stream.specs.World.{called, joined}
+use Rattle.stream.specs.Claims.{Cut, Reading, Several, SeveralPlainly, OwnReceive, Past, alone, opened, Reads}
 use Rattle.stream.proofs.Steps.{call-runs}
 use Rattle.stream.proofs.World.{play, handed-all, same-end}
 use Rattle.stream.proofs.Frames.{read-all}

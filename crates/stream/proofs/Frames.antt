@@ -2,16 +2,16 @@
 use Prim.Native.Nat.{ℕ, zero, suc, _+_, _-_, _≤_, _<_}
 use mathlib.Core.Path.{_≡_, refl, sym, ap, _∙_, subst}
 use mathlib.Core.List.{List, [], _∷_}
-use mathlib.Core.Bool.{Bool, true, false, cond}
+use mathlib.Core.Bool.{true, false}
 use native.Mathlib.Nat.{add-zero, not-suc-le-zero}
 use native.Mathlib.Omega.{arith}
 use lib.ListN.{length, take, drop, length-drop, drop-of-length-le}
 use Rattle.stream.specs.declared.Framing.the-variants.{Shut}
-use Rattle.stream.specs.declared.Answer.the-variants.{Message, Refused, More}
-use Rattle.stream.specs.Stream.{bodyLimit, fresh, isShut, prefixOf, Out, out, runOf}
+use Rattle.stream.specs.declared.Answer.the-variants.{Message, Refused}
+use Rattle.stream.specs.Stream.{bodyLimit, fresh, prefixOf, Out, out, runOf}
 use Rattle.stream.specs.Frames.{Event, message, refused, Head, partly, whole, bad, headOf, Frames, followed, byHead, framesFrom, frames, framingOf, halfOf, puts}
 use Rattle.stream.specs.Order.{Did}
-use Rattle.stream.specs.World.{Line, Shared, Layer, bare}
+use Rattle.stream.specs.World.{Line, Shared}
 use Rattle.stream.specs.Claims.{alone, Reads}
 use Rattle.stream.proofs.Heads.{Ran, head-run}
 use Rattle.stream.proofs.Kept.{run-length}

@@ -2,7 +2,7 @@
 use Prim.Native.Nat.{ℕ, zero, suc, _+_, _-_, _≤_, _<_}
 use mathlib.Core.Path.{_≡_, refl, sym, ap, _∙_}
 use mathlib.Core.List.{List, [], _∷_}
-use mathlib.Core.Bool.{Bool, true, false, cond}
+use mathlib.Core.Bool.{true}
 use native.Mathlib.Nat.{add-zero}
 use native.Mathlib.Omega.{arith}
 use lib.ListN.{length, take, drop, length-take, length-drop}
@@ -11,7 +11,6 @@ use lib.Dec.{leb}
 use borrow.Author.Tests.{leb-true, leb-false}
 use Rattle.octets.proofs.Bools.{cond-ind}
 use Rattle.octets.proofs.Stores.{part-sets}
-use Rattle.refusal.specs.declared.Refusal.{Refusal}
 use Rattle.stream.specs.declared.Held.{Held}
 use Rattle.stream.specs.declared.Held.the-variants.{Nothing}
 use Rattle.stream.specs.declared.Framing.{Framing}
@@ -20,7 +19,7 @@ use Rattle.stream.specs.declared.Answer.the-variants.{Message, Refused, 
 use Rattle.stream.specs.declared.Lead.{Lead}
 use Rattle.stream.specs.declared.Lead.the-variants.{On, Length, Bad}
 use Rattle.stream.specs.declared.Prefixed.{Prefixed}
-use Rattle.stream.specs.Stream.{bodyLimit, fresh, heldForm, prefixStep, onward, prefixOf, Out, out, shift, runOf}
+use Rattle.stream.specs.Stream.{bodyLimit, fresh, heldForm, prefixStep, onward, prefixOf, out, shift, runOf}
 use Rattle.stream.specs.Inner.{begunOf}
 use Rattle.stream.specs.Frames.{Head, partly, whole, bad, prefixAt, headBy, headOf, partFraming, partBody, framingOf, halfOf}
 use Rattle.stream.proofs.Runs.{leads, run-prefix, begun-some, body-part, body-whole}

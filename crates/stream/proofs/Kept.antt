@@ -1,14 +1,13 @@
 -- What a step and a run keep: form, the buffer's length, an open connection; and how much a run takes. Assumes nothing.
-use Prim.Native.Nat.{ℕ, zero, suc, _+_, _*_, _%_, _≤_, _<_}
+use Prim.Native.Nat.{ℕ, suc, _+_, _*_, _%_, _≤_, _<_}
 use mathlib.Core.Path.{_≡_, refl, sym, ap, _∙_}
 use mathlib.Core.List.{List, [], _∷_}
-use mathlib.Core.Bool.{Bool, true, false, cond, _&&_, true≢false, false≢true}
+use mathlib.Core.Bool.{true, false, true≢false, false≢true}
 use native.Mathlib.Omega.{arith}
-use lib.ListN.{length, set, length-set}
+use lib.ListN.{length, length-set}
 use lib.Dec.{eqb, ltb, leb}
-use borrow.Author.Tests.{le-leb, lt-ltb, ltb-false, leb-true, ltb-true, eqb-false}
-use Rattle.octets.proofs.Bools.{cond-ind, and-i, and-l, and-r}
-use Rattle.refusal.specs.declared.Refusal.{Refusal}
+use borrow.Author.Tests.{le-leb, lt-ltb, ltb-false, eqb-false}
+use Rattle.octets.proofs.Bools.{cond-ind, and-i, and-l}
 use Rattle.stream.specs.declared.Held.{Held}
 use Rattle.stream.specs.declared.Held.the-variants.{Nothing, One, Two}
 use Rattle.stream.specs.declared.Framing.{Framing}
@@ -17,7 +16,7 @@ use Rattle.stream.specs.declared.Answer.{Answer}
 use Rattle.stream.specs.declared.Answer.the-variants.{Message, Refused, More}
 use Rattle.stream.specs.declared.Lead.{Lead}
 use Rattle.stream.specs.declared.Lead.the-variants.{On, Length, Bad}
-use Rattle.stream.specs.Stream.{bodyLimit, fresh, isShut, heldForm, inForm, limited, minimal, prefixStep, Stepped, stepped, led, stepOf, storeOf, Out, out, after, runOf}
+use Rattle.stream.specs.Stream.{bodyLimit, isShut, heldForm, inForm, limited, minimal, prefixStep, Stepped, led, stepOf, storeOf, Out, after, runOf}
 use Rattle.stream.specs.World.{isMore}
 use Rattle.stream.proofs.Steps.{body-short, body-small}
 

@@ -8,3 +8,4 @@ pub mod Frames
 pub mod Plain
 pub mod Past
 pub mod Claims
+pub mod Examples

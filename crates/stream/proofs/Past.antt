@@ -2,12 +2,12 @@
 use Prim.Native.Nat.{ℕ, suc, _+_, _≤_, _<_}
 use mathlib.Core.Path.{_≡_, refl, sym, ap, _∙_, subst}
 use mathlib.Core.List.{List, [], _∷_, _++_}
-use mathlib.Core.Bool.{Bool, true, false, cond, not}
+use mathlib.Core.Bool.{Bool, true, false}
 use native.Mathlib.Omega.{arith}
 use lib.ListN.{length, take, set}
 use lib.Seq.{take-suc-set}
-use lib.Dec.{eqb, ltb}
-use borrow.Author.Tests.{eqb-true, le-ltb}
+use lib.Dec.{eqb}
+use borrow.Author.Tests.{eqb-true}
 use Rattle.octets.proofs.Bools.{cond-ind}
 use Rattle.refusal.specs.declared.Refusal.the-variants as no
 use Rattle.stream.specs.declared.Framing.{Framing}
@@ -17,7 +17,7 @@ use Rattle.stream.specs.declared.Answer.the-variants.{Message, Refused, 
 use Rattle.stream.specs.declared.Received.{Received}
 use Rattle.stream.specs.declared.Lead.{Lead}
 use Rattle.stream.specs.declared.Lead.the-variants.{On, Length, Bad}
-use Rattle.stream.specs.Stream.{bodyLimit, fresh, isShut, inForm, prefixStep, Stepped, stepped, led, stepOf, storeOf, Out, out, after, runOf, stays, receiveOf}
+use Rattle.stream.specs.Stream.{bodyLimit, fresh, isShut, inForm, prefixStep, Stepped, stepped, led, stepOf, storeOf, Out, after, runOf, receiveOf}
 use Rattle.stream.specs.Claims.{bodySoFar, bodyOf, bodyIn}
 use Rattle.stream.proofs.Steps.{body-short, body-small, call-bad, call-shut, call-runs}
 use Rattle.stream.proofs.Kept.{step-form, store-length}

@@ -1,5 +1,5 @@
 -- Several connections read what the plain reading reads, message by message in the order of the events. Assumes nothing.
-use Prim.Native.Nat.{ℕ, zero, suc, _+_, _≤_, _<_}
+use Prim.Native.Nat.{ℕ, _+_, _≤_}
 use mathlib.Core.Path.{_≡_, refl, sym, ap, _∙_, subst}
 use mathlib.Core.List.{List, [], _∷_, _++_, append-assoc}
 use mathlib.Core.Bool.{Bool, true, false, cond, true≢false, false≢true}
@@ -15,16 +15,16 @@ use Rattle.stream.specs.declared.Framing.{Framing}
 use Rattle.stream.specs.declared.Framing.the-variants.{Shut}
 use Rattle.stream.specs.declared.Answer.{Answer}
 use Rattle.stream.specs.declared.Answer.the-variants.{Message, Refused, More}
-use Rattle.stream.specs.Stream.{bodyLimit, fresh, isShut, inForm, stepOf, storeOf, Out, out, shift, after, runOf}
+use Rattle.stream.specs.Stream.{bodyLimit, fresh, isShut, stepOf, storeOf, Out, out, shift, after, runOf}
 use Rattle.stream.specs.Frames.{Event, message, refused, Head, partly, whole, bad, headOf, framingOf, halfOf}
-use Rattle.stream.specs.Order.{Did, Sys, Step, at, other, Mark, happened, asked, setAt, here, putBack, actsOf, Rules, act, step, run, marks}
-use Rattle.stream.specs.World.{Line, Shared, World, Layer, Call, hand, does, asks, Act, takes, acts, isMore, hosted, calls, Wire, dealt, byHead, next, plainly, stringOf, unread, Hands, Fine, Sound, Ready, AllFit}
+use Rattle.stream.specs.Order.{Did, Sys, Step, at, other, Mark, happened, setAt, here, putBack, actsOf, step, run, marks}
+use Rattle.stream.specs.World.{Line, Shared, World, Layer, Call, hand, does, asks, Act, takes, acts, isMore, calls, Wire, dealt, byHead, next, plainly, stringOf, unread, Hands, Sound, Ready, AllFit}
 use Rattle.stream.specs.Claims.{Left, ReadOut}
 use Rattle.stream.proofs.Runs.{shift-shift, shift-zero, run-nil, run-cons}
 use Rattle.stream.proofs.Kept.{shut-only, step-open, store-length}
-use Rattle.stream.proofs.Heads.{Ran, RanPart, RanWhole, head-run}
+use Rattle.stream.proofs.Heads.{Ran, head-run}
 use Rattle.stream.proofs.Order.{set-same}
-use Rattle.stream.proofs.World.{taken, steps, quietly, stepLine, lands, happens, rules, byte, byte-shut, byte-by, calls-steps, run-order}
+use Rattle.stream.proofs.World.{taken, steps, stepLine, lands, rules, byte, byte-shut, byte-by, calls-steps, run-order}
 
 len-snoc : (p : List ℕ) (b : ℕ) → length (p ++ (b ∷ [])) ≡ length p + 1
 len-snoc p b = length-append p (b ∷ [])
@@ -255,8 +255,7 @@ module _ {P A B O : Type 0} (L : Layer P A B O) where
       where
         go : (t : Bool) → w .shut ≡ t → (q : Answer) → stepOf f b .answer ≡ q → (did .shared .state ≡ d .shared .state) × Rel (did .line) w (p ++ (b ∷ [])) rest
         go true h q e =
-            let D : did ≡ d = byte-shut L i d b (r .shut ∙ h) in
-            (
+            let D : did ≡ d = byte-shut L i d b (r .shut ∙ h) in (
               ap (λ (y : Here). y .shared .state) D,
               subst (λ (y : Here). Rel (y .line) w (p ++ (b ∷ [])) rest) (sym D)
                   (record { who = r .who; room = r .room; shut = r .shut; over = r .over; mid = λ g. absurd (true≢false (sym h ∙ g)) }),
@@ -264,8 +263,7 @@ module _ {P A B O : Type 0} (L : Layer P A B O) where
         go false h (Message v) e = absurd (true≢false (sym n ∙ ap isMore e))
         go false h (Refused x) e = absurd (true≢false (sym n ∙ ap isMore e))
         go false h More e =
-            let D : did ≡ record { line = stepLine L (d .line) b; shared = d .shared } = byte-by L i d b More e (r .shut ∙ h) in
-            (
+            let D : did ≡ record { line = stepLine L (d .line) b; shared = d .shared } = byte-by L i d b More e (r .shut ∙ h) in (
               ap (λ (y : Here). y .shared .state) D,
               subst (λ (y : Here). Rel (y .line) w (p ++ (b ∷ [])) rest) (sym D)
                   (record {

@@ -2,7 +2,7 @@
 use Prim.Native.Nat.{ℕ, zero, suc, _+_, _-_, _≤_, _<_}
 use mathlib.Core.Path.{_≡_, refl, sym, ap, _∙_, subst}
 use mathlib.Core.List.{List, [], _∷_, _++_, append-assoc}
-use mathlib.Core.Bool.{Bool, true, false, cond, true≢false, false≢true}
+use mathlib.Core.Bool.{Bool, true, false, cond}
 use native.Mathlib.Nat.{add-zero, add-assoc, not-suc-le-zero}
 use native.Mathlib.Numerals.{one-add}
 use native.Mathlib.Omega.{arith}
@@ -10,12 +10,12 @@ use lib.ListN.{length, take, drop, length-drop, drop-of-length-le}
 use lib.Dec.{eqb}
 use Rattle.octets.proofs.Bools.{cond-ind, cond-yes, cond-no}
 use Rattle.stream.specs.declared.Framing.{Framing}
-use Rattle.stream.specs.declared.Framing.the-variants.{Shut, Prefix, Body}
+use Rattle.stream.specs.declared.Framing.the-variants.{Shut}
 use Rattle.stream.specs.declared.Answer.{Answer}
 use Rattle.stream.specs.declared.Answer.the-variants.{Message, Refused, More}
-use Rattle.stream.specs.Stream.{bodyLimit, fresh, isShut, inForm, stepOf, storeOf, Out, out, shift, runOf}
-use Rattle.stream.specs.Frames.{Event, message, refused}
-use Rattle.stream.specs.Order.{Did, Sys, Step, at, other, Mark, happened, asked, setAt, here, putBack, actsOf, Rules, act, step, run, marks}
+use Rattle.stream.specs.Stream.{bodyLimit, isShut, inForm, stepOf, storeOf, Out, out, shift, runOf}
+use Rattle.stream.specs.Frames.{message, refused}
+use Rattle.stream.specs.Order.{Did, Step, at, other, Mark, happened, asked, here, putBack, actsOf, Rules, act, step, run, marks}
 use Rattle.stream.specs.World.{Line, Shared, World, Called, Layer, Call, hand, does, asks, Act, takes, acts, bytes, given, joined, isMore, noteIf, answered, feed, handed, handedAll, acted, hosted, call, calls, noted, halted, called, Fine, Sound, Ready, AllFit}
 use Rattle.stream.proofs.Kept.{shut-only, step-form, step-open, store-length, run-form, run-length, run-within, run-some, run-all}
 use Rattle.stream.proofs.Order.{here-back, back-back, back-here, order}

@@ -4,3 +4,4 @@ pub mod Frames
 pub mod Order
 pub mod World
 pub mod Claims
+pub mod Examples

@@ -138,7 +138,14 @@ fn out_of_form(buffer: &mut [u8]) {
     end(a);
     let low = Held::One(127);
     end(call(Framing::Prefix(low), buffer, &[1]));
-    end(call(Framing::Body { want: 16385, have: 0 }, buffer, &[1]));
+    end(call(
+        Framing::Body {
+            want: 16385,
+            have: 0,
+        },
+        buffer,
+        &[1],
+    ));
 }
 
 fn kept_out(buffer: &mut [u8]) {
