@@ -1,14 +1,14 @@
 -- The theorems of this crate, as statements; proofs/Claims.antt proves each (`Cut` is proved by `cut`, `SeveralPlainly` by `several-plainly`).
 use Prim.Native.Nat.{ℕ, _+_, _≤_}
 use mathlib.Core.Path.{_≡_}
-use mathlib.Core.List.{List, [], _∷_}
-use mathlib.Core.Bool.{Bool, true, false, cond}
+use mathlib.Core.List.{List, []}
+use mathlib.Core.Bool.{Bool, false, cond}
 use lib.ListN.{length, take}
 use Rattle.stream.specs.declared.Framing.{Framing}
 use Rattle.stream.specs.declared.Framing.the-variants.{Shut, Prefix, Body}
 use Rattle.stream.specs.declared.Answer.{Answer}
 use Rattle.stream.specs.declared.Answer.the-variants.{Message, Refused, More}
-use Rattle.stream.specs.Stream.{bodyLimit, fresh, isShut, inForm, Out, receiveOf}
+use Rattle.stream.specs.Stream.{bodyLimit, fresh, Out, receiveOf}
 use Rattle.stream.specs.Frames.{Event, Frames, frames, framingOf, halfOf, puts}
 use Rattle.stream.specs.Order.{Did, Sys}
 use Rattle.stream.specs.World.{Line, Shared, World, Layer, Call, joined, given, handedAll, calls, bare, Wire, plainly, unread, Hands, Fine, Sound, Ready, AllFit}

@@ -55,7 +55,7 @@ limited n = cond (ltb bodyLimit n) (Bad no.TooLong) (Length n)
 unfoldable pub minimal : ℕ → ℕ → Lead
 minimal z n = cond (eqb z 0) (Bad no.PrefixNotMinimal) (limited n)
 
--- the closing byte is the one without the top bit. "A set top bit in the third prefix byte gives 4"
+-- the closing byte is the one without the top bit; each byte has seven bits of the length, the lowest first. "A set top bit in the third prefix byte gives 4"
 unfoldable pub prefixStep : Held → ℕ → Lead
 prefixStep Nothing z = cond (ltb z 128) (limited z) (On (One z))
 prefixStep (One a) z = cond (ltb z 128) (minimal z (a % 128 + z * 128)) (On (Two a z))

@@ -9,9 +9,9 @@ use Rattle.stream.specs.declared.Framing.{Framing}
 use Rattle.stream.specs.declared.Framing.the-variants.{Shut}
 use Rattle.stream.specs.declared.Answer.{Answer}
 use Rattle.stream.specs.declared.Answer.the-variants.{Message, Refused, More}
-use Rattle.stream.specs.Stream.{bodyLimit, fresh, isShut, inForm, Out, runOf, receiveOf}
+use Rattle.stream.specs.Stream.{bodyLimit, isShut, inForm, Out, runOf, receiveOf}
 use Rattle.stream.specs.Frames.{Event, message, refused, Head, partly, whole, bad, headOf}
-use Rattle.stream.specs.Order.{Did, Sys, Mark, happened, asked, setAt, here, putBack}
+use Rattle.stream.specs.Order.{Did, Sys, Mark, happened, asked, here, putBack}
 
 -- ---- a connection and what the layer above makes of it
 

@@ -1,10 +1,9 @@
 // A connection's framing: length-prefixed messages out of bytes that come in pieces cut anywhere.
 use refusal::Refusal;
 ghost use mathlib.Core.Path.{_≡_};
-ghost use mathlib.Core.Bool.{true};
-ghost use Prim.Native.Nat.{ℕ, _+_, _*_, _%_, _<_, _≤_};
+ghost use Prim.Native.Nat.{_<_, _≤_};
 ghost use lib.ListN.{length, drop};
-ghost use Rattle.stream.specs.Stream.{bodyLimit, fresh, heldForm, inForm, isShut, limited, minimal, prefixStep, prefixOf, stayed, shift, runOf, Gives, receiveOf, endIn, endOf, ended};
+ghost use Rattle.stream.specs.Stream.{fresh, heldForm, inForm, isShut, limited, minimal, prefixStep, prefixOf, stayed, shift, runOf, Gives, receiveOf, endIn, endOf, ended};
 ghost use Rattle.stream.specs.Inner.{goesOn, heldOf, begunOf};
 
 // The largest message.
@@ -141,7 +140,8 @@ fn close(z: u8, n: usize) -> Lead
     limit(n)
 }
 
-// The next byte of a prefix. Each byte has seven bits of the length, the lowest first.
+// The next byte of a prefix. The top bit says that another follows; the others are seven bits of the length, the lowest first,
+// so that the second byte counts 128-fold and the third 16,384-fold.
 fn prefix_step(held: Held, z: u8) -> Lead
     ensures { λ r. ⌜ r ≡ prefixStep held z ⌝ }
 {
@@ -285,11 +285,11 @@ fn read_message(held: Held, buffer: &mut [u8], piece: &[u8]) -> Received
     match lead {
         Lead::On(h) => {
             let f = Framing::Prefix(h);
-            let a = Answer::More;
+            let more = Answer::More;
             Received {
                 framing: f,
                 taken: from,
-                answer: a,
+                answer: more,
             }
         }
         Lead::Length(n) => start_body(n, buffer, piece, from),
