@@ -6,7 +6,7 @@ use mathlib.Core.Bool.{true, false, true≢false, false≢true}
 use native.Mathlib.Omega.{arith}
 use lib.ListN.{length, length-set}
 use lib.Dec.{eqb, ltb, leb}
-use borrow.Author.Tests.{le-leb, lt-ltb, ltb-false, eqb-false}
+use borrow.Author.Tests.{le-leb, lt-ltb, ltb-false, ltb-true, eqb-false}
 use Rattle.octets.proofs.Bools.{cond-ind, and-i, and-l}
 use Rattle.stream.specs.declared.Held.{Held}
 use Rattle.stream.specs.declared.Held.the-variants.{Nothing, One, Two}
@@ -16,9 +16,9 @@ use Rattle.stream.specs.declared.Answer.{Answer}
 use Rattle.stream.specs.declared.Answer.the-variants.{Message, Refused, More}
 use Rattle.stream.specs.declared.Lead.{Lead}
 use Rattle.stream.specs.declared.Lead.the-variants.{On, Length, Bad}
-use Rattle.stream.specs.Stream.{bodyLimit, isShut, heldForm, inForm, limited, minimal, prefixStep, Stepped, led, stepOf, storeOf, Out, after, runOf}
+use Rattle.stream.specs.Stream.{bodyLimit, isShut, heldForm, inForm, limited, minimal, prefixStep, Stepped, led, stepOf, storeOf, Out, after, runOf, receiveOf}
 use Rattle.stream.specs.World.{isMore}
-use Rattle.stream.proofs.Steps.{body-short, body-small}
+use Rattle.stream.proofs.Steps.{body-short, body-small, call-bad, call-small, call-shut, call-runs}
 
 pub shut-only : (f : Framing) → isShut f ≡ true → f ≡ Shut
 shut-only Shut h = refl
@@ -150,6 +150,19 @@ unfolding runOf
 run-all [] f m h = omega arith
 run-all (b ∷ bs) f m h =
     after-all (stepOf f b .answer) (stepOf f b .framing) (storeOf f m b) (runOf (stepOf f b .framing) (storeOf f m b) bs) (length bs) h (run-all bs (stepOf f b .framing) (storeOf f m b))
+
+-- no call takes more than is there
+pub receive-within : (f : Framing) (m bs : List ℕ) → receiveOf f m bs .got .taken ≤ length bs
+receive-within f m bs = go (inForm f) refl (ltb (length m) bodyLimit) refl (isShut f) refl
+  where
+    by : (o : Out) → receiveOf f m bs ≡ o → o .got .taken ≤ length bs → receiveOf f m bs .got .taken ≤ length bs
+    by o e l = rw e l
+
+    go : (t : Bool) → inForm f ≡ t → (s : Bool) → ltb (length m) bodyLimit ≡ s → (u : Bool) → isShut f ≡ u → receiveOf f m bs .got .taken ≤ length bs
+    go false g s h u k = by _ (call-bad f m bs g) (omega arith)
+    go true g true h u k = by _ (call-small f m bs g (ltb-true (length m) bodyLimit h)) (omega arith)
+    go true g false h true k = by _ (call-shut f m bs g (ltb-false (length m) bodyLimit h) k) (omega arith)
+    go true g false h false k = by _ (call-runs f m bs g (ltb-false (length m) bodyLimit h) k) (run-within bs f m)
 
 -- a message is no longer than the largest
 Small : Answer → Type 0
