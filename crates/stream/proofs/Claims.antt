@@ -4,11 +4,13 @@ use mathlib.Core.Bool.{false}
 use Rattle.stream.specs.Stream.{Out}
 use Rattle.stream.specs.Frames.{frames}
 use Rattle.stream.specs.World.{called, joined}
-use Rattle.stream.specs.Claims.{Cut, Reading, Several, SeveralPlainly, OwnReceive, Past, alone, opened, Reads}
+use Rattle.stream.specs.Claims.{Cut, Later, FormKept, Bounded, Reading, Several, SeveralPlainly, OwnReceive, Past, alone, opened, Reads}
 use Rattle.stream.proofs.Steps.{call-runs}
 use Rattle.stream.proofs.World.{play, handed-all, same-end}
 use Rattle.stream.proofs.Frames.{read-all}
 use Rattle.stream.proofs.Plain.{read-out}
+use Rattle.stream.proofs.Kept.{receive-form, receive-within, receive-message, end-form}
+use Rattle.stream.proofs.Later.{later-stays}
 use Rattle.stream.proofs.Past.{past-alike}
 
 pub cut : Cut
@@ -39,3 +41,12 @@ several-plainly P A B O L Peer Good Fits S s r f n cs h = read-out L S s r f n c
 
 pub past : Past
 past f m n bs j k e = past-alike f m n bs j k e
+
+pub later : Later
+later f m bs w = later-stays f m bs w
+
+pub form-kept : FormKept
+form-kept = record { opens = refl; receives = λ f m bs h. receive-form f m bs h; ends = end-form }
+
+pub bounded : Bounded
+bounded = record { taken = receive-within; message = receive-message }

@@ -10,8 +10,7 @@ use Rattle.stream.specs.declared.Framing.the-variants.{Shut}
 use Rattle.stream.specs.declared.Answer.the-variants.{Message, Refused}
 use Rattle.stream.specs.Stream.{bodyLimit, fresh, prefixOf, Out, out, runOf}
 use Rattle.stream.specs.Frames.{Event, message, refused, Head, partly, whole, bad, headOf, Frames, followed, byHead, framesFrom, frames, framingOf, halfOf, puts}
-use Rattle.stream.specs.Order.{Did}
-use Rattle.stream.specs.World.{Line, Shared}
+use Rattle.stream.specs.World.{Did, Line, Shared}
 use Rattle.stream.specs.Claims.{alone, Reads}
 use Rattle.stream.proofs.Heads.{Ran, head-run}
 use Rattle.stream.proofs.Kept.{run-length}

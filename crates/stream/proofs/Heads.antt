@@ -10,7 +10,6 @@ use lib.Seq.{sets}
 use lib.Dec.{leb}
 use borrow.Author.Tests.{leb-true, leb-false}
 use Rattle.octets.proofs.Bools.{cond-ind}
-use Rattle.octets.proofs.Stores.{part-sets}
 use Rattle.stream.specs.declared.Held.{Held}
 use Rattle.stream.specs.declared.Held.the-variants.{Nothing}
 use Rattle.stream.specs.declared.Framing.{Framing}
@@ -23,10 +22,11 @@ use Rattle.stream.specs.Stream.{bodyLimit, fresh, heldForm, prefixStep, 
 use Rattle.stream.specs.Inner.{begunOf}
 use Rattle.stream.specs.Frames.{Head, partly, whole, bad, prefixAt, headBy, headOf, partFraming, partBody, framingOf, halfOf}
 use Rattle.stream.proofs.Runs.{leads, run-prefix, begun-some, body-part, body-whole}
+use Rattle.stream.proofs.Lists.{take-sets-first}
 use Rattle.stream.proofs.Kept.{prefix-form, LeadForm}
 
 -- ---- the prefix at the start of bytes
-abbrev Sensible : Lead → ℕ → ℕ → Type 0
+abbrev pub Sensible : Lead → ℕ → ℕ → Type 0
 Sensible (On h) k n = k ≡ n
 Sensible (Length v) k n = (1 ≤ k) × (k ≤ n) × (v ≤ bodyLimit)
 Sensible (Bad r) k n = (1 ≤ k) × (k ≤ n)
@@ -42,14 +42,10 @@ onward-sensible (On h) next n g f = later-sensible (next h .lead) (next h .taken
 onward-sensible (Length v) next n g f = (omega arith, omega arith, g)
 onward-sensible (Bad r) next n g f = (omega arith, omega arith)
 
-prefix-sensible : (bs : List ℕ) (h : Held) → heldForm h ≡ true → Sensible (prefixOf h bs .lead) (prefixOf h bs .taken) (length bs)
+pub prefix-sensible : (bs : List ℕ) (h : Held) → heldForm h ≡ true → Sensible (prefixOf h bs .lead) (prefixOf h bs .taken) (length bs)
 unfolding prefixOf
 prefix-sensible [] h g = refl
 prefix-sensible (z ∷ zs) h g = onward-sensible (prefixStep h z) (λ k. prefixOf k zs) (length zs) (prefix-form h z g) (λ k e. prefix-sensible zs k e)
-
--- ---- what is stored at the buffer's start stands there
-take-stored : (m s : List ℕ) → length s ≤ length m → take (length s) (sets m 0 s) ≡ s
-take-stored m s h = let e : 0 + length s - 0 ≡ length s = omega arith in ap (λ (n : ℕ). take n (sets m 0 s)) (sym e) ∙ part-sets m 0 s (omega arith)
 
 -- ---- the run
 pub record RanPart (m bs : List ℕ) (f : Framing) (half : List ℕ) : Type 0 where
@@ -78,7 +74,7 @@ ran-whole m bs k (suc n) w s v l r =
     record {
       buffer = sets m 0 t;
       runs = r ∙ begun-some (suc n) k m bs (λ z. omega arith) ∙ ap (shift k) (body-whole (suc n) 0 n m (drop k bs) (omega arith) (omega arith));
-      body = ap (λ (j : ℕ). take j (sets m 0 t)) (sym e) ∙ take-stored m t (omega arith);
+      body = ap (λ (j : ℕ). take j (sets m 0 t)) (sym e) ∙ take-sets-first m t (omega arith);
       some = s;
       fits = l;
     }
@@ -93,7 +89,7 @@ ran-part m bs k (suc n) w t v l r =
     record {
       buffer = sets m 0 (drop k bs);
       runs = r ∙ begun-some (suc n) k m bs (λ z. omega arith) ∙ ap (shift k) (body-part (suc n) 0 m (drop k bs) (omega arith)) ∙ (λ i. out (Body (suc n) (e i)) (q i) More (sets m 0 (drop k bs)));
-      there = take-stored m (drop k bs) (omega arith);
+      there = take-sets-first m (drop k bs) (omega arith);
     }
 
 pub head-run : (m bs : List ℕ) → bodyLimit ≤ length m → Ran m bs (framingOf bs) (halfOf bs) (headOf bs)

@@ -2,12 +2,15 @@
 use Prim.Native.Nat.{ℕ, suc, _+_, _*_, _%_, _≤_, _<_}
 use mathlib.Core.Path.{_≡_, refl, sym, ap, _∙_}
 use mathlib.Core.List.{List, [], _∷_}
-use mathlib.Core.Bool.{Bool, true, false, true≢false, false≢true}
+use mathlib.Core.Bool.{Bool, true, false, not, true≢false, false≢true}
 use native.Mathlib.Omega.{arith}
 use lib.ListN.{length, length-set}
 use lib.Dec.{eqb, ltb, leb}
-use borrow.Author.Tests.{le-leb, lt-ltb, ltb-false, ltb-true, eqb-false}
+use borrow.Author.Tests.{le-leb, lt-ltb, ltb-false, eqb-false}
 use Rattle.octets.proofs.Bools.{cond-ind, and-i, and-l}
+use Rattle.refusal.specs.declared.Refusal.{Refusal}
+use Rattle.refusal.specs.declared.Refusal.the-variants as no
+use Rattle.stream.specs.declared.Ended.{Ended}
 use Rattle.stream.specs.declared.Held.{Held}
 use Rattle.stream.specs.declared.Held.the-variants.{Nothing, One, Two}
 use Rattle.stream.specs.declared.Framing.{Framing}
@@ -16,9 +19,9 @@ use Rattle.stream.specs.declared.Answer.{Answer}
 use Rattle.stream.specs.declared.Answer.the-variants.{Message, Refused, More}
 use Rattle.stream.specs.declared.Lead.{Lead}
 use Rattle.stream.specs.declared.Lead.the-variants.{On, Length, Bad}
-use Rattle.stream.specs.Stream.{bodyLimit, isShut, heldForm, inForm, limited, minimal, prefixStep, Stepped, led, stepOf, storeOf, Out, after, runOf, receiveOf}
+use Rattle.stream.specs.Stream.{bodyLimit, isShut, heldForm, inForm, limited, minimal, prefixStep, Stepped, led, stepOf, storeOf, Out, after, runOf, stays, receiveOf, endIn, endOf}
 use Rattle.stream.specs.World.{isMore}
-use Rattle.stream.proofs.Steps.{body-short, body-small, call-bad, call-small, call-shut, call-runs}
+use Rattle.stream.proofs.Steps.{body-short, body-small}
 
 pub shut-only : (f : Framing) → isShut f ≡ true → f ≡ Shut
 shut-only Shut h = refl
@@ -151,19 +154,6 @@ run-all [] f m h = omega arith
 run-all (b ∷ bs) f m h =
     after-all (stepOf f b .answer) (stepOf f b .framing) (storeOf f m b) (runOf (stepOf f b .framing) (storeOf f m b) bs) (length bs) h (run-all bs (stepOf f b .framing) (storeOf f m b))
 
--- no call takes more than is there
-pub receive-within : (f : Framing) (m bs : List ℕ) → receiveOf f m bs .got .taken ≤ length bs
-receive-within f m bs = go (inForm f) refl (ltb (length m) bodyLimit) refl (isShut f) refl
-  where
-    by : (o : Out) → receiveOf f m bs ≡ o → o .got .taken ≤ length bs → receiveOf f m bs .got .taken ≤ length bs
-    by o e l = rw e l
-
-    go : (t : Bool) → inForm f ≡ t → (s : Bool) → ltb (length m) bodyLimit ≡ s → (u : Bool) → isShut f ≡ u → receiveOf f m bs .got .taken ≤ length bs
-    go false g s h u k = by _ (call-bad f m bs g) (omega arith)
-    go true g true h u k = by _ (call-small f m bs g (ltb-true (length m) bodyLimit h)) (omega arith)
-    go true g false h true k = by _ (call-shut f m bs g (ltb-false (length m) bodyLimit h) k) (omega arith)
-    go true g false h false k = by _ (call-runs f m bs g (ltb-false (length m) bodyLimit h) k) (run-within bs f m)
-
 -- a message is no longer than the largest
 Small : Answer → Type 0
 Small (Message n) = n ≤ bodyLimit
@@ -200,3 +190,43 @@ run-small (b ∷ bs) f m h =
 pub message-fits : (f : Framing) (m bs : List ℕ) (n : ℕ) → inForm f ≡ true → runOf f m bs .got .answer ≡ Message n → n ≤ bodyLimit
 unfolding Small
 message-fits f m bs n h e = let s : Small (runOf f m bs .got .answer) = run-small bs f m h in rw e at s
+
+-- ---- what a call keeps
+module _ (f : Framing) (m bs : List ℕ) where
+  -- each way that a call can go
+  pub receive-ind : (C : Out → Type 0) → C (stays f m no.OutOfForm) → C (stays f m no.SmallBuffer) → C (stays f m no.Shut)
+      → (inForm f ≡ true → bodyLimit ≤ length m → isShut f ≡ false → C (runOf f m bs)) → C (receiveOf f m bs)
+  unfolding receiveOf
+  receive-ind C a b c d =
+      cond-ind C (not (inForm f)) _ _ (λ g. a)
+      (λ g. cond-ind C (ltb (length m) bodyLimit) _ _ (λ h. b)
+      (λ h. cond-ind C (isShut f) _ _ (λ s. c) (λ s. d (not-off (inForm f) g) (ltb-false (length m) bodyLimit h) s)))
+    where
+      not-off : (t : Bool) → not t ≡ false → t ≡ true
+      not-off true h = refl
+      not-off false h = absurd (true≢false h)
+
+  pub receive-form : inForm f ≡ true → inForm (receiveOf f m bs .got .framing) ≡ true
+  receive-form h = receive-ind (λ (o : Out). inForm (o .got .framing) ≡ true) h h h (λ g w s. run-form bs f m h)
+
+  pub receive-within : receiveOf f m bs .got .taken ≤ length bs
+  receive-within = receive-ind (λ (o : Out). o .got .taken ≤ length bs) (omega arith) (omega arith) (omega arith) (λ g w s. run-within bs f m)
+
+  pub receive-message : (n : ℕ) → receiveOf f m bs .got .answer ≡ Message n → (n ≤ bodyLimit) × (bodyLimit ≤ length m)
+  receive-message n =
+      receive-ind (λ (o : Out). o .got .answer ≡ Message n → (n ≤ bodyLimit) × (bodyLimit ≤ length m)) (no-message no.OutOfForm) (no-message no.SmallBuffer) (no-message no.Shut)
+      (λ g w s e. (message-fits f m bs n g e, w))
+    where
+      no-message : {X : Type 0} (r : Refusal) → Refused r ≡ Message n → X
+      no-message r e = absurd (let z : _≡_ {A = ℕ} 0 1 = cc in omega arith)
+
+pub end-form : (f : Framing) → inForm f ≡ true → inForm (endOf f .framing) ≡ true
+unfolding endOf
+end-form f h = cond-ind (λ (e : Ended). inForm (e .framing) ≡ true) (not (inForm f)) _ _ (λ g. h) (λ g. over f)
+  where
+    over : (f : Framing) → inForm (endIn f .framing) ≡ true
+    over Shut = refl
+    over (Prefix Nothing) = refl
+    over (Prefix (One a)) = refl
+    over (Prefix (Two a b)) = refl
+    over (Body want have) = refl

@@ -1,3 +1,4 @@
+pub mod Lists
 pub mod Runs
 pub mod Steps
 pub mod Order
@@ -7,5 +8,6 @@ pub mod Heads
 pub mod Frames
 pub mod Plain
 pub mod Past
+pub mod Later
 pub mod Claims
 pub mod Examples

@@ -8,7 +8,46 @@ use native.Mathlib.Omega.{arith}
 use lib.Dec.{eqb}
 use borrow.Author.Tests.{eqb-true, eqb-false, eq-eqb, ne-eqb}
 use Rattle.octets.proofs.Bools.{cond-ind}
-use Rattle.stream.specs.Order.{Did, Sys, Step, at, other, Mark, happened, asked, setAt, here, putBack, actsOf, Rules, act, step, run, marks}
+use Rattle.stream.proofs.Lists.{head-of, tail-of, no-cons}
+use Rattle.stream.specs.World.{Did, Sys, Mark, happened, asked, setAt, here, putBack}
+
+-- ---- acts: on a line an act is quiet and changes that line alone, or it is an event
+
+-- an act b on line i, or a call of the host that is on no line
+pub data Step (B O : Type 0) : Type 0 where
+  at : ℕ → B → Step B O
+  other : O → Step B O
+
+-- the acts on line i alone
+unfoldable pub actsOf : {B O : Type 0} → ℕ → List (Step B O) → List B
+actsOf i [] = []
+actsOf i (at j b ∷ xs) = cond (eqb i j) (b ∷ actsOf i xs) (actsOf i xs)
+actsOf i (other o ∷ xs) = actsOf i xs
+
+-- what the lines and the host can do
+pub record Rules (L A B O : Type 0) : Type 0 where
+  pub quiet : L → B → Bool
+  pub move : L → B → L
+  pub event : ℕ → L → A → B → Did L A
+  pub host : A → O → A
+
+module _ {L A B O : Type 0} (R : Rules L A B O) where
+  abbrev pub act : ℕ → Did L A → B → Did L A
+  act i d b = cond (R .quiet (d .line) b) (record { line = R .move (d .line) b; shared = d .shared }) (R .event i (d .line) (d .shared) b)
+
+  unfoldable pub step : Sys L A → Step B O → Sys L A
+  step s (at i b) = putBack s i (act i (here s i) b)
+  step s (other o) = record { lines = s .lines; shared = R .host (s .shared) o }
+
+  unfoldable pub run : Sys L A → List (Step B O) → Sys L A
+  run s [] = s
+  run s (x ∷ xs) = run (step s x) xs
+
+  -- the events and other calls of a run, in their order
+  unfoldable pub marks : Sys L A → List (Step B O) → List (Mark O)
+  marks s [] = []
+  marks s (at i b ∷ xs) = cond (R .quiet (s .lines i) b) (marks (step s (at i b)) xs) (happened i ∷ marks (step s (at i b)) xs)
+  marks s (other o ∷ xs) = asked o ∷ marks (step s (other o)) xs
 
 -- ---- lines that are set
 same : (i : ℕ) → eqb i i ≡ true
@@ -57,15 +96,6 @@ unfoldable pullHost : {B O : Type 0} → List (Step B O) → List (Step B O)
 pullHost [] = []
 pullHost (at j b ∷ xs) = at j b ∷ pullHost xs
 pullHost (other o ∷ xs) = xs
-
-tail-of : {B : Type 0} (a b : B) (l k : List B) → a ∷ l ≡ b ∷ k → l ≡ k
-tail-of a b l k h = cc
-
-head-of : {B : Type 0} (a b : B) (l k : List B) → a ∷ l ≡ b ∷ k → a ≡ b
-head-of a b l k h = cc
-
-no-cons : {B : Type 0} {P : Type 0} (a : B) (l : List B) → a ∷ l ≡ [] → P
-no-cons a l h = absurd (let z : _≡_ {A = ℕ} 0 1 = cc in omega arith)
 
 -- the acts of each line after a pull
 acts-own : {B O : Type 0} (i : ℕ) (b : B) (r : List B) (ys : List (Step B O)) → actsOf i ys ≡ b ∷ r → actsOf i (pull i ys) ≡ r

@@ -1,12 +1,11 @@
 -- Several connections read what the plain reading reads, message by message in the order of the events. Assumes nothing.
 use Prim.Native.Nat.{ℕ, _+_, _≤_}
 use mathlib.Core.Path.{_≡_, refl, sym, ap, _∙_, subst}
-use mathlib.Core.List.{List, [], _∷_, _++_, append-assoc}
+use mathlib.Core.List.{List, [], _∷_, _++_, append-assoc, append-nil}
 use mathlib.Core.Bool.{Bool, true, false, cond, true≢false, false≢true}
 use native.Mathlib.Nat.{add-assoc, add-zero}
 use native.Mathlib.Omega.{arith}
-use lib.ListN.{length, take, drop, length-append}
-use lib.Seq.{drop-at}
+use lib.ListN.{length, take, drop}
 use lib.Dec.{eqb}
 use borrow.Author.Tests.{eqb-true, eq-eqb}
 use Rattle.octets.proofs.Bools.{cond-ind}
@@ -17,24 +16,15 @@ use Rattle.stream.specs.declared.Answer.{Answer}
 use Rattle.stream.specs.declared.Answer.the-variants.{Message, Refused, More}
 use Rattle.stream.specs.Stream.{bodyLimit, fresh, isShut, stepOf, storeOf, Out, out, shift, after, runOf}
 use Rattle.stream.specs.Frames.{Event, message, refused, Head, partly, whole, bad, headOf, framingOf, halfOf}
-use Rattle.stream.specs.Order.{Did, Sys, Step, at, other, Mark, happened, setAt, here, putBack, actsOf, step, run, marks}
-use Rattle.stream.specs.World.{Line, Shared, World, Layer, Call, hand, does, asks, Act, takes, acts, isMore, calls, Wire, dealt, byHead, next, plainly, stringOf, unread, Hands, Sound, Ready, AllFit}
+use Rattle.stream.proofs.Order.{Step, at, other, actsOf, step, run, marks}
+use Rattle.stream.specs.World.{Did, Sys, Mark, happened, setAt, here, putBack, Line, Shared, World, Layer, Call, hand, does, asks, Act, takes, acts, isMore, calls, Wire, dealt, byHead, next, plainly, stringOf, unread, Hands, Sound, Ready, AllFit}
 use Rattle.stream.specs.Claims.{Left, ReadOut}
 use Rattle.stream.proofs.Runs.{shift-shift, shift-zero, run-nil, run-cons}
+use Rattle.stream.proofs.Lists.{length-snoc, drop-past}
 use Rattle.stream.proofs.Kept.{shut-only, step-open, store-length}
 use Rattle.stream.proofs.Heads.{Ran, head-run}
 use Rattle.stream.proofs.Order.{set-same}
 use Rattle.stream.proofs.World.{taken, steps, stepLine, lands, rules, byte, byte-shut, byte-by, calls-steps, run-order}
-
-len-snoc : (p : List ℕ) (b : ℕ) → length (p ++ (b ∷ [])) ≡ length p + 1
-len-snoc p b = length-append p (b ∷ [])
-
-append-none : {X : Type 0} (l : List X) → l ++ [] ≡ l
-append-none [] = refl
-append-none {X} (x ∷ l) = ap (λ (r : List X). x ∷ r) (append-none l)
-
-drop-past : (p : List ℕ) (b : ℕ) (rest : List ℕ) → drop (length p + 1) (p ++ (b ∷ rest)) ≡ rest
-drop-past p b rest = ap (drop (length p + 1)) (sym (append-assoc p (b ∷ []) rest)) ∙ drop-at (p ++ (b ∷ [])) rest (length p + 1) (len-snoc p b)
 
 step-run : (f : Framing) (m : List ℕ) (b : ℕ) (bs : List ℕ) (a : Answer) → stepOf f b .answer ≡ a
     → runOf f m (b ∷ bs) ≡ after a (stepOf f b .framing) (storeOf f m b) (runOf (stepOf f b .framing) (storeOf f m b) bs)
@@ -91,9 +81,9 @@ module _ {P : Type 0} (f : Framing) (m : List ℕ) (n : ℕ) (w : Wire P) (p : L
         start = k .start;
         room = k .room;
         left = k .left ∙ sym (append-assoc p (b ∷ []) rest);
-        place = ap (λ (j : ℕ). j + 1) (k .place) ∙ add-assoc (w .taken) (length p) 1 ∙ ap (λ (j : ℕ). w .taken + j) (sym (len-snoc p b));
+        place = ap (λ (j : ℕ). j + 1) (k .place) ∙ add-assoc (w .taken) (length p) 1 ∙ ap (λ (j : ℕ). w .taken + j) (sym (length-snoc p b));
         runs = λ bs. ap (runOf fresh (k .start)) (append-assoc p (b ∷ []) bs) ∙ k .runs (b ∷ bs) ∙ ap (shift (length p)) (step-run f m b bs More e)
-            ∙ shift-shift (length p) 1 (runOf (stepOf f b .framing) (storeOf f m b) bs) ∙ ap (λ (j : ℕ). shift j (runOf (stepOf f b .framing) (storeOf f m b) bs)) (sym (len-snoc p b));
+            ∙ shift-shift (length p) 1 (runOf (stepOf f b .framing) (storeOf f m b) bs) ∙ ap (λ (j : ℕ). shift j (runOf (stepOf f b .framing) (storeOf f m b) bs)) (sym (length-snoc p b));
       }
 
   pub is-message : (b : ℕ) (rest : List ℕ) (v : ℕ) → stepOf f b .answer ≡ Message v → Mid f m n w p (b ∷ rest) → IsMessage f m w p b v (headOf (w .left))
@@ -176,7 +166,7 @@ rel-left {P} l w p r = go (w .shut) refl
         record {
           who = r .who;
           framing = q .framing ∙ sym (ap (λ (t : Bool). cond t Shut (framingOf (w .left))) e);
-          taken = r .mid e .place ∙ ap (λ (s : List ℕ). w .taken + length s) (sym (r .mid e .left ∙ append-none p)) ∙ sym (ap (λ (t : Bool). w .taken + cond t 0 (length (w .left))) e);
+          taken = r .mid e .place ∙ ap (λ (s : List ℕ). w .taken + length s) (sym (r .mid e .left ∙ append-nil p)) ∙ sym (ap (λ (t : Bool). w .taken + cond t 0 (length (w .left))) e);
           half = λ z. q .half;
         }
 

@@ -1,7 +1,7 @@
 -- The calls of a host are the bytes one by one; so their cut says nothing, and of their order only the order of the events. Assumes nothing.
 use Prim.Native.Nat.{ℕ, zero, suc, _+_, _-_, _≤_, _<_}
 use mathlib.Core.Path.{_≡_, refl, sym, ap, _∙_, subst}
-use mathlib.Core.List.{List, [], _∷_, _++_, append-assoc}
+use mathlib.Core.List.{List, [], _∷_, _++_, append-assoc, append-nil}
 use mathlib.Core.Bool.{Bool, true, false, cond}
 use native.Mathlib.Nat.{add-zero, add-assoc, not-suc-le-zero}
 use native.Mathlib.Numerals.{one-add}
@@ -15,8 +15,9 @@ use Rattle.stream.specs.declared.Answer.{Answer}
 use Rattle.stream.specs.declared.Answer.the-variants.{Message, Refused, More}
 use Rattle.stream.specs.Stream.{bodyLimit, isShut, inForm, stepOf, storeOf, Out, out, shift, runOf}
 use Rattle.stream.specs.Frames.{message, refused}
-use Rattle.stream.specs.Order.{Did, Step, at, other, Mark, happened, asked, here, putBack, actsOf, Rules, act, step, run, marks}
-use Rattle.stream.specs.World.{Line, Shared, World, Called, Layer, Call, hand, does, asks, Act, takes, acts, bytes, given, joined, isMore, noteIf, answered, feed, handed, handedAll, acted, hosted, call, calls, noted, halted, called, Fine, Sound, Ready, AllFit}
+use Rattle.stream.proofs.Order.{Step, at, other, actsOf, Rules, act, step, run, marks}
+use Rattle.stream.specs.World.{Did, Mark, happened, asked, here, putBack, Line, Shared, World, Called, Layer, Call, hand, does, asks, Act, takes, acts, bytes, given, joined, isMore, noteIf, answered, feed, handed, handedAll, acted, hosted, call, calls, noted, halted, called, Fine, Sound, Ready, AllFit}
+use Rattle.stream.proofs.Lists.{cancel}
 use Rattle.stream.proofs.Kept.{shut-only, step-form, step-open, store-length, run-form, run-length, run-within, run-some, run-all}
 use Rattle.stream.proofs.Order.{here-back, back-back, back-here, order}
 
@@ -318,22 +319,11 @@ module _ {P A B O : Type 0} (L : Layer P A B O) where
         go true e = refl
         go false e = ap (λ (l : List (Mark O)). l ++ m) (happens-order i (d .line) (d .shared) b e) ∙ append-assoc (d .shared .order) (happened i ∷ []) m
 
-    append-none : (l : List (Mark O)) → l ++ [] ≡ l
-    append-none [] = refl
-    append-none (x ∷ l) = ap (λ (r : List (Mark O)). x ∷ r) (append-none l)
-
     pub run-order : (xs : List (Step (Act B) O)) (s : World P A O) → runs s xs .shared .order ≡ s .shared .order ++ marks rules s xs
     unfolding run marks step
-    run-order [] s = sym (append-none (s .shared .order))
+    run-order [] s = sym (append-nil (s .shared .order))
     run-order (at i b ∷ xs) s = run-order xs (step rules s (at i b)) ∙ act-order i (here s i) b (marks rules (step rules s (at i b)) xs)
     run-order (other o ∷ xs) s = run-order xs (step rules s (other o)) ∙ append-assoc (s .shared .order) (asked o ∷ []) (marks rules (step rules s (other o)) xs)
-
-    cancel : (l a b : List (Mark O)) → l ++ a ≡ l ++ b → a ≡ b
-    cancel [] a b h = h
-    cancel (x ∷ l) a b h = cancel l a b (tail h)
-      where
-        tail : {x : Mark O} {u v : List (Mark O)} → x ∷ u ≡ x ∷ v → u ≡ v
-        tail h = cc
 
     pub same-end : (cs ds : List (Call B O)) (s : World P A O) → Ready Peer Good s → AllFit Fits cs → AllFit Fits ds → ((i : ℕ) → given i cs ≡ given i ds)
         → calls L s cs .shared .order ≡ calls L s ds .shared .order → calls L s cs ≡ calls L s ds

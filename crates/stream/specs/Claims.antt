@@ -2,16 +2,15 @@
 use Prim.Native.Nat.{ℕ, _+_, _≤_}
 use mathlib.Core.Path.{_≡_}
 use mathlib.Core.List.{List, []}
-use mathlib.Core.Bool.{Bool, false, cond}
-use lib.ListN.{length, take}
+use mathlib.Core.Bool.{Bool, true, false, cond}
+use lib.ListN.{length, take, drop}
 use Rattle.stream.specs.declared.Framing.{Framing}
 use Rattle.stream.specs.declared.Framing.the-variants.{Shut, Prefix, Body}
 use Rattle.stream.specs.declared.Answer.{Answer}
 use Rattle.stream.specs.declared.Answer.the-variants.{Message, Refused, More}
-use Rattle.stream.specs.Stream.{bodyLimit, fresh, Out, receiveOf}
+use Rattle.stream.specs.Stream.{bodyLimit, fresh, inForm, Out, receiveOf, endOf}
 use Rattle.stream.specs.Frames.{Event, Frames, frames, framingOf, halfOf, puts}
-use Rattle.stream.specs.Order.{Did, Sys}
-use Rattle.stream.specs.World.{Line, Shared, World, Layer, Call, joined, given, handedAll, calls, bare, Wire, plainly, unread, Hands, Fine, Sound, Ready, AllFit}
+use Rattle.stream.specs.World.{Did, Sys, Line, Shared, World, Layer, Call, joined, given, handedAll, calls, bare, Wire, plainly, unread, Hands, Fine, Sound, Ready, AllFit}
 
 -- ---- 1. Pieces cut anywhere, empty ones too, give what the whole string gives: whatever the layer above keeps of events, with their places
 -- and bodies, the final framing and the buffer
@@ -101,3 +100,22 @@ abbrev pub Past : Type 0
 Past =
     (f : Framing) (m n bs : List ℕ) → bodyLimit ≤ length m → bodyLimit ≤ length n → take (bodySoFar f) m ≡ take (bodySoFar f) n
     → (receiveOf f m bs .got ≡ receiveOf f n bs .got) × (bodyIn (receiveOf f m bs) ≡ bodyIn (receiveOf f n bs))
+
+-- ---- 7. The bytes past the body so far stay, and all of them where no body is begun: a refusal and an empty message touch no byte
+
+abbrev pub reach : Out → ℕ
+reach o = length (bodyIn o)
+
+abbrev pub Later : Type 0
+Later = (f : Framing) (m bs : List ℕ) → bodyLimit ≤ length m → drop (reach (receiveOf f m bs)) (receiveOf f m bs .buffer) ≡ drop (reach (receiveOf f m bs)) m
+
+-- ---- 8. Form is kept: a connection as the last call handed it back never gives 0
+pub record FormKept : Type 0 where
+  pub opens : inForm fresh ≡ true
+  pub receives : (f : Framing) (m bs : List ℕ) → inForm f ≡ true → inForm (receiveOf f m bs .got .framing) ≡ true
+  pub ends : (f : Framing) → inForm f ≡ true → inForm (endOf f .framing) ≡ true
+
+-- ---- 9. A call takes no more than is there, and a message is no longer than the buffer asked for: the layer above may cut both
+pub record Bounded : Type 0 where
+  pub taken : (f : Framing) (m bs : List ℕ) → receiveOf f m bs .got .taken ≤ length bs
+  pub message : (f : Framing) (m bs : List ℕ) (n : ℕ) → receiveOf f m bs .got .answer ≡ Message n → (n ≤ bodyLimit) × (bodyLimit ≤ length m)

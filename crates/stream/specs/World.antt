@@ -11,7 +11,32 @@ use Rattle.stream.specs.declared.Answer.{Answer}
 use Rattle.stream.specs.declared.Answer.the-variants.{Message, Refused, More}
 use Rattle.stream.specs.Stream.{bodyLimit, isShut, inForm, Out, runOf, receiveOf}
 use Rattle.stream.specs.Frames.{Event, message, refused, Head, partly, whole, bad, headOf}
-use Rattle.stream.specs.Order.{Did, Sys, Mark, happened, asked, here, putBack}
+
+-- ---- lines and what they share
+
+-- a line and what is shared
+pub record Did (L A : Type 0) : Type 0 where
+  pub line : L
+  pub shared : A
+
+-- all lines and what is shared
+pub record Sys (L A : Type 0) : Type 0 where
+  pub lines : ℕ → L
+  pub shared : A
+
+-- what there is to see of the order: an event on line i, or another call
+pub data Mark (O : Type 0) : Type 0 where
+  happened : ℕ → Mark O
+  asked : O → Mark O
+
+abbrev pub setAt : {L : Type 0} → (ℕ → L) → ℕ → L → ℕ → L
+setAt f i v = λ j. cond (eqb j i) v (f j)
+
+abbrev pub here : {L A : Type 0} → Sys L A → ℕ → Did L A
+here s i = record { line = s .lines i; shared = s .shared }
+
+abbrev pub putBack : {L A : Type 0} → Sys L A → ℕ → Did L A → Sys L A
+putBack s i d = record { lines = setAt (s .lines) i (d .line); shared = d .shared }
 
 -- ---- a connection and what the layer above makes of it
 

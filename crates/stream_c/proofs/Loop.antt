@@ -1,11 +1,11 @@
 -- The loop that hands a stream over in pieces: what is left to play from a place on completes the whole. Assumes nothing.
 use Prim.Native.Nat.{ℕ, zero, suc, _+_, _-_, _≤_, _<_}
 use mathlib.Core.Path.{_≡_, refl, sym, ap, _∙_, subst}
-use mathlib.Core.List.{List, [], _++_}
+use mathlib.Core.List.{List, []}
 use mathlib.Core.Bool.{Bool, true, false, cond}
 use native.Mathlib.Nat.{add-zero}
 use native.Mathlib.Omega.{arith}
-use lib.ListN.{length, drop, drop-of-length-le, take-append-drop}
+use lib.ListN.{length, drop, drop-of-length-le}
 use lib.Seq.{drop-drop, drop-append-le}
 use lib.Dec.{ltb}
 use borrow.Author.Tests.{ltb-true, ltb-false}
@@ -18,10 +18,10 @@ use Rattle.stream.specs.declared.Answer.{Answer}
 use Rattle.stream.specs.declared.Answer.the-variants.{Message, Refused, More}
 use Rattle.stream.specs.declared.Received.{Received}
 use Rattle.stream.specs.Stream.{bodyLimit, fresh, isShut, inForm, Out, out, runOf, stays, Gives, receiveOf}
-use Rattle.stream.specs.Order.{Did, Mark}
-use Rattle.stream.specs.World.{Line, Shared, isMore, feed, Sound}
+use Rattle.stream.specs.World.{Did, Mark, Line, Shared, isMore, feed, Sound}
 use Rattle.stream.specs.Claims.{alone, opened, Anyone}
 use Rattle.stream.proofs.Steps.{call-small, call-shut, call-runs}
+use Rattle.stream.proofs.Lists.{part-rest}
 use Rattle.stream.proofs.Kept.{run-form, run-length, run-within, run-some, run-all, receive-within}
 use Rattle.stream.proofs.World.{lands, play, play-nil, play-append, play-shut, play-run, handed-play}
 use Rattle.stream.proofs.Claims.{own-receive}
@@ -39,12 +39,6 @@ standing f m at k ms = record { line = record { who = tt; framing = f; buffer = 
 sound : Sound (alone tally) (Anyone {X = Unit {0}}) (Anyone {X = ℕ}) (Anyone {X = ⊥})
 sound = own-receive (Unit {0}) ℕ ⊥ ⊥ (λ i p a e. tally a e) (λ i p a e. false) (λ i b l a. absurd b) (λ a o. absurd o) (λ b. Unit {0}) (λ i b l a. absurd b)
 
--- ---- a piece and what follows it
-piece-rest : (bs : List ℕ) (a e : ℕ) → a ≤ e → part bs a e ++ drop e bs ≡ drop a bs
-piece-rest bs a e h =
-    let q : a + (e - a) ≡ e = omega arith in
-    ap (λ (l : List ℕ). part bs a e ++ l) (sym (drop-drop (e - a) a bs ∙ ap (λ (n : ℕ). drop n bs) q)) ∙ take-append-drop (e - a) (drop a bs)
-
 -- a run over a piece, and what is left to play
 play-piece : (d : Host) (bs : List ℕ) (a e : ℕ) → a ≤ e → e ≤ length bs → isShut (d .line .framing) ≡ false
     → (o : Out) → runOf (d .line .framing) (d .line .buffer) (part bs a e) ≡ o → plays d (drop a bs) ≡ plays (lands (alone tally) 0 d o) (drop (a + o .got .taken) bs)
@@ -52,11 +46,11 @@ play-piece d bs a e h l s o q =
     let p : List ℕ = part bs a e in
     let n : ℕ = o .got .taken in
     let w : n ≤ length p = subst (λ (x : Out). x .got .taken ≤ length p) q (run-within p (d .line .framing) (d .line .buffer)) in
-    ap (plays d) (sym (piece-rest bs a e h))
+    ap (plays d) (sym (part-rest bs a e h))
     ∙ play-append (alone tally) 0 d p (drop e bs)
     ∙ ap (λ (y : Host). plays y (drop e bs)) (play-run (alone tally) p 0 d s ∙ ap (λ (x : Out). plays (lands (alone tally) 0 d x) (drop (x .got .taken) p)) q)
     ∙ sym (play-append (alone tally) 0 (lands (alone tally) 0 d o) (drop n p) (drop e bs))
-    ∙ ap (plays (lands (alone tally) 0 d o)) (sym (drop-append-le n p (drop e bs) w) ∙ ap (drop n) (piece-rest bs a e h) ∙ drop-drop n a bs)
+    ∙ ap (plays (lands (alone tally) 0 d o)) (sym (drop-append-le n p (drop e bs) w) ∙ ap (drop n) (part-rest bs a e h) ∙ drop-drop n a bs)
 
 -- ---- the loop
 pub record Going (m₀ bs m : List ℕ) (f : Framing) (at k : ℕ) : Type 0 where

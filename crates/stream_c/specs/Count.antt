@@ -6,8 +6,7 @@ use mathlib.Core.List.{List}
 use Rattle.stream.specs.declared.Answer.{Answer}
 use Rattle.stream.specs.declared.Answer.the-variants.{Message, Refused, More}
 use Rattle.stream.specs.Frames.{Event, message, refused}
-use Rattle.stream.specs.Order.{Did}
-use Rattle.stream.specs.World.{Line, Shared, handed}
+use Rattle.stream.specs.World.{Did, Line, Shared, handed}
 use Rattle.stream.specs.Claims.{alone, opened}
 
 abbrev pub tally : ℕ → Event → ℕ
