@@ -1,0 +1,13 @@
+pub mod Lists
+pub mod Runs
+pub mod Steps
+pub mod Order
+pub mod Kept
+pub mod World
+pub mod Heads
+pub mod Frames
+pub mod Plain
+pub mod Past
+pub mod Later
+pub mod Claims
+pub mod Examples

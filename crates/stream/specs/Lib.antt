@@ -1,0 +1,6 @@
+pub mod Stream
+pub mod Inner
+pub mod Frames
+pub mod World
+pub mod Claims
+pub mod Examples
