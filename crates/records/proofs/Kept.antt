@@ -1,31 +1,44 @@
--- What a store gives after a put that writes: it stays in form, the key gives the new value, and every other key what it gave. Assumes nothing.
-use mathlib.Core.Path.{_≡_, refl, sym, ap, _∙_, subst}
+-- What a store gives, and what after a put that writes: it stays in form, the key gives the new value, and every other key what it gave. Assumes nothing.
+use mathlib.Core.Path.{_≡_, refl, sym, ap, ap₂, _∙_, subst}
 use mathlib.Core.Logic.{⊎-elim}
 use mathlib.Core.Bool.{Bool, true, false, not, _&&_, _||_, cond}
 use mathlib.Core.List.{List}
-use Prim.Native.Nat.{ℕ, _+_, _*_, _<_, _≤_}
+use Prim.Native.Nat.{ℕ, _+_, _*_, _-_, _<_, _≤_, min}
 use native.Mathlib.Omega.{arith}
 use lib.Dec.{ltb, eqb}
 use lib.ListN.{length}
 use lib.Seq.{sets}
 use borrow.Author.Tests.{ltb-true, ltb-false, lt-ltb, le-ltb, eqb-true, eqb-false, not-true}
-use Rattle.octets.specs.Octets.{same}
+use Rattle.octets.specs.Octets.{part, same}
 use Rattle.octets.specs.Search.{all, first}
-use Rattle.octets.proofs.Bools.{and-i, or-r, not-both, to-false, either, eq-or-ne}
+use Rattle.octets.proofs.Bools.{and-i, or-r, not-both, to-false, either, eq-or-ne, cond-yes, cond-no}
 use Rattle.octets.proofs.Searching.{all-at, all-intro, first-hit, first-same}
+use Rattle.octets.proofs.Parts.{part-part}
 use Rattle.octets.proofs.Strings.{same-refl, same-no}
 use Rattle.recipe.specs.Limits.{trailerSize, valueMax}
 use Rattle.recipe.specs.Recipe.{isRecipe}
 use Rattle.recipe.proofs.Trailer.{recipe-least, recipe-most}
-use Rattle.records.specs.Limits.{keyMax, slotSize}
-use Rattle.records.specs.Store.{slotsOf, slot, used, keyOf, sizeOf, valueOf, slotBytes, isKey, isRecord, holds, apart, fits, inForm, slotWith, freeSlot, planOf}
+use Rattle.records.specs.Limits.{keyMax, valueAt, slotSize}
+use Rattle.records.specs.Store.{slotsOf, slot, used, keyOf, sizeOf, valueOf, slotBytes, isKey, isRecord, holds, apart, fits, inForm, slotWith, freeSlot, heldAt, found, planOf}
 use Rattle.records.specs.History.{Got, Has, None, got}
+use Rattle.records.specs.declared.Found.{Found}
+use Rattle.records.specs.declared.Found.the-variants.{Held, NotHeld}
 use Rattle.records.specs.declared.Plan.the-variants.{Write}
-use Rattle.records.proofs.Laying.{key-most, key-least, record-is}
+use Rattle.records.proofs.Laying.{slot-in, slot-long, value-size, value-cut, key-most, key-least, record-is}
 use Rattle.records.proofs.Putting.{with-holds, with-before, free-unused, holds-out, holds-in, form-record, form-apart, write-key, write-recipe, write-where, write-in}
 use Rattle.records.proofs.Written.{bytes-size, bytes-used, bytes-key, bytes-count, bytes-value, written-slots, written-same, written-other}
 
 -- ---- what a key gives
+value-part : (t : List ℕ) (i : ℕ) → i < slotsOf t → valueOf (slot t i) ≡ part t (i * slotSize + valueAt) (i * slotSize + valueAt + length (valueOf (slot t i)))
+unfolding slot
+value-part t i l =
+    let n : ℕ = length (valueOf (slot t i)) in
+    let h : length (slot t i) ≡ slotSize = slot-long t i l in
+    let m : length (valueOf (slot t i)) ≡ min (sizeOf (slot t i)) valueMax = value-size (slot t i) h in
+    let e : i * slotSize + (valueAt + length (valueOf (slot t i))) ≡ i * slotSize + valueAt + length (valueOf (slot t i)) = omega arith in
+    sym (value-cut (slot t i) h m) ∙ part-part t (i * slotSize) (i * slotSize + slotSize) valueAt (valueAt + length (valueOf (slot t i))) (omega arith)
+    ∙ ap (λ (x : ℕ). part t (i * slotSize + valueAt) x) e
+
 pub got-held : (t k : List ℕ) (i : ℕ) → slotWith t k ≡ i → i < slotsOf t → got t k ≡ Has (valueOf (slot t i))
 unfolding got
 got-held t k i e h = rw (e, lt-ltb i (slotsOf t) h)
@@ -33,6 +46,29 @@ got-held t k i e h = rw (e, lt-ltb i (slotsOf t) h)
 pub got-none : (t k : List ℕ) → slotsOf t ≤ slotWith t k → got t k ≡ None
 unfolding got
 got-none t k h = rw (le-ltb (slotWith t k) (slotsOf t) h)
+
+-- where `look` says that a value stands, the value of the key stands; and it says nothing else
+pub found-is : (t k : List ℕ) {a e : ℕ} → found t k ≡ Held a e → (a ≤ e) × (e ≤ length t) × (got t k ≡ Has (part t a e))
+unfolding found heldAt
+found-is t k {a} {e} q = ⊎-elim (λ b. held (ltb-true (slotWith t k) (slotsOf t) b) (sym (cond-yes (ltb (slotWith t k) (slotsOf t)) (heldAt t (slotWith t k)) NotHeld b) ∙ q)) (λ b. lost (sym (cond-no (ltb (slotWith t k) (slotsOf t)) (heldAt t (slotWith t k)) NotHeld b) ∙ q)) (either (ltb (slotWith t k) (slotsOf t)))
+  where
+    lost : NotHeld ≡ Held a e → (a ≤ e) × (e ≤ length t) × (got t k ≡ Has (part t a e))
+    lost w = let z : _≡_ {A = ℕ} 0 1 = cc in absurd (omega arith)
+
+    held : slotWith t k < slotsOf t → Held (slotWith t k * slotSize + valueAt) (slotWith t k * slotSize + valueAt + length (valueOf (slot t (slotWith t k)))) ≡ Held a e → (a ≤ e) × (e ≤ length t) × (got t k ≡ Has (part t a e))
+    held l w =
+        let ea : slotWith t k * slotSize + valueAt ≡ a = cc in
+        let ee : slotWith t k * slotSize + valueAt + length (valueOf (slot t (slotWith t k))) ≡ e = cc in
+        let n = value-size (slot t (slotWith t k)) (slot-long t (slotWith t k) l) in
+        let g = slot-in t (slotWith t k) l in
+        (omega arith, omega arith, got-held t k (slotWith t k) refl l ∙ ap Has (value-part t (slotWith t k) l ∙ ap₂ (λ (x y : ℕ). part t x y) ea ee))
+
+pub found-not : (t k : List ℕ) → found t k ≡ NotHeld → got t k ≡ None
+unfolding found heldAt
+found-not t k q = ⊎-elim (λ b. absurd (held (sym (cond-yes (ltb (slotWith t k) (slotsOf t)) (heldAt t (slotWith t k)) NotHeld b) ∙ q))) (λ b. got-none t k (ltb-false (slotWith t k) (slotsOf t) b)) (either (ltb (slotWith t k) (slotsOf t)))
+  where
+    held : {a e : ℕ} → Held a e ≡ NotHeld → ⊥
+    held w = let z : _≡_ {A = ℕ} 0 1 = cc in omega arith
 
 -- ---- keys apart
 apart-out : (t : List ℕ) (i j : ℕ) → apart t i j ≡ true → holds t (keyOf (slot t i)) j ≡ false
