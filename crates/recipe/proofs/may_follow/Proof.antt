@@ -1,0 +1,23 @@
+-- `may_follow` goes by the case of what came before.
+use mathlib.Core.Path.{refl}
+use Rattle.recipe.specs.Recipe.{follows}
+use borrow.Author.Needs.{needs}
+use Rattle.recipe.proofs.may_follow.Statement.{statement}
+use Rattle.recipe.proofs.may_follow.Tie as tie
+
+enum-told : tie.Need-enum-told
+enum-told c = search needs
+
+enum-known-p : tie.Need-enum-known-p
+enum-known-p c = search needs
+
+returns : tie.Need-returns
+unfolding follows
+returns c = let e = c .enum-told .given .1 in rw e refl
+
+returns-2 : tie.Need-returns-2
+unfolding follows
+returns-2 c = let e = c .before .p .given .1 in rw e refl
+
+pub may-follow-spec : {M : Type 1} → statement M
+may-follow-spec = tie.close (tie.spec enum-told enum-known-p returns returns-2)

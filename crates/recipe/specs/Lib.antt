@@ -1,0 +1,4 @@
+pub mod Limits
+pub mod Recipe
+pub mod Inner
+pub mod Examples

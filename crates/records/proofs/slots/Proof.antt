@@ -1,0 +1,17 @@
+-- `slots` counts the whole slots, up to 256.
+use native.Mathlib.Omega.{arith}
+use mathlib.Core.Path.{refl}
+use Rattle.records.proofs.Laying.{slots-few, slots-many}
+use Rattle.records.proofs.slots.Statement.{statement}
+use Rattle.records.proofs.slots.Tie as tie
+use Rattle.records.proofs.slots.Reads as reads
+use Rattle.records.proofs.slots.Lts as lts
+
+returns : tie.Need-returns
+returns c = slots-few (c .before .args .store .now) refl (omega arith)
+
+returns-2 : tie.Need-returns-2
+returns-2 c = slots-many (c .before .args .store .now) refl (omega arith)
+
+pub slots-spec : {M : Type 1} → statement M
+slots-spec = tie.close (tie.spec returns returns-2)

@@ -1,0 +1,336 @@
+// The record store, on flat bytes that the host lends. A slot has 2,184 bytes: byte 0 is the length of the key (0: the slot is free), 2 and 3 that of
+// the value (low byte first), 8..136 the key, 136..2,184 the value, zeros everywhere else.
+use refusal::Refusal;
+ghost use mathlib.Core.Path.{_≡_};
+ghost use Prim.Native.Nat.{_+_, _*_, _<_, _≤_, min};
+ghost use lib.ListN.{length, replicate};
+ghost use lib.Seq.{sets};
+ghost use Rattle.octets.specs.Search.{all};
+ghost use Rattle.recipe.specs.Limits.{valueMax};
+ghost use Rattle.records.specs.Limits.{slotSize, keyMax};
+ghost use Rattle.records.specs.Store.{slotsOf, slot, keyOf, sizeOf, valueOf, isKey, isRecord, holds, apart, fits, inForm, slotWith, freeSlot, found, findOf, heldPlan, planOf, padded, header, slotBytes, offerAnswer, offerAfter, putAnswer, putAfter};
+ghost use Rattle.records.specs.Inner.{Fitting};
+
+// The limits and the layout; specs/Limits.antt has the same.
+pub const SLOTS_MAX: usize = 256;
+pub const KEY_MIN: usize = 7;
+pub const KEY_MAX: usize = 128;
+pub const KEY_AT: usize = 8;
+pub const VALUE_AT: usize = 136;
+pub const SLOT: usize = 2184;
+
+// How many slots a store has: whole ones, at most 256.
+fn slots(store: &[u8]) -> usize
+    ensures { λ r. ⌜ r ≡ slotsOf (now (store .entry)) ⌝ }
+{
+    let m = store.len() / SLOT;
+    if m < SLOTS_MAX {
+        return m;
+    }
+    SLOTS_MAX
+}
+
+// A record key: /wind/ and 1 to 122 more bytes.
+pub fn is_key(key: &[u8]) -> bool
+    ensures { λ r. ⌜ r ≡ isKey (now (key .entry)) ⌝ }
+{
+    if key.len() < KEY_MIN {
+        return false;
+    }
+    if KEY_MAX < key.len() {
+        return false;
+    }
+    octets::starts_with(key, b"/wind/")
+}
+
+fn slot_at(store: &[u8], i: usize) -> &[u8]
+    requires { ⌜ i < slotsOf (now store) ⌝ }
+    ensures { λ r. ⌜ (now r ≡ slot (now (store .entry)) i) × (length (now r) ≡ slotSize) ⌝ }
+{
+    let a = i * SLOT;
+    let e = a + SLOT;
+    &store[a..e]
+}
+
+fn key_of(s: &[u8]) -> &[u8]
+    requires { ⌜ length (now s) ≡ slotSize ⌝ }
+    ensures { λ r. ⌜ now r ≡ keyOf (now (s .entry)) ⌝ }
+{
+    let n = s[0] as usize;
+    let e = KEY_AT + n;
+    &s[KEY_AT..e]
+}
+
+fn size_of(s: &[u8]) -> usize
+    requires { ⌜ length (now s) ≡ slotSize ⌝ }
+    ensures { λ r. ⌜ r ≡ sizeOf (now (s .entry)) ⌝ }
+{
+    let a = s[2] as usize;
+    let b = s[3] as usize;
+    a + b * 256
+}
+
+// How many bytes of the value a slot has: what its header says, or all there is room for.
+fn held_size(s: &[u8]) -> usize
+    requires { ⌜ length (now s) ≡ slotSize ⌝ }
+    ensures { λ r. ⌜ r ≡ min (sizeOf (now (s .entry))) valueMax ⌝ }
+{
+    let n = size_of(s);
+    if n < recipe::VALUE_MAX {
+        return n;
+    }
+    recipe::VALUE_MAX
+}
+
+fn value_of(s: &[u8]) -> &[u8]
+    requires { ⌜ length (now s) ≡ slotSize ⌝ }
+    ensures { λ r. ⌜ now r ≡ valueOf (now (s .entry)) ⌝ }
+{
+    let e = VALUE_AT + held_size(s);
+    &s[VALUE_AT..e]
+}
+
+// Whether what a used slot holds keeps the limits of a record.
+fn is_record(s: &[u8]) -> bool
+    requires { ⌜ length (now s) ≡ slotSize ⌝ }
+    ensures { λ r. ⌜ r ≡ isRecord (now (s .entry)) ⌝ }
+{
+    if !is_key(key_of(s)) {
+        return false;
+    }
+    let n = size_of(s);
+    if n < recipe::TRAILER {
+        return false;
+    }
+    n <= recipe::VALUE_MAX
+}
+
+// Whether slot i is used and has this key.
+fn slot_holds(store: &[u8], key: &[u8], i: usize) -> bool
+    requires { ⌜ i < slotsOf (now store) ⌝ }
+    ensures { λ r. ⌜ r ≡ holds (now (store .entry)) (now (key .entry)) i ⌝ }
+{
+    let s = slot_at(store, i);
+    if s[0] < 1 {
+        return false;
+    }
+    octets::same_bytes(key_of(s), key)
+}
+
+// Whether no slot before i has the key of slot i.
+fn all_apart(store: &[u8], i: usize) -> bool
+    requires { ⌜ i < slotsOf (now store) ⌝ }
+    ensures { λ r. ⌜ r ≡ all i (apart (now (store .entry)) i) ⌝ }
+{
+    let key = key_of(slot_at(store, i));
+    let mut j: usize = 0;
+    while j < i {
+        if slot_holds(store, key, j) {
+            return false;
+        }
+        j += 1;
+    }
+    true
+}
+
+// Whether slot i is free, or holds a record whose key no slot before it has.
+fn slot_fits(store: &[u8], i: usize) -> bool
+    requires { ⌜ i < slotsOf (now store) ⌝ }
+    ensures { λ r. ⌜ r ≡ fits (now (store .entry)) i ⌝ }
+{
+    let s = slot_at(store, i);
+    if s[0] < 1 {
+        return true;
+    }
+    if !is_record(s) {
+        return false;
+    }
+    all_apart(store, i)
+}
+
+// Whether the store is in form.
+pub fn in_form(store: &[u8]) -> bool
+    ensures { λ r. ⌜ r ≡ inForm (now (store .entry)) ⌝ }
+{
+    let n = slots(store);
+    let mut i: usize = 0;
+    while i < n {
+        if !slot_fits(store, i) {
+            return false;
+        }
+        i += 1;
+    }
+    true
+}
+
+// The slot of a key, or the number of slots where none holds it.
+fn slot_with(store: &[u8], key: &[u8]) -> usize
+    ensures { λ r. ⌜ r ≡ slotWith (now (store .entry)) (now (key .entry)) ⌝ }
+{
+    let n = slots(store);
+    let mut i: usize = 0;
+    while i < n {
+        if slot_holds(store, key, i) {
+            return i;
+        }
+        i += 1;
+    }
+    n
+}
+
+// The lowest free slot, or the number of slots where none is free.
+fn free_slot(store: &[u8]) -> usize
+    ensures { λ r. ⌜ r ≡ freeSlot (now (store .entry)) ⌝ }
+{
+    let n = slots(store);
+    let mut i: usize = 0;
+    while i < n {
+        let s = slot_at(store, i);
+        if s[0] < 1 {
+            return i;
+        }
+        i += 1;
+    }
+    n
+}
+
+// What a key gives: where in the store its value starts and ends.
+pub enum Found {
+    Held { start: usize, end: usize },
+    NotHeld,
+    Refused(Refusal),
+}
+
+// Looks a key up, in a store of any bytes: for callers that have tested the form.
+pub fn look(store: &[u8], key: &[u8]) -> Found
+    ensures { λ r. ⌜ r ≡ found (now (store .entry)) (now (key .entry)) ⌝ }
+{
+    let i = slot_with(store, key);
+    if slots(store) <= i {
+        return Found::NotHeld;
+    }
+    let start = i * SLOT + VALUE_AT;
+    let end = start + held_size(slot_at(store, i));
+    Found::Held { start, end }
+}
+
+// The record of a key, or 0.
+pub fn find(store: &[u8], key: &[u8]) -> Found
+    ensures { λ r. ⌜ r ≡ findOf (now (store .entry)) (now (key .entry)) ⌝ }
+{
+    if !in_form(store) {
+        return Found::Refused(Refusal::OutOfForm);
+    }
+    look(store, key)
+}
+
+// What a put is to do.
+pub enum Plan {
+    Write(usize),
+    Keep,
+    Refuse(Refusal),
+}
+
+// What is to be done with a value, where slot i holds another or the same of its key.
+fn held_plan(held: &[u8], value: &[u8], i: usize) -> Plan
+    ensures { λ r. ⌜ r ≡ heldPlan (now (held .entry)) (now (value .entry)) i ⌝ }
+{
+    if octets::same_bytes(held, value) {
+        return Plan::Keep;
+    }
+    if recipe::outranks(held, value) {
+        return Plan::Refuse(Refusal::Outranked);
+    }
+    Plan::Write(i)
+}
+
+// What a put is to do, with a store of any bytes.
+pub fn plan_put(store: &[u8], key: &[u8], value: &[u8]) -> Plan
+    ensures { λ r. ⌜ r ≡ planOf (now (store .entry)) (now (key .entry)) (now (value .entry)) ⌝ }
+{
+    if !is_key(key) {
+        return Plan::Refuse(Refusal::BreaksRules);
+    }
+    if !recipe::check(value) {
+        return Plan::Refuse(Refusal::BrokenRecipe);
+    }
+    let i = slot_with(store, key);
+    if i < slots(store) {
+        return held_plan(value_of(slot_at(store, i)), value, i);
+    }
+    let j = free_slot(store);
+    if j < slots(store) {
+        return Plan::Write(j);
+    }
+    Plan::Refuse(Refusal::NoRecordSlot)
+}
+
+// Stores n zeros from a place on.
+fn clear(buf: &mut [u8], at: usize, n: usize)
+    requires { ⌜ at + n ≤ length (now buf) ⌝ }
+    ensures { λ _. ⌜ now (buf .exit) ≡ sets (now (buf .entry)) at (replicate n 0) ⌝ }
+{
+    let mut i: usize = 0;
+    while i < n {
+        buf[at + i] = 0;
+        i += 1;
+    }
+}
+
+// Stores the bytes of src from a place on, and zeros after them: n bytes in all.
+fn put_padded(buf: &mut [u8], at: usize, src: &[u8], n: usize)
+    requires { ⌜ (length (now src) ≤ n) × (at + n ≤ length (now buf)) ⌝ }
+    ensures { λ _. ⌜ now (buf .exit) ≡ sets (now (buf .entry)) at (padded n (now (src .entry))) ⌝ }
+{
+    let m = src.len();
+    octets::copy(buf, at, src);
+    clear(buf, at + m, n - m);
+}
+
+fn header_of(k: usize, v: usize) -> [u8; 8]
+    requires { ⌜ (k ≤ keyMax) × (v ≤ valueMax) ⌝ }
+    ensures { λ r. ⌜ r ≡ header k v ⌝ }
+{
+    [k as u8, 0, (v % 256) as u8, (v / 256) as u8, 0, 0, 0, 0]
+}
+
+// Writes a record as a whole slot.
+fn write_slot(store: &mut [u8], at: usize, key: &[u8], value: &[u8])
+    requires { ⌜ Fitting (now store) at (now key) (now value) ⌝ }
+    ensures { λ _. ⌜ now (store .exit) ≡ sets (now (store .entry)) at (slotBytes (now (key .entry)) (now (value .entry))) ⌝ }
+{
+    let head = header_of(key.len(), value.len());
+    octets::copy(store, at, &head);
+    put_padded(store, at + KEY_AT, key, KEY_MAX);
+    put_padded(store, at + VALUE_AT, value, recipe::VALUE_MAX);
+}
+
+// What a put answers.
+pub enum Answer {
+    Taken,
+    Refused(Refusal),
+}
+
+// Offers a record to a store of any bytes: for callers that have tested the form.
+pub fn offer(store: &mut [u8], key: &[u8], value: &[u8]) -> Answer
+    ensures { λ r. ⌜ (r ≡ offerAnswer (now (store .entry)) (now (key .entry)) (now (value .entry))) × (now (store .exit) ≡ offerAfter (now (store .entry)) (now (key .entry)) (now (value .entry))) ⌝ }
+{
+    match plan_put(store, key, value) {
+        Plan::Write(i) => {
+            write_slot(store, i * SLOT, key, value);
+            Answer::Taken
+        }
+        Plan::Keep => Answer::Taken,
+        Plan::Refuse(r) => Answer::Refused(r),
+    }
+}
+
+// Offers a record to the store: 0, or 8 to 11, or it is taken.
+pub fn put(store: &mut [u8], key: &[u8], value: &[u8]) -> Answer
+    ensures { λ r. ⌜ (r ≡ putAnswer (now (store .entry)) (now (key .entry)) (now (value .entry))) × (now (store .exit) ≡ putAfter (now (store .entry)) (now (key .entry)) (now (value .entry))) ⌝ }
+{
+    if !in_form(store) {
+        return Answer::Refused(Refusal::OutOfForm);
+    }
+    offer(store, key, value)
+}
