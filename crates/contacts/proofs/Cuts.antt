@@ -1,8 +1,8 @@
 -- Slots of a table and the parts of a slot, as the code cuts them out. Assumes nothing.
 use Prim.Native.Nat.{ℕ, _+_, _-_, _*_, _/_, _<_, _≤_, min}
-use mathlib.Core.Path.{_≡_, refl, sym, ap, ap₂, _∙_}
+use mathlib.Core.Path.{_≡_, sym, ap, ap₂, _∙_}
 use mathlib.Core.Bool.{true, false, not}
-use mathlib.Core.List.{List, []}
+use mathlib.Core.List.{List}
 use native.Mathlib.Omega.{arith}
 use mathlib.Core.Logic.{⊎-elim}
 use lib.Dec.{ltb, eqb}
@@ -12,9 +12,9 @@ use borrow.Author.Tests.{eq-eqb, ne-eqb, eqb-false, not-true, ltb-true, ltb-fals
 use Rattle.octets.specs.Octets.{Bytes, part}
 use Rattle.octets.proofs.Bools.{either}
 use Rattle.octets.proofs.Parts.{part-part, part-at, part-size, bytes-part}
-use Rattle.contacts.specs.Table.{slotsOf, slot, mark, used, idSize, addressCount, addressSize, place, id, address}
-use Rattle.contacts.specs.Form.{longestId, longestAddress, addressRooms}
-use Rattle.contacts.specs.Contact.{entryId, entryAddress, entryCount}
+use Rattle.contacts.specs.Table.{slotsOf, slot, mark, used, idSize, addressSize, place, id, address}
+use Rattle.contacts.specs.Form.{longestId, longestAddress}
+use Rattle.contacts.specs.Contact.{entryId, entryAddress}
 
 -- ---- whole slots
 pub slots-most : (t : List ℕ) → slotsOf t ≤ 5120

@@ -1,15 +1,15 @@
 -- Being in form as a record of facts, both ways, and what follows from it. Assumes nothing.
 use Prim.Native.Nat.{ℕ, zero, suc, _+_, _<_, _≤_}
-use mathlib.Core.Path.{_≡_, refl, sym, ap, _∙_, subst}
+use mathlib.Core.Path.{_≡_, refl, sym, ap, _∙_}
 use mathlib.Core.Logic.{⊎-elim}
-use mathlib.Core.Bool.{Bool, true, false, not, _&&_, _||_}
+use mathlib.Core.Bool.{Bool, true, not, _&&_, _||_}
 use mathlib.Core.List.{List}
 use native.Mathlib.Omega.{arith}
-use lib.Dec.{ltb, leb, eqb}
+use lib.Dec.{leb, eqb}
 use lib.ListN.{length}
 use borrow.Author.Tests.{lt-ltb, ltb-true, le-leb, leb-true, eq-eqb, eqb-true, eqb-false, ne-eqb, not-true, not-false}
 use Rattle.octets.specs.Octets.{Bytes, same}
-use Rattle.octets.specs.Search.{all, some, allOf}
+use Rattle.octets.specs.Search.{some}
 use Rattle.octets.proofs.Bools.{and-l, and-r, and-i, or-off, or-skip, not-no, not-yes, not-both, to-false, eq-or-ne, all-head, all-rest, all-none, all-one-more}
 use Rattle.octets.proofs.Searching.{all-at, all-intro, some-at, some-intro}
 use Rattle.octets.proofs.Strings.{same-eq, same-yes}

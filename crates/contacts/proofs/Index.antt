@@ -1,6 +1,6 @@
 -- The index that `collect` makes, and what it says of the form. Assumes nothing.
 use Prim.Native.Nat.{ℕ, zero, suc, _+_, _*_, _-_, _%_, _<_, _≤_}
-use mathlib.Core.Path.{_≡_, refl, sym, ap, ap₂, _∙_, subst}
+use mathlib.Core.Path.{_≡_, refl, sym, ap, _∙_, subst}
 use mathlib.Core.Logic.{_⊎_, inl, inr, ⊎-elim}
 use mathlib.Core.Bool.{Bool, true, false, not, _&&_, _||_}
 use mathlib.Core.List.{List}
@@ -10,7 +10,7 @@ use native.Mathlib.Omega.{arith}
 use lib.Dec.{ltb, eqb}
 use lib.ListN.{length, getD, set, length-set, replicate}
 use lib.Seq.{getD-set-same, getD-set-other}
-use borrow.Author.Tests.{lt-ltb, ltb-true, ltb-false, eq-eqb, ne-eqb, eqb-true, eqb-false, not-true, not-false}
+use borrow.Author.Tests.{lt-ltb, ltb-true, ltb-false, eq-eqb, ne-eqb, eqb-false, not-true}
 use Rattle.octets.specs.Octets.{part, same}
 use Rattle.octets.specs.Search.{all}
 use Rattle.octets.proofs.Bools.{either, and-l, and-r, and-i, or-l, or-off, or-skip, not-no, not-both, to-false, same-way, eq-or-ne, cond-yes, cond-no, and-off, and-fails}
@@ -190,6 +190,9 @@ module _ (t o a : List ℕ) (i : ℕ) (x : Indexed t o i a) (li : i < slotsOf t)
               let r = x .from n (subst (λ (m : ℕ). 1 ≤ m) g h) in
               (omega (arith, r .0), subst (λ (m : ℕ). used (slot t (m - 1)) ≡ true) (sym g) (r .1), ap (λ (m : ℕ). keyOf (slot t (m - 1)) o) g ∙ r .2)
 
+pub index-all : (t o a : List ℕ) {n : ℕ} → n ≡ slotsOf t → Indexed t o n a → Indexed t o (slotsOf t) a
+index-all t o a e x = subst (λ (m : ℕ). Indexed t o m a) e x
+
 -- the same of the slot that the code cut out
 module _ (t o a : List ℕ) (i : ℕ) (x : Indexed t o i a) (li : i < slotsOf t) {s : List ℕ} (es : s ≡ slot t i) where
   pub read-free : getD s 0 0 < 1 → Indexed t o (i + 1) a
@@ -364,7 +367,7 @@ module _ (t o a : List ℕ) (x : Indexed t o (slotsOf t) a) where
         let ld : d < k % bucketSize = omega arith in
         let em : k - (d + 1) ≡ m = omega arith in
         let w : otherPlace t (place (slot t (getD a k 0 - 1))) (getD a (k - (d + 1)) 0) ≡ true =
-            all-at (otherBefore t (place (slot t (getD a k 0 - 1))) a k) (k % bucketSize) d (fits-i i li ui (λ z. omega arith) .1) ld in
+        all-at (otherBefore t (place (slot t (getD a k 0 - 1))) a k) (k % bucketSize) d (fits-i i li ui (λ z. omega arith) .1) ld in
         let gi : getD a k 0 ≡ i + 1 = entry-i i li ui in
         let gj : getD a (k - (d + 1)) 0 ≡ j + 1 = ap (λ (n : ℕ). getD a n 0) em ∙ entry-i j lj uj in
         let pi : getD a k 0 - 1 ≡ i = omega arith in

@@ -1,18 +1,18 @@
 -- Sorting by insertion, the used slots sorted, and the twenty nearest as `pass` keeps them. Assumes nothing.
 use mathlib.Core.Path.{_≡_, refl, sym, ap, ap₂, _∙_, subst}
 use mathlib.Core.Bool.{Bool, true, false, cond}
-use mathlib.Core.List.{List, [], _∷_, _++_, append-assoc, append-nil}
-use Prim.Native.Nat.{ℕ, zero, suc, _+_, _-_, _*_, _≤_, _<_, min}
+use mathlib.Core.List.{List, [], _∷_, _++_, append-nil}
+use Prim.Native.Nat.{ℕ, zero, suc, _+_, _-_, _≤_, _<_, min}
 use native.Mathlib.Numerals.{add-one}
-use native.Mathlib.Nat.{le-refl, le-of-lt, le-trans}
+use native.Mathlib.Nat.{le-of-lt, le-trans}
 use native.Mathlib.Omega.{arith}
 use borrow.Author.Tests.{ltb-true, ltb-false, le-ltb, lt-ltb, eq-eqb, ne-eqb}
 use Rattle.octets.proofs.Bools.{cond-yes, cond-no}
 use Rattle.place.specs.Place.{isPlace}
 use Rattle.contacts.specs.declared.Closest.{Closest}
 use lib.Dec.{ltb}
-use lib.ListN.{length, getD, take, drop, replicate, length-take, length-append, length-replicate, drop-of-length-le, List·getD-append}
-use lib.Seq.{take-take, take-all, drop-cons, take-suc, take-append-seam, take-at, length-take-le, getD-take}
+use lib.ListN.{length, getD, take, drop, replicate, length-take, length-append, length-replicate, List·getD-append}
+use lib.Seq.{take-take, take-append-seam, take-at, length-take-le, getD-take}
 use Rattle.contacts.specs.Table.{slotsOf, slot, used, place}
 use Rattle.contacts.specs.Near.{nearestCount, far, insert, sortOnto, usedBelow, sorted, filled, nearestSlots, nearestOf}
 use Rattle.contacts.specs.Inner.{kept, Held}
@@ -67,7 +67,7 @@ all-at none j h = absurd (omega arith)
 all-at (more p a) zero h = p
 all-at (more p a) (suc j) h = all-at a j (omega arith)
 
-all-map : {P Q : ℕ → Type 0} {l : List ℕ} → ((y : ℕ) → P y → Q y) → All P l → All Q l
+pub all-map : {P Q : ℕ → Type 0} {l : List ℕ} → ((y : ℕ) → P y → Q y) → All P l → All Q l
 all-map f none = none
 all-map f (more p a) = more (f _ p) (all-map f a)
 
@@ -76,7 +76,7 @@ all-take zero a = none
 all-take (suc m) none = none
 all-take (suc m) (more p a) = more p (all-take m a)
 
-all-insert : {P : ℕ → Type 0} {l : List ℕ} (d : ℕ → ℕ) (k : ℕ) → P k → All P l → All P (insert d k l)
+pub all-insert : {P : ℕ → Type 0} {l : List ℕ} (d : ℕ → ℕ) (k : ℕ) → P k → All P l → All P (insert d k l)
 unfolding insert
 all-insert d k p none = more p none
 all-insert {P} d k p (more {y} {l} q a) =
@@ -128,7 +128,7 @@ sort-last d done [] k = refl
 sort-last d done (i ∷ l) k = sort-last d (insert d i done) l k
 
 -- one slot more: the step that the pass takes
-sorted-suc : (t x : List ℕ) (k : ℕ) → sorted t x (suc k) ≡ cond (used (slot t k)) (insert (far t x) k (sorted t x k)) (sorted t x k)
+pub sorted-suc : (t x : List ℕ) (k : ℕ) → sorted t x (suc k) ≡ cond (used (slot t k)) (insert (far t x) k (sorted t x k)) (sorted t x k)
 unfolding sorted usedBelow
 sorted-suc t x k =
     elim (used (slot t k)) as (λ b. sortOnto (far t x) [] (usedBelow t k ++ cond b (k ∷ []) []) ≡ cond b (insert (far t x) k (sortOnto (far t x) [] (usedBelow t k))) (sortOnto (far t x) [] (usedBelow t k)))
@@ -142,7 +142,7 @@ sorted-below t x (suc k) =
     rw (sorted-suc t x k) (elim (used (slot t k)) as (λ b. All (λ z. z < suc k) (cond b (insert (far t x) k (sorted t x k)) (sorted t x k)))
     [ true ↦ all-insert (far t x) k (omega arith) h | false ↦ h ])
 
-sorted-asc : (t x : List ℕ) (k : ℕ) → Asc (far t x) (sorted t x k)
+pub sorted-asc : (t x : List ℕ) (k : ℕ) → Asc (far t x) (sorted t x k)
 unfolding sorted usedBelow sortOnto
 sorted-asc t x zero = empty
 sorted-asc t x (suc k) =

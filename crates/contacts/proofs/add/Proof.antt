@@ -5,10 +5,6 @@ use Rattle.contacts.proofs.Sorting.{held-length, held-count, held-put}
 use borrow.Author.Needs.{needs}
 use Rattle.contacts.proofs.add.Statement.{statement}
 use Rattle.contacts.proofs.add.Tie as tie
-use Rattle.contacts.proofs.add.Reads as reads
-use Rattle.contacts.proofs.add.Lts as lts
-use Rattle.contacts.proofs.put.Reads as put-reads
-use Rattle.contacts.proofs.rank.Reads as rank-reads
 
 rank-requires : tie.Need-rank-requires
 rank-requires c κs = search needs

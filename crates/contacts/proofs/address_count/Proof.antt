@@ -8,11 +8,6 @@ use Rattle.contacts.specs.Contact.{entryCount}
 use borrow.Author.Needs.{needs}
 use Rattle.contacts.proofs.address_count.Statement.{statement}
 use Rattle.contacts.proofs.address_count.Tie as tie
-use Rattle.contacts.proofs.address_count.Reads as reads
-use Rattle.contacts.proofs.address_count.Lts as lts
-use Rattle.contacts.proofs.at_most.Reads as at-most-reads
-use Rattle.contacts.proofs.byte.Reads as byte-reads
-use Rattle.contacts.proofs.slot_of.Reads as slot-of-reads
 
 slot-of-requires : tie.Need-slot-of-requires
 slot-of-requires c κs = search needs

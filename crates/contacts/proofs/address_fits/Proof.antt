@@ -1,14 +1,12 @@
 -- `address_fits` tests both bounds.
 use native.Mathlib.Omega.{arith}
-use Prim.Native.Nat.{_+_, _-_}
+use Prim.Native.Nat.{_+_}
 use borrow.Author.Tests.{le-leb, lt-leb}
 use Rattle.contacts.specs.Table.{addressSize}
 use Rattle.contacts.specs.Form.{addressFits}
 use borrow.Author.Needs.{needs}
 use Rattle.contacts.proofs.address_fits.Statement.{statement}
 use Rattle.contacts.proofs.address_fits.Tie as tie
-use Rattle.contacts.proofs.address_fits.Reads as reads
-use Rattle.contacts.proofs.address_fits.Lts as lts
 
 add-n : tie.Need-add-n
 add-n c = search needs

@@ -1,5 +1,5 @@
 -- `address_of` cuts an address at its length, or at 128; there is no fifth.
-use mathlib.Core.Path.{_≡_, _∙_, ap, refl, sym, subst}
+use mathlib.Core.Path.{_∙_, ap, refl, sym, subst}
 use Prim.Native.Nat.{ℕ, _+_, _*_, _≤_}
 use mathlib.Core.List.{List}
 use lib.ListN.{length}
@@ -10,12 +10,6 @@ use Rattle.contacts.proofs.Cuts.{cut-end, entry-address, entry-no-addre
 use borrow.Author.Needs.{needs}
 use Rattle.contacts.proofs.address_of.Statement.{statement}
 use Rattle.contacts.proofs.address_of.Tie as tie
-use Rattle.contacts.proofs.address_of.Reads as reads
-use Rattle.contacts.proofs.address_of.Lts as lts
-use Rattle.contacts.proofs.at_most.Reads as at-most-reads
-use Rattle.contacts.proofs.byte.Reads as byte-reads
-use Rattle.contacts.proofs.slot_of.Reads as slot-of-reads
-use Rattle.contacts.proofs.up_to.Reads as up-to-reads
 
 slot-of-requires : tie.Need-slot-of-requires
 slot-of-requires c κs = search needs

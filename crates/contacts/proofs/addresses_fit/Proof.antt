@@ -9,9 +9,6 @@ use Rattle.octets.proofs.Searching.{all-zero, all-more, all-fails}
 use Rattle.contacts.specs.Form.{addressFits}
 use Rattle.contacts.proofs.addresses_fit.Statement.{statement}
 use Rattle.contacts.proofs.addresses_fit.Tie as tie
-use Rattle.contacts.proofs.addresses_fit.Reads as reads
-use Rattle.contacts.proofs.addresses_fit.Lts as lts
-use Rattle.contacts.proofs.address_fits.Reads as address-fits-reads
 
 abbrev Inv-loop : tie.InvT-loop
 Inv-loop s count k₀ k = (k ≤ count) × (all k (addressFits s) ≡ true)

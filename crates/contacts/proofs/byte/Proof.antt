@@ -5,8 +5,6 @@ use lib.ListN.{List·getD-eq-default}
 use borrow.Author.Needs.{needs}
 use Rattle.contacts.proofs.byte.Statement.{statement}
 use Rattle.contacts.proofs.byte.Tie as tie
-use Rattle.contacts.proofs.byte.Reads as reads
-use Rattle.contacts.proofs.byte.Lts as lts
 
 shared-slice-read-result : tie.Need-shared-slice-read-result
 shared-slice-read-result c = search needs

@@ -1,5 +1,5 @@
 -- `closer` compares the places of two slots.
-use mathlib.Core.Path.{_∙_, ap, ap₂, sym}
+use mathlib.Core.Path.{_∙_, ap₂}
 use mathlib.Core.List.{List}
 use Prim.Native.Nat.{ℕ}
 use lib.Dec.{ltb}
@@ -9,10 +9,6 @@ use Rattle.contacts.specs.Near.{far}
 use borrow.Author.Needs.{needs}
 use Rattle.contacts.proofs.closer.Statement.{statement}
 use Rattle.contacts.proofs.closer.Tie as tie
-use Rattle.contacts.proofs.closer.Reads as reads
-use Rattle.contacts.proofs.closer.Lts as lts
-use Rattle.contacts.proofs.place_at.Reads as place-at-reads
-use Rattle.place.proofs.nearer.Reads as nearer-reads
 
 place-at-requires : tie.Need-place-at-requires
 place-at-requires c κs = search needs

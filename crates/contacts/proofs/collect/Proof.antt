@@ -8,10 +8,6 @@ use Rattle.contacts.proofs.Cuts.{slots-most, slot-whole}
 use Rattle.contacts.proofs.Index.{index-none, read-free, read-bad, read-taken, read-put}
 use Rattle.contacts.proofs.collect.Statement.{statement}
 use Rattle.contacts.proofs.collect.Tie as tie
-use Rattle.contacts.proofs.collect.Reads as reads
-use Rattle.contacts.proofs.collect.Lts as lts
-use Rattle.contacts.proofs.key_of.Reads as key-of-reads
-use Rattle.contacts.proofs.slot_at.Reads as slot-at-reads
 
 abbrev Inv-loop : tie.InvT-loop
 Inv-loop table ours n at₀ i₀ at i = (i ≤ n) × Indexed table ours i at

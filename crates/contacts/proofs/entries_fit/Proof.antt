@@ -9,9 +9,6 @@ use Rattle.octets.proofs.Searching.{all-zero, all-more, all-fails}
 use Rattle.contacts.specs.Inner.{entryFits}
 use Rattle.contacts.proofs.entries_fit.Statement.{statement}
 use Rattle.contacts.proofs.entries_fit.Tie as tie
-use Rattle.contacts.proofs.entries_fit.Reads as reads
-use Rattle.contacts.proofs.entries_fit.Lts as lts
-use Rattle.contacts.proofs.entry_fits.Reads as entry-fits-reads
 
 abbrev Inv-loop : tie.InvT-loop
 Inv-loop table at k₀ k = (k ≤ 5120) × (all k (entryFits table at) ≡ true)

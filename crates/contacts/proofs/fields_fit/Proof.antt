@@ -6,9 +6,6 @@ use Rattle.contacts.proofs.FieldTests.{rank-over, spare-set, id-empty, 
 use borrow.Author.Needs.{needs}
 use Rattle.contacts.proofs.fields_fit.Statement.{statement}
 use Rattle.contacts.proofs.fields_fit.Tie as tie
-use Rattle.contacts.proofs.fields_fit.Reads as reads
-use Rattle.contacts.proofs.fields_fit.Lts as lts
-use Rattle.contacts.proofs.addresses_fit.Reads as addresses-fit-reads
 
 shared-slice-read-mark : tie.Need-shared-slice-read-mark
 shared-slice-read-mark c = search needs

@@ -7,12 +7,6 @@ use Rattle.contacts.proofs.Cuts.{entry-id}
 use borrow.Author.Needs.{needs}
 use Rattle.contacts.proofs.id_of.Statement.{statement}
 use Rattle.contacts.proofs.id_of.Tie as tie
-use Rattle.contacts.proofs.id_of.Reads as reads
-use Rattle.contacts.proofs.id_of.Lts as lts
-use Rattle.contacts.proofs.at_most.Reads as at-most-reads
-use Rattle.contacts.proofs.byte.Reads as byte-reads
-use Rattle.contacts.proofs.slot_of.Reads as slot-of-reads
-use Rattle.contacts.proofs.up_to.Reads as up-to-reads
 
 slot-of-requires : tie.Need-slot-of-requires
 slot-of-requires c κs = search needs

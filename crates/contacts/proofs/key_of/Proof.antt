@@ -6,10 +6,6 @@ use Rattle.contacts.proofs.Index.{key-bad, key-far, key-ok}
 use borrow.Author.Needs.{needs}
 use Rattle.contacts.proofs.key_of.Statement.{statement}
 use Rattle.contacts.proofs.key_of.Tie as tie
-use Rattle.contacts.proofs.key_of.Reads as reads
-use Rattle.contacts.proofs.key_of.Lts as lts
-use Rattle.contacts.proofs.fields_fit.Reads as fields-fit-reads
-use Rattle.place.proofs.bucket.Reads as bucket-reads
 
 fields-fit-requires : tie.Need-fields-fit-requires
 fields-fit-requires c κs = search needs

@@ -7,10 +7,6 @@ use Rattle.contacts.specs.Table.{mark}
 use borrow.Author.Needs.{needs}
 use Rattle.contacts.proofs.mark_of.Statement.{statement}
 use Rattle.contacts.proofs.mark_of.Tie as tie
-use Rattle.contacts.proofs.mark_of.Reads as reads
-use Rattle.contacts.proofs.mark_of.Lts as lts
-use Rattle.contacts.proofs.byte.Reads as byte-reads
-use Rattle.contacts.proofs.slot_of.Reads as slot-of-reads
 
 slot-of-requires : tie.Need-slot-of-requires
 slot-of-requires c κs = search needs

@@ -1,16 +1,11 @@
 -- `other_place` compares two places; an empty entry has none.
-use mathlib.Core.Path.{_≡_}
 use native.Mathlib.Omega.{arith}
-use Prim.Native.Nat.{_+_, _-_}
+use Prim.Native.Nat.{_-_}
 use Rattle.contacts.proofs.Cuts.{slot-whole}
 use Rattle.contacts.proofs.Index.{other-none, other-said}
 use borrow.Author.Needs.{needs}
 use Rattle.contacts.proofs.other_place.Statement.{statement}
 use Rattle.contacts.proofs.other_place.Tie as tie
-use Rattle.contacts.proofs.other_place.Reads as reads
-use Rattle.contacts.proofs.other_place.Lts as lts
-use Rattle.contacts.proofs.place_at.Reads as place-at-reads
-use Rattle.octets.proofs.same_bytes.Reads as same-bytes-reads
 
 returns : tie.Need-returns
 returns c = other-none (c .before .before .before .args .table .now) (c .before .before .before .args .mine .now) (c .before .before .before .args .e) (c .if1 .taken)

@@ -1,10 +1,9 @@
 -- `pass` keeps the nearest of the slots that it has passed.
 use borrow.Author.Needs.{needs}
 use native.Mathlib.Omega.{arith}
-use Prim.Native.Nat.{ℕ, _+_, _*_, _-_, _≤_}
+use Prim.Native.Nat.{_+_, _-_, _≤_}
 use mathlib.Core.Path.{_≡_, refl, sym, ap, _∙_}
 use mathlib.Core.Logic.{⊎-elim}
-use mathlib.Core.List.{List}
 use lib.ListN.{length}
 use Rattle.contacts.specs.Table.{slotsOf, slot}
 use Rattle.contacts.specs.Near.{sortOnto, usedBelow, sorted, filled}
@@ -13,10 +12,6 @@ use Rattle.contacts.proofs.Cuts.{slots-most, slot-whole, mark-cut, mark
 use Rattle.contacts.proofs.Sorting.{kept-free, nearest-kept, nearest-as}
 use Rattle.contacts.proofs.pass.Statement.{statement}
 use Rattle.contacts.proofs.pass.Tie as tie
-use Rattle.contacts.proofs.pass.Reads as reads
-use Rattle.contacts.proofs.pass.Lts as lts
-use Rattle.contacts.proofs.keep.Reads as keep-reads
-use Rattle.contacts.proofs.slots.Reads as slots-reads
 
 abbrev Inv-loop : tie.InvT-loop
 Inv-loop table target end at₀ n₀ k₀ at n k = (k ≤ end) × (n ≡ length (kept table target k)) × (at ≡ filled (kept table target k))
@@ -39,12 +34,12 @@ shared-slice-read-if1 c = omega (arith, slot-whole (c .before .before .before .b
 
 keep-requires : tie.Need-keep-requires Inv-loop μ-loop
 keep-requires c κs = record {
-      long = c .before .before .before .before .before .before .before .before .pre;
-      whole = slot-whole (c .before .before .before .before .before .before .before .before .args .table .now) (c .before .before .before .before .loop .k) (omega (arith, c .before .before .before .before .before .slots .ensures));
-      taken = mark-used (slot (c .before .before .before .before .before .before .before .before .args .table .now) (c .before .before .before .before .loop .k)) (λ z. c .before .if1 .taken (mark-cut (c .before .before .before .before .before .before .before .before .args .table .now) (c .before .before .before .before .loop .k) ∙ z));
-      count = c .before .before .before .before .loop .inv .1;
-      list = c .before .before .before .before .loop .inv .2;
-    }
+  long = c .before .before .before .before .before .before .before .before .pre;
+  whole = slot-whole (c .before .before .before .before .before .before .before .before .args .table .now) (c .before .before .before .before .loop .k) (omega (arith, c .before .before .before .before .before .slots .ensures));
+  taken = mark-used (slot (c .before .before .before .before .before .before .before .before .args .table .now) (c .before .before .before .before .loop .k)) (λ z. c .before .if1 .taken (mark-cut (c .before .before .before .before .before .before .before .before .args .table .now) (c .before .before .before .before .loop .k) ∙ z));
+  count = c .before .before .before .before .loop .inv .1;
+  list = c .before .before .before .before .loop .inv .2;
+}
 
 add-k : tie.Need-add-k Inv-loop μ-loop
 add-k c = omega (arith, c .before .before .before .before .slots .ensures, slots-most (c .before .before .before .before .before .before .before .args .table .now))

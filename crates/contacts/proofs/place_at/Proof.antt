@@ -5,8 +5,6 @@ use Rattle.contacts.proofs.Cuts.{place-cut, place-size}
 use borrow.Author.Needs.{needs}
 use Rattle.contacts.proofs.place_at.Statement.{statement}
 use Rattle.contacts.proofs.place_at.Tie as tie
-use Rattle.contacts.proofs.place_at.Reads as reads
-use Rattle.contacts.proofs.place_at.Lts as lts
 
 mul-a : tie.Need-mul-a
 mul-a c = search needs

@@ -7,10 +7,6 @@ use Rattle.contacts.specs.Table.{place}
 use borrow.Author.Needs.{needs}
 use Rattle.contacts.proofs.place_of.Statement.{statement}
 use Rattle.contacts.proofs.place_of.Tie as tie
-use Rattle.contacts.proofs.place_of.Reads as reads
-use Rattle.contacts.proofs.place_of.Lts as lts
-use Rattle.contacts.proofs.slot_of.Reads as slot-of-reads
-use Rattle.contacts.proofs.up_to.Reads as up-to-reads
 
 slot-of-requires : tie.Need-slot-of-requires
 slot-of-requires c κs = search needs

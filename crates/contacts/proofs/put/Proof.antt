@@ -8,8 +8,6 @@ use lib.ListN.{getD, take, drop}
 use Rattle.contacts.proofs.Shifts.{start-list, start-next, step-list, step-next, ends}
 use Rattle.contacts.proofs.put.Statement.{statement}
 use Rattle.contacts.proofs.put.Tie as tie
-use Rattle.contacts.proofs.put.Reads as reads
-use Rattle.contacts.proofs.put.Lts as lts
 
 abbrev Inv-loop : tie.InvT-loop
 Inv-loop at₀ p k x₀ i₀ at x i = (p ≤ i) × (i ≤ 20) × (at ≡ take i (take p at₀ ++ k ∷ drop p at₀) ++ drop i at₀) × (x ≡ getD (take p at₀ ++ k ∷ drop p at₀) i 0)

@@ -5,9 +5,6 @@ use mathlib.Core.Path.{sym, _∙_}
 use Rattle.contacts.proofs.Sorting.{Halving, halving, halve-left, halve-right, halved, held-length, held-count, held-below}
 use Rattle.contacts.proofs.rank.Statement.{statement}
 use Rattle.contacts.proofs.rank.Tie as tie
-use Rattle.contacts.proofs.rank.Reads as reads
-use Rattle.contacts.proofs.rank.Lts as lts
-use Rattle.contacts.proofs.closer.Reads as closer-reads
 
 abbrev Inv-loop : tie.InvT-loop
 Inv-loop table target at n k low₀ high₀ low high = Halving table target at n k low high

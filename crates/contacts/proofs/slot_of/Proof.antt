@@ -1,18 +1,12 @@
 -- `slot_of` cuts at the table's end where the slot isn't whole.
-use mathlib.Core.Path.{_∙_, ap, sym}
-use Prim.Native.Nat.{ℕ}
+use mathlib.Core.Path.{_∙_}
 use lib.ListN.{length}
 use Prim.Native.Nat.{_*_}
-use lib.Seq.{take-all}
 use native.Mathlib.Omega.{arith}
-use lib.ListN.{length-drop}
 use Rattle.contacts.proofs.Cuts.{slot-none, slot-short, cut-end}
 use borrow.Author.Needs.{needs}
 use Rattle.contacts.proofs.slot_of.Statement.{statement}
 use Rattle.contacts.proofs.slot_of.Tie as tie
-use Rattle.contacts.proofs.slot_of.Reads as reads
-use Rattle.contacts.proofs.slot_of.Lts as lts
-use Rattle.contacts.proofs.slot_at.Reads as slot-at-reads
 
 slot-at-requires : tie.Need-slot-at-requires
 slot-at-requires c κs = search needs

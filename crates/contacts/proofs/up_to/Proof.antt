@@ -1,13 +1,11 @@
 -- `up_to` cuts where s ends, or where n bytes end.
-use mathlib.Core.Path.{_∙_, ap, sym}
+use mathlib.Core.Path.{_∙_}
 use native.Mathlib.Omega.{arith}
-use lib.ListN.{length, drop, take}
+use lib.ListN.{length}
 use Rattle.contacts.proofs.Cuts.{cut-end, cut-none, cut-few, cut-whole}
 use borrow.Author.Needs.{needs}
 use Rattle.contacts.proofs.up_to.Statement.{statement}
 use Rattle.contacts.proofs.up_to.Tie as tie
-use Rattle.contacts.proofs.up_to.Reads as reads
-use Rattle.contacts.proofs.up_to.Lts as lts
 
 sub-result : tie.Need-sub-result
 sub-result c = search needs
