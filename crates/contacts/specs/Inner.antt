@@ -5,8 +5,9 @@ use mathlib.Core.Bool.{Bool, true, cond, not, _&&_, _||_}
 use mathlib.Core.List.{List}
 use lib.Dec.{ltb, eqb}
 use lib.ListN.{length, getD, take}
-use Rattle.octets.specs.Octets.{same}
+use Rattle.octets.specs.Octets.{part, number, same}
 use Rattle.octets.specs.Search.{all}
+use Rattle.contacts.specs.declared.Words.{Words}
 use Rattle.contacts.specs.Table.{slotSize, bucketSize, slotsOf, slot, used, place}
 use Rattle.contacts.specs.Form.{buckets, rank, slotBucket, fieldsFit}
 use Rattle.contacts.specs.Near.{nearestCount, sorted, filled}
@@ -30,6 +31,10 @@ pub record Indexed (t o : List ℕ) (m : ℕ) (a : List ℕ) : Type 0 where
   pub long : length a ≡ indexSize
   pub there : (i : ℕ) → i < m → used (slot t i) ≡ true → (fine (slot t i) o ≡ true) × (getD a (keyOf (slot t i) o) 0 ≡ i + 1)
   pub from : (k : ℕ) → 1 ≤ getD a k 0 → (getD a k 0 ≤ m) × (used (slot t (getD a k 0 - 1)) ≡ true) × (keyOf (slot t (getD a k 0 - 1)) o ≡ k)
+
+-- the four words of a place
+unfoldable pub wordsOf : List ℕ → Words
+wordsOf p = record { a = number (part p 0 8); b = number (part p 8 16); c = number (part p 16 24); d = number (part p 24 32) }
 
 -- the slot of an entry has another place than p; an empty entry has none
 unfoldable pub otherPlace : List ℕ → List ℕ → ℕ → Bool

@@ -11,7 +11,7 @@ ghost use Rattle.contacts.specs.Table.{slotsOf, slot, mark, place};
 ghost use Rattle.contacts.specs.Form.{addressFits, fieldsFit, inForm};
 ghost use Rattle.contacts.specs.Near.{far, insert, filled, nearestOf};
 ghost use Rattle.contacts.specs.Contact.{entryId, entryAddress, entryCount};
-ghost use Rattle.contacts.specs.Inner.{keyOr, Indexed, otherPlace, otherBefore, entryFits, kept, Held};
+ghost use Rattle.contacts.specs.Inner.{keyOr, Indexed, wordsOf, otherPlace, otherBefore, entryFits, kept, Held};
 
 // Bytes of a slot, and the most slots of a table.
 pub const SLOT: usize = 616;
@@ -159,43 +159,65 @@ fn collect(table: &[u8], ours: &[u8], n: usize, at: &mut [u16]) -> bool
     true
 }
 
-// Whether two slots have the same place, a word at a time.
-fn same_place(table: &[u8], i: usize, j: usize) -> bool
-    requires { ⌜ (i * 616 + 616 ≤ length (now table)) × (j * 616 + 616 ≤ length (now table)) ⌝ }
-    ensures { λ r. ⌜ r ≡ same (place (slot (now (table .entry)) i)) (place (slot (now (table .entry)) j)) ⌝ }
+// The four words of a place.
+struct Words {
+    a: u64,
+    b: u64,
+    c: u64,
+    d: u64,
+}
+
+fn words_of(p: &[u8]) -> Words
+    ensures { λ r. ⌜ r ≡ wordsOf (now (p .entry)) ⌝ }
 {
-    let p = i * SLOT + 8;
-    let q = j * SLOT + 8;
-    let mut m: usize = 0;
-    while m < 32 {
-        if octets::word(table, p + m) != octets::word(table, q + m) {
-            return false;
-        }
-        m += 8;
+    let a = octets::word(p, 0);
+    let b = octets::word(p, 8);
+    let c = octets::word(p, 16);
+    let d = octets::word(p, 24);
+    Words { a, b, c, d }
+}
+
+// Whether another place is mine, whose words are w: they are read once for all that mine is compared with.
+fn same_place(mine: &[u8], w: Words, other: &[u8]) -> bool
+    requires { ⌜ (length (now mine) ≡ 32) × (length (now other) ≡ 32) × (w ≡ wordsOf (now mine)) ⌝ }
+    ensures { λ r. ⌜ r ≡ same (now (mine .entry)) (now (other .entry)) ⌝ }
+{
+    if w.a != octets::word(other, 0) {
+        return false;
+    }
+    if w.b != octets::word(other, 8) {
+        return false;
+    }
+    if w.c != octets::word(other, 16) {
+        return false;
+    }
+    if w.d != octets::word(other, 24) {
+        return false;
     }
     true
 }
 
-// Whether the slot of an entry has another place than slot i; an empty entry has none.
-fn other_place(table: &[u8], i: usize, e: u16) -> bool
-    requires { ⌜ (i * 616 + 616 ≤ length (now table)) × (e ≤ slotsOf (now table)) ⌝ }
-    ensures { λ r. ⌜ r ≡ otherPlace (now (table .entry)) (place (slot (now (table .entry)) i)) e ⌝ }
+// Whether the slot of an entry has another place than mine; an empty entry has none.
+fn other_place(table: &[u8], mine: &[u8], w: Words, e: u16) -> bool
+    requires { ⌜ (length (now mine) ≡ 32) × (w ≡ wordsOf (now mine)) × (e ≤ slotsOf (now table)) ⌝ }
+    ensures { λ r. ⌜ r ≡ otherPlace (now (table .entry)) (now (mine .entry)) e ⌝ }
 {
     if e < 1 {
         return true;
     }
-    let j = e as usize - 1;
-    !same_place(table, i, j)
+    let i = e as usize - 1;
+    !same_place(mine, w, place_at(table, i))
 }
 
-// Whether none of the m entries before k has the place of slot i.
-fn alone(table: &[u8], i: usize, at: &[u16], k: usize, m: usize) -> bool
-    requires { ⌜ (i * 616 + 616 ≤ length (now table)) × (k < length (now at)) × (m ≤ k) × ((j : ℕ) → getD (now at) j 0 ≤ slotsOf (now table)) ⌝ }
-    ensures { λ r. ⌜ r ≡ all m (otherBefore (now (table .entry)) (place (slot (now (table .entry)) i)) (now (at .entry)) k) ⌝ }
+// Whether none of the m entries before k has the place mine.
+fn alone(table: &[u8], mine: &[u8], at: &[u16], k: usize, m: usize) -> bool
+    requires { ⌜ (length (now mine) ≡ 32) × (k < length (now at)) × (m ≤ k) × ((j : ℕ) → getD (now at) j 0 ≤ slotsOf (now table)) ⌝ }
+    ensures { λ r. ⌜ r ≡ all m (otherBefore (now (table .entry)) (now (mine .entry)) (now (at .entry)) k) ⌝ }
 {
+    let w = words_of(mine);
     let mut d: usize = 0;
     while d < m {
-        if !other_place(table, i, at[k - (d + 1)]) {
+        if !other_place(table, mine, w, at[k - (d + 1)]) {
             return false;
         }
         d += 1;
@@ -219,7 +241,7 @@ fn entry_fits(table: &[u8], at: &[u16], k: usize) -> bool
         return false;
     }
     let i = e as usize - 1;
-    alone(table, i, at, k, m)
+    alone(table, place_at(table, i), at, k, m)
 }
 
 fn entries_fit(table: &[u8], at: &[u16]) -> bool

@@ -2,7 +2,7 @@
 use mathlib.Core.Path.{_∙_}
 use native.Mathlib.Omega.{arith}
 use Rattle.place.proofs.Distance.{nearer-is, byte-nearer, byte-farther, lead-none}
-use Rattle.contacts.proofs.PlaceWords.{far-pair}
+use Rattle.contacts.proofs.Pairs.{far-pair}
 use borrow.Author.Needs.{needs}
 use Rattle.contacts.proofs.closer.Statement.{statement}
 use Rattle.contacts.proofs.closer.Tie as tie

@@ -1,79 +1,50 @@
--- `same_place` goes on while the words are the same.
-use native.Mathlib.Omega.{arith}
-use Prim.Native.Nat.{_-_, _%_, _≤_}
-use mathlib.Core.Path.{_≡_, refl, sym, _∙_}
-use lib.ListN.{drop}
-use Rattle.octets.specs.Octets.{same}
-use Rattle.contacts.specs.Table.{slot, place}
-use Rattle.contacts.proofs.PlaceWords.{words-other, words-same, words-all}
+-- `same_place` compares one word after the other.
+use mathlib.Core.Path.{_∙_, sym}
+use Rattle.contacts.proofs.Pairs.{word-a, word-b, word-c, word-d, first-differs, second-differs, third-differs, last-differs, none-differs}
+use borrow.Author.Needs.{needs}
 use Rattle.contacts.proofs.same_place.Statement.{statement}
 use Rattle.contacts.proofs.same_place.Tie as tie
+use Rattle.contacts.proofs.same_place.Reads as reads
+use Rattle.contacts.proofs.same_place.Lts as lts
+use Rattle.octets.proofs.word.Reads as word-reads
 
-abbrev Inv-loop : tie.InvT-loop
-Inv-loop table i j p q m₀ m = (m ≤ 32) × (m % 8 ≡ 0) × (same (place (slot table i)) (place (slot table j)) ≡ same (drop m (place (slot table i))) (drop m (place (slot table j))))
+word-requires : tie.Need-word-requires
+word-requires c κs = search needs
 
-abbrev μ-loop : tie.MeasureT-loop
-μ-loop table i j p q m₀ m = 32 - m
+returns : tie.Need-returns
+returns c = first-differs (c .before .before .before .before .before .args .mine .now) (c .before .before .before .before .before .args .other .now) (c .before .before .before .before .before .pre .0) (c .before .before .before .before .before .pre .1) (λ k. c .before .before .before .before .shared-slice-known .given k .fits) (λ k. c .before .before .before .shared-slice-known2 .given k .fits) (λ e. c .if1 .taken (word-a (c .before .before .before .before .before .args .mine .now) (c .before .before .before .before .before .pre .2) ∙ e ∙ sym (c .before .before .word .ensures)))
 
-mul-p : tie.Need-mul-p Inv-loop μ-loop
-mul-p c = omega arith
+word-requires-2 : tie.Need-word-requires-2
+word-requires-2 c κs = search needs
 
-add-p : tie.Need-add-p Inv-loop μ-loop
-add-p c = omega arith
+returns-2 : tie.Need-returns-2
+returns-2 c = second-differs (c .before .before .before .before .before .before .before .before .args .mine .now) (c .before .before .before .before .before .before .before .before .args .other .now) (c .before .before .before .before .before .before .before .before .pre .0) (c .before .before .before .before .before .before .before .before .pre .1) (λ k. c .before .before .before .before .before .before .before .shared-slice-known .given k .fits) (λ k. c .before .before .before .before .before .before .shared-slice-known2 .given k .fits) (sym (word-a (c .before .before .before .before .before .before .before .before .args .mine .now) (c .before .before .before .before .before .before .before .before .pre .2)) ∙ c .before .before .before .if1 .left ∙ c .before .before .before .before .before .word .ensures) (λ e. c .if2 .taken (word-b (c .before .before .before .before .before .before .before .before .args .mine .now) (c .before .before .before .before .before .before .before .before .pre .2) ∙ e ∙ sym (c .before .before .word2 .ensures)))
 
-mul-q : tie.Need-mul-q Inv-loop μ-loop
-mul-q c = omega arith
+word-requires-3 : tie.Need-word-requires-3
+word-requires-3 c κs = search needs
 
-add-q : tie.Need-add-q Inv-loop μ-loop
-add-q c = omega arith
+returns-3 : tie.Need-returns-3
+returns-3 c = third-differs (c .before .before .before .before .before .before .before .before .before .before .before .args .mine .now) (c .before .before .before .before .before .before .before .before .before .before .before .args .other .now) (c .before .before .before .before .before .before .before .before .before .before .before .pre .0) (c .before .before .before .before .before .before .before .before .before .before .before .pre .1) (λ k. c .before .before .before .before .before .before .before .before .before .before .shared-slice-known .given k .fits) (λ k. c .before .before .before .before .before .before .before .before .before .shared-slice-known2 .given k .fits) (sym (word-a (c .before .before .before .before .before .before .before .before .before .before .before .args .mine .now) (c .before .before .before .before .before .before .before .before .before .before .before .pre .2)) ∙ c .before .before .before .before .before .before .if1 .left ∙ c .before .before .before .before .before .before .before .before .word .ensures) (sym (word-b (c .before .before .before .before .before .before .before .before .before .before .before .args .mine .now) (c .before .before .before .before .before .before .before .before .before .before .before .pre .2)) ∙ c .before .before .before .if2 .left ∙ c .before .before .before .before .before .word2 .ensures) (λ e. c .if3 .taken (word-c (c .before .before .before .before .before .before .before .before .before .before .before .args .mine .now) (c .before .before .before .before .before .before .before .before .before .before .before .pre .2) ∙ e ∙ sym (c .before .before .word3 .ensures)))
 
-loop-holds : tie.Need-loop-holds Inv-loop μ-loop
-loop-holds c = (omega arith, omega arith, refl)
+word-requires-4 : tie.Need-word-requires-4
+word-requires-4 c κs = search needs
 
-add-word : tie.Need-add-word Inv-loop μ-loop
-add-word c = omega arith
+returns-4 : tie.Need-returns-4
+returns-4 c = last-differs (c .before .before .before .before .before .before .before .before .before .before .before .before .before .before .args .mine .now) (c .before .before .before .before .before .before .before .before .before .before .before .before .before .before .args .other .now) (c .before .before .before .before .before .before .before .before .before .before .before .before .before .before .pre .0) (c .before .before .before .before .before .before .before .before .before .before .before .before .before .before .pre .1) (λ k. c .before .before .before .before .before .before .before .before .before .before .before .before .before .shared-slice-known .given k .fits) (λ k. c .before .before .before .before .before .before .before .before .before .before .before .before .shared-slice-known2 .given k .fits) (sym (word-a (c .before .before .before .before .before .before .before .before .before .before .before .before .before .before .args .mine .now) (c .before .before .before .before .before .before .before .before .before .before .before .before .before .before .pre .2)) ∙ c .before .before .before .before .before .before .before .before .before .if1 .left ∙ c .before .before .before .before .before .before .before .before .before .before .before .word .ensures) (sym (word-b (c .before .before .before .before .before .before .before .before .before .before .before .before .before .before .args .mine .now) (c .before .before .before .before .before .before .before .before .before .before .before .before .before .before .pre .2)) ∙ c .before .before .before .before .before .before .if2 .left ∙ c .before .before .before .before .before .before .before .before .word2 .ensures) (sym (word-c (c .before .before .before .before .before .before .before .before .before .before .before .before .before .before .args .mine .now) (c .before .before .before .before .before .before .before .before .before .before .before .before .before .before .pre .2)) ∙ c .before .before .before .if3 .left ∙ c .before .before .before .before .before .word3 .ensures) (λ e. c .if4 .taken (word-d (c .before .before .before .before .before .before .before .before .before .before .before .before .before .before .args .mine .now) (c .before .before .before .before .before .before .before .before .before .before .before .before .before .before .pre .2) ∙ e ∙ sym (c .before .before .word4 .ensures)))
 
-word-requires : tie.Need-word-requires Inv-loop μ-loop
-word-requires c κs = omega arith
-
-add-word-2 : tie.Need-add-word-2 Inv-loop μ-loop
-add-word-2 c = omega arith
-
-word-requires-2 : tie.Need-word-requires-2 Inv-loop μ-loop
-word-requires-2 c κs = omega arith
-
-returns : tie.Need-returns Inv-loop μ-loop
-returns c = sym (c .before .before .before .before .loop .inv .2 ∙ words-other (c .before .before .before .before .before .before .args .table .now) (c .before .before .before .before .before .before .args .i) (c .before .before .before .before .before .before .args .j) (c .before .before .before .before .loop .m) (c .before .before .before .before .before .before .pre .0) (c .before .before .before .before .before .before .pre .1) (omega arith) (c .before .before .word .ensures) (c .before .word2 .ensures) (c .if1 .taken))
-
-add-m : tie.Need-add-m Inv-loop μ-loop
-add-m c = omega arith
-
-loop-less : tie.Need-loop-less Inv-loop μ-loop
-loop-less c = omega arith
-
-loop-again : tie.Need-loop-again Inv-loop μ-loop
-loop-again c = (omega arith, omega arith, c .before .before .before .before .loop .inv .2 ∙ words-same (c .before .before .before .before .before .before .args .table .now) (c .before .before .before .before .before .before .args .i) (c .before .before .before .before .before .before .args .j) (c .before .before .before .before .loop .m) (c .before .before .before .before .before .before .pre .0) (c .before .before .before .before .before .before .pre .1) (omega arith) (c .before .before .word .ensures) (c .before .word2 .ensures) (λ k. c .before .before .before .before .before .shared-slice-known .given k .fits) (c .if1 .left))
-
-returns-2 : tie.Need-returns-2 Inv-loop μ-loop
-returns-2 c = sym (c .before .loop .inv .2 ∙ words-all (c .before .before .before .args .table .now) (c .before .before .before .args .i) (c .before .before .before .args .j) (c .before .loop .m) (c .before .before .before .pre .0) (c .before .before .before .pre .1) (c .loop-test .left))
+returns-5 : tie.Need-returns-5
+returns-5 c = none-differs (c .before .before .before .before .before .before .before .before .before .before .before .before .before .before .args .mine .now) (c .before .before .before .before .before .before .before .before .before .before .before .before .before .before .args .other .now) (c .before .before .before .before .before .before .before .before .before .before .before .before .before .before .pre .0) (c .before .before .before .before .before .before .before .before .before .before .before .before .before .before .pre .1) (λ k. c .before .before .before .before .before .before .before .before .before .before .before .before .before .shared-slice-known .given k .fits) (λ k. c .before .before .before .before .before .before .before .before .before .before .before .before .shared-slice-known2 .given k .fits) (sym (word-a (c .before .before .before .before .before .before .before .before .before .before .before .before .before .before .args .mine .now) (c .before .before .before .before .before .before .before .before .before .before .before .before .before .before .pre .2)) ∙ c .before .before .before .before .before .before .before .before .before .if1 .left ∙ c .before .before .before .before .before .before .before .before .before .before .before .word .ensures) (sym (word-b (c .before .before .before .before .before .before .before .before .before .before .before .before .before .before .args .mine .now) (c .before .before .before .before .before .before .before .before .before .before .before .before .before .before .pre .2)) ∙ c .before .before .before .before .before .before .if2 .left ∙ c .before .before .before .before .before .before .before .before .word2 .ensures) (sym (word-c (c .before .before .before .before .before .before .before .before .before .before .before .before .before .before .args .mine .now) (c .before .before .before .before .before .before .before .before .before .before .before .before .before .before .pre .2)) ∙ c .before .before .before .if3 .left ∙ c .before .before .before .before .before .word3 .ensures) (sym (word-d (c .before .before .before .before .before .before .before .before .before .before .before .before .before .before .args .mine .now) (c .before .before .before .before .before .before .before .before .before .before .before .before .before .before .pre .2)) ∙ c .if4 .left ∙ c .before .before .word4 .ensures)
 
 pub same-place-spec : {M : Type 1} → statement M
 same-place-spec =
     tie.close
     (tie.spec
-    Inv-loop
-    μ-loop
-    mul-p
-    add-p
-    mul-q
-    add-q
-    loop-holds
-    add-word
     word-requires
-    add-word-2
-    word-requires-2
     returns
-    add-m
-    loop-less
-    loop-again
-    returns-2)
+    word-requires-2
+    returns-2
+    word-requires-3
+    returns-3
+    word-requires-4
+    returns-4
+    returns-5)
