@@ -1,0 +1,6 @@
+pub mod Varints
+pub mod Reading
+pub mod Reach
+pub mod Scan
+pub mod Within
+pub mod Written
