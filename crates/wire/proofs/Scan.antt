@@ -7,7 +7,7 @@ use native.Mathlib.Omega.{arith}
 use lib.ListN.{length}
 use lib.Dec.{eqb}
 use Rattle.octets.specs.Search.{every, lastOf}
-use Rattle.wire.specs.Wire.{fieldAt, nextOf, more, fieldsFrom, fieldsAt, fine, well, numbers, consNumber, spanIf, consFound, spans, nowhere, firstOf}
+use Rattle.wire.specs.Wire.{fieldAt, nextOf, more, fieldsFrom, fieldsAt, fine, well, numbers, consNumber, spanIf, consFound, spans, nowhere, firstOf, walk, onFound}
 use Rattle.wire.specs.declared.Span.{Span}
 use Rattle.wire.specs.declared.Field.{Field}
 use Rattle.wire.specs.declared.Field.the-variants.{End, Bad as Malformed, Number, Bytes, Other}
@@ -213,3 +213,28 @@ module _ (s : List ℕ) (f from at last : ℕ) (g : lastOf last (numbers f (fiel
   pub number-on : (n : ℕ) → nextOf (fieldAt s at) ≡ On n → (h : Field) → h ≡ fieldAt s at → (v : ℕ) → v ≡ lastOf last (numbers f (h ∷ []))
       → lastOf v (numbers f (fieldsAt s n)) ≡ lastOf 0 (numbers f (fieldsAt s from))
   number-on n e h p v q = rw (← g, at-on s at n e, last-two f (fieldAt s at) (fieldsAt s n) last, q, p)
+
+-- ---- walking a number's bytes fields from 0 yields exactly those, in order
+module _ (s : List ℕ) (f : ℕ) where
+  cursor : ℕ → Found
+  cursor at = firstOf (spans f (fieldsAt s at))
+
+  walk-from : (k at : ℕ) → length s ≤ at + k → walk (suc k) cursor at ≡ spans f (fieldsAt s at)
+  unfolding walk cursor
+  walk-from zero at l = go (firstOf (spans f (fieldsAt s at))) refl
+    where
+      go : (x : Found) → firstOf (spans f (fieldsAt s at)) ≡ x → walk 1 cursor at ≡ spans f (fieldsAt s at)
+      go (At p) e = let i = walk-inside s f at p e in absurd (omega (arith, i .starts, i .ordered, i .ends))
+      go Nothing e = rw (e, walk-none s f at e)
+  walk-from (suc k) at l = go (firstOf (spans f (fieldsAt s at))) refl (walk-from k)
+    where
+      go : (x : Found) → firstOf (spans f (fieldsAt s at)) ≡ x → ((at : ℕ) → length s ≤ at + k → walk (suc k) cursor at ≡ spans f (fieldsAt s at))
+          → walk (suc (suc k)) cursor at ≡ spans f (fieldsAt s at)
+      go (At p) e ih =
+          let i = walk-inside s f at p e in
+          rw (e, ih (p .end) (omega (arith, i .starts, i .ordered)), walk-at s f at p e)
+      go Nothing e ih = rw (e, walk-none s f at e)
+
+  pub walked : (at : ℕ) → walk (suc (length s)) (λ from. firstOf (spans f (fieldsAt s from))) at ≡ spans f (fieldsAt s at)
+  unfolding cursor
+  walked at = walk-from (length s) at (omega arith)

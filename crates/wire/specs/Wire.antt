@@ -159,3 +159,12 @@ spans f (g ∷ fs) = consFound (spanIf f g) (spans f fs)
 unfoldable pub firstOf : List Span → Found
 firstOf [] = Nothing
 firstOf (p ∷ l) = At p
+
+-- a walk: what a cursor finds from a position, then from the end of what it found, and so on, k times at most
+abbrev pub onFound : {A : Type 0} → Found → (Span → A) → A → A
+onFound (At p) f z = f p
+onFound Nothing f z = z
+
+unfoldable pub walk : ℕ → (ℕ → Found) → ℕ → List Span
+walk zero next at = []
+walk (suc k) next at = onFound (next at) (λ p. p ∷ walk k next (p .end)) []

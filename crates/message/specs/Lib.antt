@@ -1,0 +1,4 @@
+pub mod Limits
+pub mod Message
+pub mod View
+pub mod Inner
