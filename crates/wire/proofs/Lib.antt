@@ -3,4 +3,6 @@ pub mod Reading
 pub mod Reach
 pub mod Scan
 pub mod Within
-pub mod Written
+pub mod Digits
+pub mod Putting
+pub mod RoundTrip

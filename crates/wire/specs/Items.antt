@@ -1,5 +1,5 @@
 -- What the fields of a string say, and how fields are written: document 01, 'Message bytes'.
-use Prim.Native.Nat.{ℕ, zero, suc, _+_, _*_, _/_, _%_, max}
+use Prim.Native.Nat.{ℕ, zero, suc, _+_, _*_, _/_, _%_}
 use mathlib.Core.Path.{_≡_}
 use mathlib.Core.List.{List, [], _∷_, _++_, map}
 use mathlib.Core.Bool.{Bool, true, false, cond}
@@ -79,6 +79,7 @@ minimal v = digits 10 v
 unfoldable pub tagged : ℕ → ℕ → List ℕ
 tagged tag v = minimal tag ++ minimal v
 
+-- one field
 unfoldable pub written1 : Item → List ℕ
 written1 (num f v) = tagged (f * 8 + 0) v
 written1 (bytes f b) = tagged (f * 8 + 2) (length b) ++ b
@@ -102,9 +103,9 @@ repeated f (b ∷ bs) = bytes f b ∷ repeated f bs
 
 -- ---- into a buffer
 
--- the place after n bytes from `at` on in a buffer of size bytes; where they don't all fit, the buffer's end, and nothing more fits there
+-- the place after n bytes from `at` on in a buffer of size bytes; where they don't all fit, the buffer's end, or `at` if that lies past it
 unfoldable pub past : ℕ → ℕ → ℕ → ℕ
-past size at n = cond (leb (at + n) size) (at + n) (max at size)
+past size at n = cond (leb (at + n) size) (at + n) (cond (leb at size) size at)
 
 -- the bytes stand in a buffer from a place on, those past its end left out, and r is the place after them
 pub record Put (buf : List ℕ) (at : ℕ) (b buf′ : List ℕ) (r : ℕ) : Type 0 where
