@@ -2,3 +2,5 @@ pub mod Gathering
 pub mod Hearing
 pub mod Meaning
 pub mod Views
+pub mod RoundTrip
+pub mod Sizes
