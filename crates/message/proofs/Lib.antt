@@ -4,3 +4,4 @@ pub mod Meaning
 pub mod Views
 pub mod RoundTrip
 pub mod Sizes
+pub mod Pieces

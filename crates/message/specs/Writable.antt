@@ -3,7 +3,7 @@ use Prim.Native.Nat.{ℕ}
 use mathlib.Core.List.{List, [], _∷_}
 use mathlib.Core.Bool.{Bool, true, cond}
 use mathlib.Core.Option.{Option, none, some}
-use lib.ListN.{length}
+use lib.ListN.{length, take}
 use lib.Dec.{leb}
 use Rattle.octets.specs.Search.{every, allOf}
 use Rattle.wire.specs.Items.{bytes, written1}
@@ -42,3 +42,10 @@ recordPiece r = cond (recordFits r) (written1 (bytes 3 (encodeRecord r))) []
 
 unfoldable pub peerPiece : ℕ → Peer → List ℕ
 peerPiece f p = cond (peerFits p) (written1 (bytes f (encodePeer p))) []
+
+-- a record of a key and a value, and a peer whose addresses are the first n of four
+unfoldable pub recordWith : List ℕ → List ℕ → Record
+recordWith key value = record { key = key; value = value }
+
+unfoldable pub peerWith : List ℕ → ℕ → List ℕ → List ℕ → List ℕ → List ℕ → ℕ → Peer
+peerWith id n a b c d connection = record { id = id; addrs = take n (a ∷ b ∷ c ∷ d ∷ []); connection = connection }
