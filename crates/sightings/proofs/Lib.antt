@@ -1,0 +1,5 @@
+pub mod Slots
+pub mod Tests
+pub mod Moves
+pub mod Dropping
+pub mod Calls
