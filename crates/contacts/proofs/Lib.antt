@@ -1,0 +1,8 @@
+pub mod Cuts
+pub mod FormFacts
+pub mod EntryFacts
+mod FieldTests
+mod Index
+pub mod Sorting
+pub mod TwentyNearest
+mod Shifts
