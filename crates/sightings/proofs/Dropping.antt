@@ -9,10 +9,11 @@ use lib.ListN.{length, take}
 use lib.Seq.{drop-set-lt, getD-set-same}
 use Rattle.octets.proofs.Bools.{not-both}
 use Rattle.place.specs.Place.{bucketOf}
+use Rattle.contacts.proofs.Cuts.{mark-used, used-mark}
 use Rattle.contacts.specs.Table.{slotsOf, slot, mark, used, place}
 use Rattle.sightings.specs.Order.{ofBucket, freeAt, tailOf, withMark, freeBytes, lowered, leave, dropped}
 use Rattle.sightings.proofs.Slots.{slots-put, slot-put, slot-other, slot-long}
-use Rattle.sightings.proofs.Tests.{used-yes, used-mark, of-used, of-is, of-make, free-there, tail-ge, tail-le}
+use Rattle.sightings.proofs.Tests.{of-used, of-is, of-make, free-there, tail-ge, tail-le}
 use Rattle.sightings.proofs.Moves.{lowered-is, leave-slots, leave-at, leave-in, free-long}
 
 -- ---- a changed mark
@@ -34,7 +35,7 @@ module _ (o : List ℕ) (b c m : ℕ) (s : List ℕ) (h : length s ≡ 616) wher
   was f =
       let e : mark (withMark (mark s - 1) s) ≡ mark s - 1 = mark-mark (mark s - 1) s h in
       let u : 1 ≤ mark (withMark (mark s - 1) s) = used-mark (withMark (mark s - 1) s) (of-used o b (withMark (mark s - 1) s) f) in
-      (of-make o b s (used-yes s (λ z. no z u e)) (ap (λ (x : List ℕ). bucketOf x o) (sym (place-mark (mark s - 1) s)) ∙ of-is o b (withMark (mark s - 1) s) f), omega arith)
+      (of-make o b s (mark-used s (λ z. no z u e)) (ap (λ (x : List ℕ). bucketOf x o) (sym (place-mark (mark s - 1) s)) ∙ of-is o b (withMark (mark s - 1) s) f), omega arith)
     where
       no : mark s ≡ 0 → 1 ≤ mark (withMark (mark s - 1) s) → mark (withMark (mark s - 1) s) ≡ mark s - 1 → ⊥
       no z u e = omega arith

@@ -14,11 +14,12 @@ use borrow.Author.Tests.{lt-ltb, le-ltb, eq-eqb, ne-eqb}
 use Rattle.octets.proofs.Bools.{and-i, and-off, and-fails, either, cond-yes, cond-no}
 use Rattle.octets.proofs.Stores.{sets-append}
 use Rattle.place.specs.Place.{bucketOf}
+use Rattle.contacts.proofs.Cuts.{mark-used}
 use Rattle.contacts.specs.Table.{slotsOf, slot, putSlot, mark, place}
 use Rattle.peer.specs.declared.Peer.{Peer}
 use Rattle.sightings.specs.Order.{ofBucket, freeAt, tailOf, withMark, contactBytes, freeBytes, withAddresses, renewed, lowered, each, closeUp, leave, tailed, moveToTail, moveAndRenew, dropped, joinAt, join}
 use Rattle.sightings.proofs.Slots.{slot-long, length-put, slots-put, slot-put, slot-other, put-put, put-self, put-set, put-sets}
-use Rattle.sightings.proofs.Tests.{used-yes, of-make, of-far}
+use Rattle.sightings.proofs.Tests.{of-make, of-far}
 
 -- ---- every slot changed
 module _ (f : List ℕ → List ℕ) (long : (s : List ℕ) → length s ≡ 616 → length (f s) ≡ 616) (t : List ℕ) where
@@ -100,7 +101,7 @@ module _ (t : List ℕ) (i : ℕ) (l : i < slotsOf t) (o : List ℕ) (b m k : �
 
   pub lower-on : m < k → (r : ℕ) → r ≡ bucketOf (place (slot t i)) o → r ≡ b → set t (i * 616) (k - 1) ≡ putSlot t i (lowered o b m (slot t i))
   lower-on h r g z =
-      let f : ofBucket o b (slot t i) ≡ true = of-make o b (slot t i) (used-yes (slot t i) (λ q. bad q)) (sym g ∙ z) in
+      let f : ofBucket o b (slot t i) ≡ true = of-make o b (slot t i) (mark-used (slot t i) (λ q. bad q)) (sym g ∙ z) in
       put-mark t i (k - 1) l ∙ ap (λ (x : ℕ). putSlot t i (withMark (x - 1) (slot t i))) e ∙ sym (ap (putSlot t i) (lowered-on o b m (slot t i) (omega arith) f))
     where
       bad : mark (slot t i) ≡ 0 → ⊥

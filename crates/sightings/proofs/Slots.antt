@@ -11,20 +11,17 @@ use lib.Seq.{sets, length-sets, sets-eq, take-at, drop-at, drop-drop, set-append
 use borrow.Author.Tests.{ltb-true, ltb-false}
 use Rattle.octets.specs.Octets.{part}
 use Rattle.octets.proofs.Bools.{either}
-use Rattle.octets.proofs.Parts.{part-is, part-size, part-at, part-part}
+use Rattle.octets.proofs.Parts.{part-is, part-at, part-part}
 use Rattle.octets.proofs.Stores.{take-sets, drop-sets}
 use Rattle.peer.proofs.Runs.{set-append-add}
-use Rattle.contacts.specs.Table.{slotsOf, slot, putSlot, mark, place}
+use Rattle.contacts.proofs.Cuts.{slot-whole, slot-size}
+use Rattle.contacts.specs.Table.{slotsOf, slot, putSlot}
 
 pub sides : (j i : ℕ) → (j ≡ i → ⊥) → (j < i) ⊎ (i < j)
 sides j i ne = ⊎-elim (λ e. inl (ltb-true j i e)) (λ e. ⊎-elim (λ q. absurd (ne (sym q))) (λ q. inr q) (eq-or-lt-of-le (ltb-false j i e))) (either (ltb j i))
 
 -- ---- reading
 module _ (t : List ℕ) (i : ℕ) where
-  pub in-slot : i < slotsOf t → i * 616 + 616 ≤ length t
-  unfolding slotsOf
-  in-slot l = omega arith
-
   pub few : i < slotsOf t → i < 5120
   unfolding slotsOf
   few l = omega arith
@@ -34,23 +31,11 @@ module _ (t : List ℕ) (i : ℕ) where
   slot-is = part-is t (i * 616) 616
 
   pub slot-long : i < slotsOf t → length (slot t i) ≡ 616
-  unfolding slot
-  slot-long l = part-size t (i * 616) 616 (in-slot l)
+  slot-long l = slot-size t i (slot-whole t i l)
 
   pub slot-byte : (k : ℕ) → k < 616 → getD (slot t i) k 0 ≡ getD t (i * 616 + k) 0
   unfolding slot
   slot-byte k h = part-at t (i * 616) (i * 616 + 616) k (omega arith)
-
-  pub mark-read : getD t (i * 616) 0 ≡ mark (slot t i)
-  unfolding mark
-  mark-read = let e : i * 616 + 0 ≡ i * 616 = omega arith in sym (slot-byte 0 (omega arith) ∙ ap (λ (k : ℕ). getD t k 0) e)
-
-  -- the place as the code cuts it out
-  pub place-read : part t (i * 616 + 8) (i * 616 + 8 + 32) ≡ place (slot t i)
-  unfolding place slot
-  place-read =
-      let e : i * 616 + 8 + 32 ≡ i * 616 + 40 = omega arith in
-      ap (part t (i * 616 + 8)) e ∙ sym (part-part t (i * 616) (i * 616 + 616) 8 40 (omega arith))
 
 -- ---- writing
 module _ (t : List ℕ) (i : ℕ) (s : List ℕ) where
@@ -63,13 +48,13 @@ module _ (t : List ℕ) (i : ℕ) (s : List ℕ) where
   slots-put = rw length-put
 
 front-long : (t : List ℕ) (i : ℕ) → i < slotsOf t → length (take (i * 616) t) ≡ i * 616
-front-long t i l = let g : i * 616 ≤ length t = omega (arith, in-slot t i l) in length-take-le (i * 616) t g
+front-long t i l = let g : i * 616 ≤ length t = omega (arith, slot-whole t i l) in length-take-le (i * 616) t g
 
 module _ (t : List ℕ) (i : ℕ) (s : List ℕ) (l : i < slotsOf t) (h : length s ≡ 616) where
   put-split : putSlot t i s ≡ take (i * 616) t ++ (s ++ drop (i * 616 + 616) t)
   unfolding putSlot
   put-split =
-      let g : i * 616 + length s ≤ length t = omega (arith, in-slot t i l) in
+      let g : i * 616 + length s ≤ length t = omega (arith, slot-whole t i l) in
       sets-eq s t (i * 616) g ∙ append-assoc (take (i * 616) t) s (drop (i * 616 + length s) t) ∙ rw h
 
   pub slot-put : slot (putSlot t i s) i ≡ s

@@ -14,31 +14,18 @@ use Rattle.octets.proofs.Bools.{and-l, and-r, and-i, and-on, and-off, not-both,
 use Rattle.octets.proofs.Searching.{first-is, first-hit, first-miss, first-lt, largest-le, largest-most, largest-at}
 use Rattle.octets.proofs.Strings.{same-eq, same-yes}
 use Rattle.place.specs.Place.{bucketOf}
+use Rattle.contacts.proofs.Cuts.{used-mark, mark-used, mark-free}
 use Rattle.contacts.specs.Table.{slotsOf, slot, mark, used, place}
 use Rattle.sightings.specs.Order.{ofBucket, isAt, isHead, markIn, heldAt, freeAt, tailOf}
 use Rattle.sightings.specs.Sightings.{held}
 
 -- ---- used
 module _ (s : List ℕ) where
-  pub used-no : mark s ≡ 0 → used s ≡ false
-  unfolding used
-  used-no e = ap not (eq-eqb (mark s) 0 e)
-
-  pub used-yes : (mark s ≡ 0 → ⊥) → used s ≡ true
-  unfolding used
-  used-yes e = ap not (ne-eqb (mark s) 0 e)
-
-  pub used-mark : used s ≡ true → 1 ≤ mark s
-  used-mark u = pos (λ e. not-both (used s) u (used-no e))
-    where
-      pos : (mark s ≡ 0 → ⊥) → 1 ≤ mark s
-      pos z = omega arith
-
   pub free-yes : (m : ℕ) → m ≡ mark s → m ≡ 0 → not (used s) ≡ true
-  free-yes m e z = ap not (used-no (sym e ∙ z))
+  free-yes m e z = ap not (mark-free s (sym e ∙ z))
 
   pub free-no : (m : ℕ) → m ≡ mark s → (m ≡ 0 → ⊥) → not (used s) ≡ false
-  free-no m e z = ap not (used-yes (λ q. z (e ∙ q)))
+  free-no m e z = ap not (mark-used s (λ q. z (e ∙ q)))
 
 -- ---- of a bucket
 module _ (o : List ℕ) (b : ℕ) (s : List ℕ) where
@@ -84,7 +71,7 @@ module _ (o : List ℕ) (b : ℕ) (s : List ℕ) (m : ℕ) (e : m ≡ mark s) wh
   pub head-yes : m ≡ 1 → (r : ℕ) → r ≡ bucketOf (place s) o → eqb r b ≡ isHead o b s
   unfolding isHead ofBucket
   head-yes z r g =
-      let u : used s ≡ true = used-yes s (λ q. one (sym e ∙ z) q) in
+      let u : used s ≡ true = mark-used s (λ q. one (sym e ∙ z) q) in
       ap (λ (x : ℕ). eqb x b) g ∙ sym (and-on (eqb (mark s) 1) _ (eq-eqb (mark s) 1 (sym e ∙ z)) ∙ and-on (used s) _ u)
     where
       one : mark s ≡ 1 → mark s ≡ 0 → ⊥
@@ -95,7 +82,7 @@ module _ (o : List ℕ) (b : ℕ) (s : List ℕ) (m : ℕ) (e : m ≡ mark s) wh
     higher-low l = omega (arith, in-le o b s)
 
     above : top < m → used s ≡ true
-    above l = used-yes s (λ q. bad q)
+    above l = mark-used s (λ q. bad q)
       where
         bad : mark s ≡ 0 → ⊥
         bad q = omega arith
@@ -109,11 +96,11 @@ module _ (o : List ℕ) (b : ℕ) (s : List ℕ) (m : ℕ) (e : m ≡ mark s) wh
 module _ (p s : List ℕ) where
   pub at-no : (m : ℕ) → m ≡ mark s → m ≡ 0 → false ≡ isAt p s
   unfolding isAt
-  at-no m e z = sym (and-off (used s) _ (used-no s (sym e ∙ z)))
+  at-no m e z = sym (and-off (used s) _ (mark-free s (sym e ∙ z)))
 
   pub at-yes : (m : ℕ) → m ≡ mark s → (m ≡ 0 → ⊥) → (x : List ℕ) → x ≡ place s → same x p ≡ isAt p s
   unfolding isAt
-  at-yes m e z x g = ap (λ (y : List ℕ). same y p) g ∙ sym (and-on (used s) _ (used-yes s (λ q. z (e ∙ q))))
+  at-yes m e z x g = ap (λ (y : List ℕ). same y p) g ∙ sym (and-on (used s) _ (mark-used s (λ q. z (e ∙ q))))
 
   pub at-used : isAt p s ≡ true → used s ≡ true
   unfolding isAt

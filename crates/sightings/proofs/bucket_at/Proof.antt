@@ -5,7 +5,7 @@ use mathlib.Core.List.{List}
 use Prim.Native.Nat.{ℕ}
 use Rattle.place.specs.Place.{bucketOf}
 use Rattle.contacts.specs.Table.{slotsOf}
-use Rattle.sightings.proofs.Slots.{place-read}
+use Rattle.contacts.proofs.Cuts.{place-cut}
 use borrow.Author.Needs.{needs}
 use Rattle.sightings.proofs.bucket_at.Statement.{statement}
 use Rattle.sightings.proofs.bucket_at.Tie as tie
@@ -38,7 +38,7 @@ bucket-requires : tie.Need-bucket-requires
 bucket-requires c κs = search needs
 
 returns : tie.Need-returns
-returns c = c .bucket .ensures ∙ ap (λ (x : List ℕ). bucketOf x (c .before .before .before .before .args .ours .now)) (place-read (c .before .before .before .before .args .table .now) (c .before .before .before .before .args .i))
+returns c = c .bucket .ensures ∙ ap (λ (x : List ℕ). bucketOf x (c .before .before .before .before .args .ours .now)) (place-cut (c .before .before .before .before .args .table .now) (c .before .before .before .before .args .i))
 
 pub bucket-at-spec : {M : Type 1} → statement M
 bucket-at-spec =

@@ -2,7 +2,7 @@
 use native.Mathlib.Omega.{arith}
 use mathlib.Core.Path.{_∙_}
 use Rattle.contacts.specs.Table.{slotsOf, slot}
-use Rattle.sightings.proofs.Slots.{place-read}
+use Rattle.contacts.proofs.Cuts.{place-cut}
 use Rattle.sightings.proofs.Tests.{at-no, at-yes}
 use borrow.Author.Needs.{needs}
 use Rattle.sightings.proofs.is_at.Statement.{statement}
@@ -42,7 +42,7 @@ same-bytes-requires : tie.Need-same-bytes-requires
 same-bytes-requires c κs = search needs
 
 returns-2 : tie.Need-returns-2
-returns-2 c = c .same-bytes .ensures ∙ at-yes (c .before .before .before .before .before .before .args .p .now) (slot (c .before .before .before .before .before .before .args .table .now) (c .before .before .before .before .before .before .args .i)) _ (c .before .before .before .mark-at .ensures) (c .before .before .if1 .left) _ (place-read (c .before .before .before .before .before .before .args .table .now) (c .before .before .before .before .before .before .args .i))
+returns-2 c = c .same-bytes .ensures ∙ at-yes (c .before .before .before .before .before .before .args .p .now) (slot (c .before .before .before .before .before .before .args .table .now) (c .before .before .before .before .before .before .args .i)) _ (c .before .before .before .mark-at .ensures) (c .before .before .if1 .left) _ (place-cut (c .before .before .before .before .before .before .args .table .now) (c .before .before .before .before .before .before .args .i))
 
 pub is-at-spec : {M : Type 1} → statement M
 is-at-spec =

@@ -1,7 +1,7 @@
 -- `sightings::mark_at` meets its contract. Assumes nothing.
 use native.Mathlib.Omega.{arith}
 use Rattle.contacts.specs.Table.{slotsOf}
-use Rattle.sightings.proofs.Slots.{mark-read}
+use Rattle.contacts.proofs.Cuts.{mark-cut}
 use Rattle.sightings.proofs.mark_at.Statement.{statement}
 use Rattle.sightings.proofs.mark_at.Tie as tie
 
@@ -14,7 +14,7 @@ unfolding slotsOf
 shared-slice-read-result c = omega arith
 
 returns : tie.Need-returns
-returns c = mark-read (c .before .args .table .now) (c .before .args .i)
+returns c = mark-cut (c .before .args .table .now) (c .before .args .i)
 
 pub mark-at-spec : {M : Type 1} → statement M
 mark-at-spec = tie.close (tie.spec mul-result shared-slice-read-result returns)

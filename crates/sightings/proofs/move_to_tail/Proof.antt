@@ -2,7 +2,8 @@
 use native.Mathlib.Omega.{arith}
 use mathlib.Core.Path.{ap, _∙_}
 use lib.ListN.{length}
-use Rattle.sightings.proofs.Slots.{few, in-slot}
+use Rattle.contacts.proofs.Cuts.{slot-whole}
+use Rattle.sightings.proofs.Slots.{few}
 use Rattle.sightings.proofs.Moves.{leave-length, move-done}
 use borrow.Author.Needs.{needs}
 use Rattle.sightings.proofs.move_to_tail.Statement.{statement}
@@ -21,7 +22,7 @@ mul-table : tie.Need-mul-table
 mul-table c = omega (arith, few (c .before .before .before .before .before .before .before .before .before .before .args .table .now) (c .before .before .before .before .before .before .before .before .before .before .args .i) (c .before .before .before .before .before .before .before .before .before .before .pre))
 
 slice-write-table : tie.Need-slice-write-table
-slice-write-table c = omega (arith, in-slot (c .before .before .before .before .before .before .before .before .before .before .args .table .now) (c .before .before .before .before .before .before .before .before .before .before .args .i) (c .before .before .before .before .before .before .before .before .before .before .pre), ap length (c .before .before .leave-order .ensures) ∙ leave-length (c .before .before .before .before .before .before .before .before .before .before .args .table .now) (c .before .before .before .before .before .before .before .before .before .before .args .ours .now) (c .before .before .before .before .before .before .before .before .before .before .args .i))
+slice-write-table c = omega (arith, slot-whole (c .before .before .before .before .before .before .before .before .before .before .args .table .now) (c .before .before .before .before .before .before .before .before .before .before .args .i) (c .before .before .before .before .before .before .before .before .before .before .pre), ap length (c .before .before .leave-order .ensures) ∙ leave-length (c .before .before .before .before .before .before .before .before .before .before .args .table .now) (c .before .before .before .before .before .before .before .before .before .before .args .ours .now) (c .before .before .before .before .before .before .before .before .before .before .args .i))
 
 same-length : tie.Need-same-length
 same-length c = search needs
