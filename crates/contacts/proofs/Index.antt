@@ -222,10 +222,9 @@ module _ (t p : List ℕ) (e : ℕ) where
   unfolding otherPlace
   other-none l = sym (or-l (eqb e 0) (not (same p (place (slot t (e - 1))))) (eq-eqb e 0 (omega arith)))
 
-  pub other-said : {r : Bool} {q : List ℕ} → 1 ≤ e → r ≡ same p q → q ≡ place (slot t (e - 1)) → not r ≡ otherPlace t p e
+  pub other-said : {r : Bool} → 1 ≤ e → r ≡ same p (place (slot t (e - 1))) → not r ≡ otherPlace t p e
   unfolding otherPlace
-  other-said {r} {q} l h g =
-      ap not (h ∙ ap (same p) g) ∙ sym (or-off (eqb e 0) (not (same p (place (slot t (e - 1))))) (ne-eqb e 0 (λ z. omega arith)))
+  other-said {r} l h = ap not h ∙ sym (or-off (eqb e 0) (not (same p (place (slot t (e - 1))))) (ne-eqb e 0 (λ z. omega arith)))
 
   other-differs : otherPlace t p e ≡ true → 1 ≤ e → p ≡ place (slot t (e - 1)) → ⊥
   unfolding otherPlace
@@ -269,11 +268,10 @@ module _ (t a : List ℕ) (k : ℕ) where
       unfolding rest
       entry-gap z = sym (entry-is (λ q. omega arith) g ∙ and-off (not (eqb (getD a (k - 1) 0) 0)) (all (k % bucketSize) (otherBefore t (place (slot t (getD a k 0 - 1))) a k)) (ap not (eq-eqb (getD a (k - 1) 0) 0 z)))
 
-      pub entry-alone : {r : Bool} {p : List ℕ} → (getD a (k - 1) 0 ≡ 0 → ⊥) → p ≡ place (slot t (getD a k 0 - 1)) → r ≡ all (k % bucketSize) (otherBefore t p a k) → r ≡ entryFits t a k
+      pub entry-alone : {r : Bool} → (getD a (k - 1) 0 ≡ 0 → ⊥) → r ≡ all (k % bucketSize) (otherBefore t (place (slot t (getD a k 0 - 1))) a k) → r ≡ entryFits t a k
       unfolding rest
-      entry-alone {r} {p} z q e =
-          e ∙ ap (λ (s : List ℕ). all (k % bucketSize) (otherBefore t s a k)) q
-          ∙ sym (entry-is (λ w. omega arith) g ∙ ap (λ (b : Bool). not b && all (k % bucketSize) (otherBefore t (place (slot t (getD a k 0 - 1))) a k)) (ne-eqb (getD a (k - 1) 0) 0 z))
+      entry-alone {r} z e =
+          e ∙ sym (entry-is (λ w. omega arith) g ∙ ap (λ (b : Bool). not b && all (k % bucketSize) (otherBefore t (place (slot t (getD a k 0 - 1))) a k)) (ne-eqb (getD a (k - 1) 0) 0 z))
 
       entry-elim : entryFits t a k ≡ true → (1 ≤ getD a (k - 1) 0) × (all (k % bucketSize) (otherBefore t (place (slot t (getD a k 0 - 1))) a k) ≡ true)
       unfolding rest

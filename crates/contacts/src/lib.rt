@@ -5,6 +5,7 @@ ghost use mathlib.Core.List.{List, _∷_, _++_};
 ghost use Prim.Native.Nat.{ℕ, _+_, _*_, _-_, _<_, _≤_, min};
 ghost use lib.Dec.{ltb};
 ghost use lib.ListN.{length, getD, take, drop};
+ghost use Rattle.octets.specs.Octets.{same};
 ghost use Rattle.octets.specs.Search.{all};
 ghost use Rattle.contacts.specs.Table.{slotsOf, slot, mark, place};
 ghost use Rattle.contacts.specs.Form.{addressFits, fieldsFit, inForm};
@@ -158,26 +159,43 @@ fn collect(table: &[u8], ours: &[u8], n: usize, at: &mut [u16]) -> bool
     true
 }
 
-// Whether the slot of an entry has another place than mine; an empty entry has none.
-fn other_place(table: &[u8], mine: &[u8], e: u16) -> bool
-    requires { ⌜ e ≤ slotsOf (now table) ⌝ }
-    ensures { λ r. ⌜ r ≡ otherPlace (now (table .entry)) (now (mine .entry)) e ⌝ }
+// Whether two slots have the same place, a word at a time.
+fn same_place(table: &[u8], i: usize, j: usize) -> bool
+    requires { ⌜ (i * 616 + 616 ≤ length (now table)) × (j * 616 + 616 ≤ length (now table)) ⌝ }
+    ensures { λ r. ⌜ r ≡ same (place (slot (now (table .entry)) i)) (place (slot (now (table .entry)) j)) ⌝ }
+{
+    let p = i * SLOT + 8;
+    let q = j * SLOT + 8;
+    let mut m: usize = 0;
+    while m < 32 {
+        if octets::word(table, p + m) != octets::word(table, q + m) {
+            return false;
+        }
+        m += 8;
+    }
+    true
+}
+
+// Whether the slot of an entry has another place than slot i; an empty entry has none.
+fn other_place(table: &[u8], i: usize, e: u16) -> bool
+    requires { ⌜ (i * 616 + 616 ≤ length (now table)) × (e ≤ slotsOf (now table)) ⌝ }
+    ensures { λ r. ⌜ r ≡ otherPlace (now (table .entry)) (place (slot (now (table .entry)) i)) e ⌝ }
 {
     if e < 1 {
         return true;
     }
-    let i = e as usize - 1;
-    !octets::same_bytes(mine, place_at(table, i))
+    let j = e as usize - 1;
+    !same_place(table, i, j)
 }
 
-// Whether none of the m entries before k has the place mine.
-fn alone(table: &[u8], mine: &[u8], at: &[u16], k: usize, m: usize) -> bool
-    requires { ⌜ (k < length (now at)) × (m ≤ k) × ((j : ℕ) → getD (now at) j 0 ≤ slotsOf (now table)) ⌝ }
-    ensures { λ r. ⌜ r ≡ all m (otherBefore (now (table .entry)) (now (mine .entry)) (now (at .entry)) k) ⌝ }
+// Whether none of the m entries before k has the place of slot i.
+fn alone(table: &[u8], i: usize, at: &[u16], k: usize, m: usize) -> bool
+    requires { ⌜ (i * 616 + 616 ≤ length (now table)) × (k < length (now at)) × (m ≤ k) × ((j : ℕ) → getD (now at) j 0 ≤ slotsOf (now table)) ⌝ }
+    ensures { λ r. ⌜ r ≡ all m (otherBefore (now (table .entry)) (place (slot (now (table .entry)) i)) (now (at .entry)) k) ⌝ }
 {
     let mut d: usize = 0;
     while d < m {
-        if !other_place(table, mine, at[k - (d + 1)]) {
+        if !other_place(table, i, at[k - (d + 1)]) {
             return false;
         }
         d += 1;
@@ -201,7 +219,7 @@ fn entry_fits(table: &[u8], at: &[u16], k: usize) -> bool
         return false;
     }
     let i = e as usize - 1;
-    alone(table, place_at(table, i), at, k, m)
+    alone(table, i, at, k, m)
 }
 
 fn entries_fit(table: &[u8], at: &[u16]) -> bool
@@ -238,12 +256,23 @@ pub struct Closest {
     pub n: usize,
 }
 
-// Whether slot a is nearer to the target than slot b.
+// Whether slot a is nearer to the target than slot b. The first byte decides for most, with no call.
 fn closer(table: &[u8], target: &[u8], a: usize, b: usize) -> bool
     requires { ⌜ (length (now target) ≡ 32) × (a * 616 + 616 ≤ length (now table)) × (b * 616 + 616 ≤ length (now table)) ⌝ }
     ensures { λ r. ⌜ r ≡ ltb (far (now (table .entry)) (now (target .entry)) a) (far (now (table .entry)) (now (target .entry)) b) ⌝ }
 {
-    place::nearer(target, place_at(table, a), place_at(table, b))
+    let p = place_at(table, a);
+    let q = place_at(table, b);
+    let t = target[0];
+    let x = p[0] ^ t;
+    let y = q[0] ^ t;
+    if x < y {
+        return true;
+    }
+    if y < x {
+        return false;
+    }
+    place::nearer(target, p, q)
 }
 
 // How many of the n nearest so far are no farther than slot k. By halves, so that no order of the slots makes it slow.

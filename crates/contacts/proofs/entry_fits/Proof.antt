@@ -38,14 +38,11 @@ cast-i c = omega (arith, c .before .before .before .before .before .before .befo
 sub-i : tie.Need-sub-i
 sub-i c = search needs
 
-place-at-requires : tie.Need-place-at-requires
-place-at-requires c κs = slot-whole (c .before .before .before .before .before .before .before .args .table .now) (getD (c .before .before .before .before .before .before .before .args .at .now) (c .before .before .before .before .before .before .before .args .k) 0 - 1) (omega (arith, c .before .before .before .before .before .before .before .pre .2 (c .before .before .before .before .before .before .before .args .k), c .before .before .before .if1 .left))
-
 alone-requires : tie.Need-alone-requires
-alone-requires c κs = (omega arith, omega arith, c .before .before .before .before .before .before .before .before .pre .2)
+alone-requires c κs = (slot-whole (c .before .before .before .before .before .before .before .args .table .now) (getD (c .before .before .before .before .before .before .before .args .at .now) (c .before .before .before .before .before .before .before .args .k) 0 - 1) (omega (arith, c .before .before .before .before .before .before .before .pre .2 (c .before .before .before .before .before .before .before .args .k), c .before .before .before .if1 .left)), omega arith, omega arith, c .before .before .before .before .before .before .before .pre .2)
 
 returns-4 : tie.Need-returns-4
-returns-4 c = entry-alone (c .before .before .before .before .before .before .before .before .before .args .table .now) (c .before .before .before .before .before .before .before .before .before .args .at .now) (c .before .before .before .before .before .before .before .before .before .args .k) (c .before .before .before .before .before .if1 .left) (c .before .before .before .before .if2 .left) (c .before .before .if3 .left) (c .before .place-at .ensures .0) (c .alone .ensures)
+returns-4 c = entry-alone (c .before .before .before .before .before .before .before .before .args .table .now) (c .before .before .before .before .before .before .before .before .args .at .now) (c .before .before .before .before .before .before .before .before .args .k) (c .before .before .before .before .if1 .left) (c .before .before .before .if2 .left) (c .before .if3 .left) (c .alone .ensures)
 
 pub entry-fits-spec : {M : Type 1} → statement M
 entry-fits-spec =
@@ -61,6 +58,5 @@ entry-fits-spec =
     returns-3
     cast-i
     sub-i
-    place-at-requires
     alone-requires
     returns-4)
