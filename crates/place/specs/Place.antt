@@ -6,6 +6,11 @@ use lib.ListN.{length}
 use lib.Dec.{ltb, eqb}
 use lib.Bits.{bitXor}
 use Rattle.octets.specs.Octets.{number}
+use Rattle.sha256.specs.Sha256.{sha256}
+
+-- "A place is SHA-256 of a peer id or key"
+unfoldable pub placeOf : List ℕ → List ℕ
+placeOf name = sha256 name
 
 -- a place has 32 bytes
 unfoldable pub isPlace : List ℕ → Bool

@@ -1,9 +1,15 @@
 // Places, which of two is nearer, and the bucket of one. Every function takes any slices.
 ghost use mathlib.Core.Path.{_≡_};
-ghost use Prim.Native.Nat.{ℕ, _+_, _<_, _≤_};
-ghost use lib.ListN.{length, getD};
+ghost use lib.ListN.{length};
 ghost use lib.Dec.{ltb};
-ghost use Rattle.place.specs.Place.{isPlace, distance, nearerTo, common, bits, bucketOf};
+ghost use Rattle.place.specs.Place.{placeOf, distance, nearerTo, common, bits, bucketOf};
+
+// The place of a peer id or key.
+pub fn place_of(name: &[u8]) -> [u8; 32]
+    ensures { λ r. ⌜ r ≡ placeOf (now (name .entry)) ⌝ }
+{
+    sha256::hash(name)
+}
 
 // Whether a is nearer to the target than b: the first byte in which their distances differ decides.
 fn nearer_place(target: &[u8], a: &[u8], b: &[u8]) -> bool

@@ -1,0 +1,53 @@
+-- `sha256::first_rounds` meets its contract. The loop's invariant: 16 rounds are done for each turn. Assumes nothing.
+use native.Mathlib.Omega.{arith}
+use Prim.Native.Nat.{ℕ, _≤_, _+_, _-_, _*_}
+use mathlib.Core.Path.{_≡_}
+use mathlib.Core.List.{List}
+use Rattle.sha256.specs.Inner.{Done}
+use Rattle.sha256.proofs.Schedule.{done-at, sixteen, sixteen-more}
+use Rattle.sha256.proofs.first_rounds.Statement.{statement}
+use Rattle.sha256.proofs.first_rounds.Tie as tie
+
+abbrev Inv-loop : tie.InvT-loop
+Inv-loop k w₀ v₀ i₀ w v i = (i ≤ 3) × ((b : List ℕ) → Done b v₀ 0 w₀ v₀ → Done b v₀ (16 * i) w v)
+
+abbrev μ-loop : tie.MeasureT-loop
+μ-loop k w₀ v₀ i₀ w v i = 3 - i
+
+loop-holds : tie.Need-loop-holds Inv-loop μ-loop
+loop-holds c = (omega arith, λ b d. d)
+
+mul-advance-sixteen : tie.Need-mul-advance-sixteen Inv-loop μ-loop
+mul-advance-sixteen c = omega arith
+
+advance-sixteen-requires : tie.Need-advance-sixteen-requires Inv-loop μ-loop
+advance-sixteen-requires c κs = sixteen (c .before .before .loop .i) (omega arith) (c .before .before .before .pre)
+
+add-i : tie.Need-add-i Inv-loop μ-loop
+add-i c = omega arith
+
+loop-less : tie.Need-loop-less Inv-loop μ-loop
+loop-less c = omega arith
+
+loop-again : tie.Need-loop-again Inv-loop μ-loop
+loop-again c =
+    let l = c .before .before .before .loop in
+    let s = c .before .before .before .before .args .s in
+    (omega arith, λ b d. done-at (16 * (l .i + 1)) (c .advance-sixteen .ensures b s (l .inv .1 b d)) (sixteen-more (l .i)))
+
+returns : tie.Need-returns Inv-loop μ-loop
+returns c = let e : c .before .loop .i ≡ 3 = omega arith in rw e at (c .before .loop .inv .1)
+
+pub first-rounds-spec : {M : Type 1} → statement M
+first-rounds-spec =
+    tie.close
+    (tie.spec
+    Inv-loop
+    μ-loop
+    loop-holds
+    mul-advance-sixteen
+    advance-sixteen-requires
+    add-i
+    loop-less
+    loop-again
+    returns)
