@@ -1,0 +1,4 @@
+pub mod Runs
+pub mod Rooms
+pub mod Lists
+pub mod Meaning

@@ -1,0 +1,80 @@
+-- What stands in a peer: the id and the addresses that it was made of, and the lengths of its arrays. Assumes nothing.
+use Prim.Native.Nat.{ℕ, zero, suc, _+_, _<_, _≤_, min}
+use mathlib.Core.Path.{_≡_, refl, sym, ap, ap₂, _∙_}
+use mathlib.Core.Bool.{true}
+use mathlib.Core.List.{List, [], _∷_, _++_}
+use native.Mathlib.Omega.{arith}
+use lib.ListN.{length, getD, take}
+use lib.Seq.{take-suc, take-all}
+use Rattle.peer.specs.declared.Peer.{Peer}
+use Rattle.peer.specs.Addresses.{usableSize, keptOf, padded, rooms, sizes}
+use Rattle.peer.specs.Peers.{peerOf, idIn, addressIn, addressesTo, addressesIn}
+use Rattle.peer.proofs.Rooms.{length-padded, length-rooms, length-sizes, padded-front, room-part, size-in}
+use Rattle.peer.proofs.Lists.{kept-usable, kept-few, every-at, size-most}
+
+-- how the arrays are made, in the shape that the code leaves them
+pub made : (id place addresses name addrs lens : List ℕ) (size count : ℕ)
+    → name ≡ padded 64 id → addrs ≡ rooms 4 (keptOf addresses) → lens ≡ sizes 4 (keptOf addresses) → size ≡ min (length id) 64 → count ≡ length (keptOf addresses)
+    → _≡_ {A = Peer} (record { addrs = addrs; id = name; place = place; lens = lens; size = size; count = count }) (peerOf id place addresses)
+unfolding peerOf
+made id place addresses name addrs lens size count a b c d e = rw (a, b, c, d, e)
+
+module _ (id place addresses : List ℕ) where
+  p : Peer
+  p = peerOf id place addresses
+
+  pub id-length : length (peerOf id place addresses .id) ≡ 64
+  unfolding peerOf
+  id-length = length-padded 64 id
+
+  pub addrs-length : length (peerOf id place addresses .addrs) ≡ 512
+  unfolding peerOf
+  addrs-length = length-rooms 4 (keptOf addresses)
+
+  pub lens-length : length (peerOf id place addresses .lens) ≡ 4
+  unfolding peerOf
+  lens-length = length-sizes 4 (keptOf addresses)
+
+  pub place-is : peerOf id place addresses .place ≡ place
+  unfolding peerOf
+  place-is = refl
+
+  pub size-is : peerOf id place addresses .size ≡ min (length id) 64
+  unfolding peerOf
+  size-is = refl
+
+  pub count-is : peerOf id place addresses .count ≡ length (keptOf addresses)
+  unfolding peerOf
+  count-is = refl
+
+  pub count-few : peerOf id place addresses .count ≤ 4
+  count-few = omega (arith, count-is, kept-few addresses)
+
+  pub lens-usable : (k : ℕ) → k < peerOf id place addresses .count → usableSize (getD (peerOf id place addresses .lens) k 0) ≡ true
+  unfolding peerOf
+  lens-usable k h =
+      ap usableSize (size-in 4 (keptOf addresses) k h (omega (arith, kept-few addresses))) ∙ every-at (keptOf addresses) k (kept-usable addresses) h
+
+  -- the id, cut to 64 bytes; the whole of it where it is no longer than that
+  pub id-said : idIn (peerOf id place addresses) ≡ take 64 id
+  unfolding idIn peerOf
+  id-said = padded-front 64 id
+
+  pub id-whole : length id ≤ 64 → idIn (peerOf id place addresses) ≡ id
+  id-whole h = id-said ∙ take-all 64 id h
+
+  -- the addresses: the first four usable ones
+  one-said : (k : ℕ) → k < length (keptOf addresses) → addressIn (peerOf id place addresses) k ≡ getD (keptOf addresses) k []
+  unfolding addressIn peerOf
+  one-said k h =
+      room-part 4 (keptOf addresses) k h (omega (arith, kept-few addresses)) (size-most _ (every-at (keptOf addresses) k (kept-usable addresses) h))
+
+  some-said : (n : ℕ) → n ≤ length (keptOf addresses) → addressesTo (peerOf id place addresses) n ≡ take n (keptOf addresses)
+  unfolding addressesTo
+  some-said zero h = refl
+  some-said (suc n) h =
+      ap₂ (λ (l : List (List ℕ)) (a : List ℕ). l ++ (a ∷ [])) (some-said n (omega arith)) (one-said n h) ∙ sym (take-suc (keptOf addresses) n [] h)
+
+  pub addresses-said : addressesIn (peerOf id place addresses) ≡ keptOf addresses
+  unfolding addressesIn peerOf
+  addresses-said = some-said (length (keptOf addresses)) (omega arith) ∙ take-all (length (keptOf addresses)) (keptOf addresses) (omega arith)

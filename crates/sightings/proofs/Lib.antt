@@ -1,0 +1,11 @@
+pub mod Slots
+pub mod Tests
+pub mod Moves
+pub mod Dropping
+pub mod Calls
+pub mod Ordered
+pub mod Kept
+pub mod Forms
+pub mod Said
+pub mod Theorems
+pub mod Holds

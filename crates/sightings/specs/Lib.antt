@@ -1,0 +1,3 @@
+pub mod Order
+pub mod Sightings
+pub mod Promises

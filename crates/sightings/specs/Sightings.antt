@@ -1,0 +1,72 @@
+-- Seen, settle and remove on the contact table: document 01, 'Distance and contacts'. Each is an answer, and what the answer does to the table.
+use Prim.Native.Nat.{ℕ}
+use mathlib.Core.Bool.{Bool, not, _&&_, cond}
+use mathlib.Core.List.{List}
+use lib.Dec.{ltb, leb, eqb}
+use Rattle.place.specs.Place.{bucketOf}
+use Rattle.contacts.specs.Table.{bucketSize, slotsOf, slot, mark}
+use Rattle.peer.specs.declared.Peer.{Peer}
+use Rattle.sightings.specs.Order.{heldAt, freeAt, headAt, tailOf, moveToTail, moveAndRenew, dropped, joinAt, join}
+use Rattle.sightings.specs.declared.Sighting.{Sighting}
+use Rattle.sightings.specs.declared.Sighting.the-variants.{Moved, Joined, Full, NoSlot}
+use Rattle.sightings.specs.declared.Settled.{Settled}
+use Rattle.sightings.specs.declared.Settled.the-variants.{Kept, Swapped, Stale}
+use Rattle.sightings.specs.declared.Removed.{Removed}
+use Rattle.sightings.specs.declared.Removed.the-variants.{Gone, NotHeld}
+
+-- some slot holds the contact at place p
+unfoldable pub held : List ℕ → List ℕ → Bool
+held t p = ltb (heldAt t p) (slotsOf t)
+
+-- ---- seen
+-- "a held contact moves to its bucket's tail ..; a new one joins the tail ..; else 13 or 14": for a peer not held,
+unfoldable pub newcomer : List ℕ → List ℕ → List ℕ → Sighting
+newcomer t ours p =
+    cond (leb bucketSize (tailOf t ours (bucketOf p ours))) (Full (headAt t ours (bucketOf p ours)))
+    (cond (ltb (freeAt t) (slotsOf t)) (Joined (freeAt t)) NoSlot)
+
+-- and for any peer
+unfoldable pub sightingOf : List ℕ → List ℕ → List ℕ → Sighting
+sightingOf t ours p = cond (held t p) (Moved (heldAt t p)) (newcomer t ours p)
+
+unfoldable pub afterSighting : List ℕ → List ℕ → Peer → Sighting → List ℕ
+afterSighting t ours p (Moved i) = moveAndRenew t ours i p
+afterSighting t ours p (Joined i) = joinAt t ours i p
+afterSighting t ours p (Full h) = t
+afterSighting t ours p NoSlot = t
+
+unfoldable pub seenTable : List ℕ → List ℕ → Peer → List ℕ
+seenTable t ours p = afterSighting t ours p (sightingOf t ours (p .place))
+
+-- ---- settle
+-- "15 unless the bucket is full, the head is still its head, and the newcomer is of that bucket and not held"
+unfoldable pub fits : List ℕ → List ℕ → List ℕ → List ℕ → Bool
+fits t ours head p =
+    held t head
+    && (eqb (mark (slot t (heldAt t head))) 1
+    && (eqb (bucketOf p ours) (bucketOf head ours)
+    && (eqb (tailOf t ours (bucketOf head ours)) bucketSize && not (held t p))))
+
+unfoldable pub settlementOf : List ℕ → List ℕ → List ℕ → List ℕ → Bool → Settled
+settlementOf t ours head p answered = cond (fits t ours head p) (cond answered Kept Swapped) Stale
+
+-- "Head answered: it moves to the tail, newcomer dropped. Head silent: removed, newcomer at the tail."
+unfoldable pub afterSettling : List ℕ → List ℕ → List ℕ → Peer → Settled → List ℕ
+afterSettling t ours head p Kept = moveToTail t ours (heldAt t head)
+afterSettling t ours head p Swapped = join (dropped t ours (heldAt t head)) ours p
+afterSettling t ours head p Stale = t
+
+unfoldable pub settledTable : List ℕ → List ℕ → List ℕ → Peer → Bool → List ℕ
+settledTable t ours head p answered = afterSettling t ours head p (settlementOf t ours head (p .place) answered)
+
+-- ---- remove
+-- "Remove of a contact not held: 15."
+unfoldable pub removalOf : List ℕ → List ℕ → Removed
+removalOf t p = cond (held t p) Gone NotHeld
+
+unfoldable pub afterRemoval : List ℕ → List ℕ → List ℕ → Removed → List ℕ
+afterRemoval t ours p Gone = dropped t ours (heldAt t p)
+afterRemoval t ours p NotHeld = t
+
+unfoldable pub removedTable : List ℕ → List ℕ → List ℕ → List ℕ
+removedTable t ours p = afterRemoval t ours p (removalOf t p)
