@@ -1,0 +1,5 @@
+pub mod Laws
+pub mod Vectors
+mod Words
+mod Schedule
+mod Padding

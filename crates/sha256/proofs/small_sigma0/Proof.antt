@@ -1,0 +1,17 @@
+use borrow.Author.Needs.{needs}
+use Rattle.sha256.specs.Sha256.{smallSigma0}
+use Rattle.sha256.proofs.small_sigma0.Statement.{statement}
+use Rattle.sha256.proofs.small_sigma0.Tie as tie
+
+rotate-right-requires : tie.Need-rotate-right-requires
+rotate-right-requires c κs = search needs
+
+rotate-right-requires-2 : tie.Need-rotate-right-requires-2
+rotate-right-requires-2 c κs = search needs
+
+returns : tie.Need-returns
+unfolding smallSigma0
+returns c = cc
+
+pub small-sigma0-spec : {M : Type 1} → statement M
+small-sigma0-spec = tie.close (tie.spec rotate-right-requires rotate-right-requires-2 returns)
