@@ -1,0 +1,5 @@
+pub mod Limits
+pub mod Message
+pub mod View
+pub mod Writable
+pub mod Inner

@@ -1,0 +1,446 @@
+// Messages: read from a body as positions in it, and written into a buffer that is lent.
+ghost use mathlib.Core.Path.{_≡_};
+ghost use mathlib.Core.Bool.{true, false};
+ghost use Prim.Native.Nat.{_+_, _-_, _*_, _≤_, _<_};
+ghost use lib.ListN.{length, take};
+ghost use Rattle.wire.specs.Wire.{firstOf, fieldsAt, spans};
+ghost use Rattle.wire.specs.Items.{minimal, tagged, written, single, Put};
+ghost use Rattle.message.specs.Message.{encodePeer, encodeRecord, frame};
+ghost use Rattle.message.specs.Writable.{peerFits, recordFits, recordPiece, peerPiece, recordWith, peerWith};
+ghost use Rattle.message.specs.View.{heldAt, readingOf, idAt, connectionAt, heardAt, idsOf};
+ghost use Rattle.message.specs.Inner.{withRecord, withPeer, withBytes, withField, gathered, nthBytes, nthOver, addressBytes, Fitting4};
+
+use refusal::Refusal;
+use wire::Field;
+use wire::Found;
+use wire::Next;
+use wire::Span;
+
+// A message body has at most this many bytes.
+pub const MOST_BODY: usize = 16384;
+// Types are 0 to this.
+pub const MOST_KIND: u64 = 5;
+// Connections are 0 to this.
+pub const MOST_CONNECTION: u64 = 3;
+// A lookup hears this many entries of a reply.
+pub const MOST_HEARD: usize = 21;
+
+// A key, a record's value, a peer's id and an address have at most this many bytes.
+pub const MOST_KEY: usize = 128;
+pub const MOST_VALUE: usize = 2048;
+pub const MOST_ID: usize = 64;
+pub const MOST_ADDRESS: usize = 128;
+
+// The numbers of the fields.
+const KIND: u64 = 1;
+const KEY: u64 = 2;
+const RECORD: u64 = 3;
+const CLOSER: u64 = 8;
+const PROVIDER: u64 = 9;
+const RECORD_KEY: u64 = 1;
+const RECORD_VALUE: u64 = 2;
+const PEER_ID: u64 = 1;
+const PEER_ADDRESS: u64 = 2;
+const PEER_CONNECTION: u64 = 3;
+
+// A record of a message: whether there is one, and where its key and value are in the body.
+pub struct Held {
+    pub there: bool,
+    pub key: Span,
+    pub value: Span,
+}
+
+// A message: its type, and where its key and its record are in the body. Its peers are walked.
+pub struct Fields {
+    pub kind: u64,
+    pub key: Span,
+    pub held: Held,
+}
+
+pub enum Reading {
+    Whole(Fields),
+    Refused(Refusal),
+}
+
+// What has been read so far.
+pub enum Gathered {
+    Sound(Fields),
+    Broken,
+}
+
+// Where the ids of the first entries of closerPeers are: of the entry k below n, from at[k] up to end[k].
+pub struct Ids {
+    pub at: [usize; 21],
+    pub end: [usize; 21],
+    pub n: usize,
+}
+
+// The front of a slice, up to a place.
+fn front(s: &[u8], end: usize) -> &[u8]
+    ensures { λ r. ⌜ now r ≡ take end (now (s .entry)) ⌝ }
+{
+    if s.len() <= end {
+        return s;
+    }
+    &s[..end]
+}
+
+// The record at a span takes the place of any before it.
+fn with_record(s: &[u8], m: Fields, p: Span) -> Gathered
+    ensures { λ r. ⌜ r ≡ withRecord (now (s .entry)) m p ⌝ }
+{
+    let at = p.at;
+    let part = front(s, p.end);
+    if wire::well_formed(part, at) {
+        let k = m.key;
+        let key = wire::last_bytes(part, at, RECORD_KEY);
+        let value = wire::last_bytes(part, at, RECORD_VALUE);
+        return Gathered::Sound(Fields {
+            kind: m.kind,
+            key: k,
+            held: Held {
+                there: true,
+                key,
+                value,
+            },
+        });
+    }
+    Gathered::Broken
+}
+
+// A peer has to be well formed, and is left to the walks.
+fn with_peer(s: &[u8], m: Fields, p: Span) -> Gathered
+    ensures { λ r. ⌜ r ≡ withPeer (now (s .entry)) m p ⌝ }
+{
+    let at = p.at;
+    if wire::well_formed(front(s, p.end), at) {
+        return Gathered::Sound(m);
+    }
+    Gathered::Broken
+}
+
+fn with_bytes(s: &[u8], m: Fields, number: u64, p: Span) -> Gathered
+    ensures { λ r. ⌜ r ≡ withBytes (now (s .entry)) m number p ⌝ }
+{
+    if number == KEY {
+        let h = m.held;
+        return Gathered::Sound(Fields {
+            kind: m.kind,
+            key: p,
+            held: h,
+        });
+    }
+    if number == RECORD {
+        return with_record(s, m, p);
+    }
+    if number == CLOSER {
+        return with_peer(s, m, p);
+    }
+    if number == PROVIDER {
+        return with_peer(s, m, p);
+    }
+    Gathered::Sound(m)
+}
+
+fn with_field(s: &[u8], m: Fields, f: Field) -> Gathered
+    ensures { λ r. ⌜ r ≡ withField (now (s .entry)) m f ⌝ }
+{
+    match f {
+        Field::Bytes(number, p) => with_bytes(s, m, number, p),
+        Field::Number(number, value, _) => {
+            if number == KIND {
+                let k = m.key;
+                let h = m.held;
+                return Gathered::Sound(Fields {
+                    kind: value,
+                    key: k,
+                    held: h,
+                });
+            }
+            Gathered::Sound(m)
+        }
+        Field::Other(_) => Gathered::Sound(m),
+        Field::End => Gathered::Sound(m),
+        Field::Bad => Gathered::Broken,
+    }
+}
+
+// All fields of a body, in one pass.
+fn gather(s: &[u8]) -> Gathered
+    ensures { λ r. ⌜ r ≡ gathered (now (s .entry)) ⌝ }
+{
+    let mut m = Fields {
+        kind: 0,
+        key: Span { at: 0, end: 0 },
+        held: Held {
+            there: false,
+            key: Span { at: 0, end: 0 },
+            value: Span { at: 0, end: 0 },
+        },
+    };
+    let mut at: usize = 0;
+    loop {
+        let f = wire::read_field(s, at);
+        match wire::after(f) {
+            Next::Done => return Gathered::Sound(m),
+            Next::Broken => return Gathered::Broken,
+            Next::On(next) => match with_field(s, m, f) {
+                Gathered::Sound(q) => {
+                    m = q;
+                    at = next;
+                }
+                Gathered::Broken => return Gathered::Broken,
+            },
+        }
+    }
+}
+
+// The message that a body is.
+pub fn read(body: &[u8]) -> Reading
+    ensures { λ r. ⌜ r ≡ readingOf (now (body .entry)) ⌝ }
+{
+    if MOST_BODY < body.len() {
+        return Reading::Refused(Refusal::TooLong);
+    }
+    match gather(body) {
+        Gathered::Sound(m) => {
+            if MOST_KIND < m.kind {
+                return Reading::Refused(Refusal::UnknownType);
+            }
+            Reading::Whole(m)
+        }
+        Gathered::Broken => Reading::Refused(Refusal::Malformed),
+    }
+}
+
+// The first entry of closerPeers from a position on: from 0, and then from each end, these are all of them.
+pub fn closer_peer(body: &[u8], from: usize) -> Found
+    ensures { λ r. ⌜ r ≡ firstOf (spans 8 (fieldsAt (now (body .entry)) from)) ⌝ }
+{
+    wire::next_bytes(body, from, CLOSER)
+}
+
+// The same for providerPeers.
+pub fn provider_peer(body: &[u8], from: usize) -> Found
+    ensures { λ r. ⌜ r ≡ firstOf (spans 9 (fieldsAt (now (body .entry)) from)) ⌝ }
+{
+    wire::next_bytes(body, from, PROVIDER)
+}
+
+// Where the id of the peer at a span is.
+pub fn peer_id(body: &[u8], peer: Span) -> Span
+    ensures { λ r. ⌜ r ≡ idAt (now (body .entry)) peer ⌝ }
+{
+    let at = peer.at;
+    wire::last_bytes(front(body, peer.end), at, PEER_ID)
+}
+
+// The first address of a peer from a position on: from its start, and then from each end, these are all of them.
+pub fn peer_address(body: &[u8], peer: Span, from: usize) -> Found
+    ensures { λ r. ⌜ r ≡ firstOf (spans 2 (fieldsAt (take (peer .end) (now (body .entry))) from)) ⌝ }
+{
+    wire::next_bytes(front(body, peer.end), from, PEER_ADDRESS)
+}
+
+// The connection of a peer; a number above 3 reads as 0.
+pub fn peer_connection(body: &[u8], peer: Span) -> u64
+    ensures { λ r. ⌜ r ≡ connectionAt (now (body .entry)) peer ⌝ }
+{
+    let at = peer.at;
+    let v = wire::last_number(front(body, peer.end), at, PEER_CONNECTION);
+    if v <= MOST_CONNECTION {
+        return v;
+    }
+    0
+}
+
+// Where the ids of the first 21 entries of closerPeers are.
+pub fn closer_ids(body: &[u8]) -> Ids
+    ensures { λ r. ⌜ r ≡ idsOf (heardAt (now (body .entry))) ⌝ }
+{
+    let mut starts = [0usize; MOST_HEARD];
+    let mut ends = [0usize; MOST_HEARD];
+    let mut n: usize = 0;
+    let mut from: usize = 0;
+    while n < MOST_HEARD {
+        match closer_peer(body, from) {
+            Found::At(p) => {
+                let id = peer_id(body, p);
+                starts[n] = id.at;
+                ends[n] = id.end;
+                from = p.end;
+                n += 1;
+            }
+            Found::Nothing => {
+                return Ids {
+                    at: starts,
+                    end: ends,
+                    n,
+                };
+            }
+        }
+    }
+    Ids {
+        at: starts,
+        end: ends,
+        n,
+    }
+}
+
+// How many bytes a bytes field of n bytes has.
+fn field_len(field: u8, n: usize) -> usize
+    requires { ⌜ n ≤ 16384 ⌝ }
+    ensures { λ r. ⌜ r ≡ length (tagged (field * 8 + 2) n) + n ⌝ }
+{
+    wire::varint_len((field as u64) * 8 + 2) + wire::varint_len(n as u64) + n
+}
+
+// How many bytes a single bytes field has.
+fn single_len(field: u8, src: &[u8]) -> usize
+    requires { ⌜ (field < 16) × (length (now src) ≤ 2048) ⌝ }
+    ensures { λ r. ⌜ (r ≡ length (written (single field (now (src .entry))))) × (r ≤ 3 + length (now (src .entry))) ⌝ }
+{
+    if src.len() == 0 {
+        return 0;
+    }
+    field_len(field, src.len())
+}
+
+// Whether a record may be written.
+fn record_fits(key: &[u8], value: &[u8]) -> bool
+    ensures { λ r. ⌜ r ≡ recordFits (recordWith (now (key .entry)) (now (value .entry))) ⌝ }
+{
+    if MOST_KEY < key.len() {
+        return false;
+    }
+    value.len() <= MOST_VALUE
+}
+
+fn record_body_len(key: &[u8], value: &[u8]) -> usize
+    requires { ⌜ recordFits (recordWith (now key) (now value)) ≡ true ⌝ }
+    ensures { λ r. ⌜ r ≡ length (encodeRecord (recordWith (now (key .entry)) (now (value .entry)))) ⌝ }
+{
+    single_len(1, key) + single_len(2, value)
+}
+
+// How many bytes `put_record` writes.
+pub fn record_len(key: &[u8], value: &[u8]) -> usize
+    ensures { λ r. ⌜ r ≡ length (recordPiece (recordWith (now (key .entry)) (now (value .entry)))) ⌝ }
+{
+    if record_fits(key, value) {
+        return field_len(3, record_body_len(key, value));
+    }
+    0
+}
+
+// Writes a record as a field of a message; nothing where it is over its limits.
+pub fn put_record(buf: &mut [u8], at: usize, key: &[u8], value: &[u8]) -> usize
+    ensures { λ r. ⌜ Put (now (buf .entry)) at (recordPiece (recordWith (now (key .entry)) (now (value .entry)))) (now (buf .exit)) r ⌝ }
+{
+    if record_fits(key, value) {
+        let n = record_body_len(key, value);
+        let a = wire::put_head(buf, at, 3, n);
+        let b = wire::put_single(buf, a, 1, key);
+        return wire::put_single(buf, b, 2, value);
+    }
+    at
+}
+
+// Whether the address of place k, if there are more than k, is over its limit.
+fn address_over(k: usize, n: usize, src: &[u8]) -> bool
+    ensures { λ r. ⌜ r ≡ nthOver k n (now (src .entry)) ⌝ }
+{
+    if n <= k {
+        return false;
+    }
+    MOST_ADDRESS < src.len()
+}
+
+// Whether a peer with the first n of four addresses may be written.
+fn peer_fits(id: &[u8], n: usize, a: &[u8], b: &[u8], c: &[u8], d: &[u8], connection: u8) -> bool
+    ensures { λ r. ⌜ r ≡ peerFits (peerWith (now (id .entry)) n (now (a .entry)) (now (b .entry)) (now (c .entry)) (now (d .entry)) connection) ⌝ }
+{
+    if MOST_ID < id.len() {
+        return false;
+    }
+    if address_over(0, n, a) {
+        return false;
+    }
+    if address_over(1, n, b) {
+        return false;
+    }
+    if address_over(2, n, c) {
+        return false;
+    }
+    if address_over(3, n, d) {
+        return false;
+    }
+    connection <= 3
+}
+
+fn address_len(k: usize, n: usize, src: &[u8]) -> usize
+    requires { ⌜ nthOver k n (now src) ≡ false ⌝ }
+    ensures { λ r. ⌜ (r ≡ length (nthBytes k n (now (src .entry)))) × (r ≤ 131) ⌝ }
+{
+    if n <= k {
+        return 0;
+    }
+    field_len(2, src.len())
+}
+
+fn addresses_len(n: usize, a: &[u8], b: &[u8], c: &[u8], d: &[u8]) -> usize
+    requires { ⌜ Fitting4 n (now a) (now b) (now c) (now d) ⌝ }
+    ensures { λ r. ⌜ (r ≡ length (addressBytes n (now (a .entry)) (now (b .entry)) (now (c .entry)) (now (d .entry)))) × (r ≤ 524) ⌝ }
+{
+    address_len(0, n, a) + address_len(1, n, b) + address_len(2, n, c) + address_len(3, n, d)
+}
+
+fn peer_body_len(id: &[u8], n: usize, a: &[u8], b: &[u8], c: &[u8], d: &[u8], connection: u8) -> usize
+    requires { ⌜ peerFits (peerWith (now id) n (now a) (now b) (now c) (now d) connection) ≡ true ⌝ }
+    ensures { λ r. ⌜ r ≡ length (encodePeer (peerWith (now (id .entry)) n (now (a .entry)) (now (b .entry)) (now (c .entry)) (now (d .entry)) connection)) ⌝ }
+{
+    single_len(1, id) + addresses_len(n, a, b, c, d) + 2
+}
+
+// How many bytes `put_peer` writes.
+pub fn peer_len(field: u8, id: &[u8], n: usize, a: &[u8], b: &[u8], c: &[u8], d: &[u8], connection: u8) -> usize
+    ensures { λ r. ⌜ r ≡ length (peerPiece field (peerWith (now (id .entry)) n (now (a .entry)) (now (b .entry)) (now (c .entry)) (now (d .entry)) connection)) ⌝ }
+{
+    if peer_fits(id, n, a, b, c, d, connection) {
+        return field_len(field, peer_body_len(id, n, a, b, c, d, connection));
+    }
+    0
+}
+
+// Writes the address of place k, if there are more than k.
+fn put_address(buf: &mut [u8], at: usize, k: usize, n: usize, src: &[u8]) -> usize
+    ensures { λ r. ⌜ Put (now (buf .entry)) at (nthBytes k n (now (src .entry))) (now (buf .exit)) r ⌝ }
+{
+    if n <= k {
+        return at;
+    }
+    wire::put_bytes(buf, at, 2, src)
+}
+
+fn put_addresses(buf: &mut [u8], at: usize, n: usize, a: &[u8], b: &[u8], c: &[u8], d: &[u8]) -> usize
+    ensures { λ r. ⌜ Put (now (buf .entry)) at (addressBytes n (now (a .entry)) (now (b .entry)) (now (c .entry)) (now (d .entry))) (now (buf .exit)) r ⌝ }
+{
+    let q = put_address(buf, at, 0, n, a);
+    let r = put_address(buf, q, 1, n, b);
+    let s = put_address(buf, r, 2, n, c);
+    put_address(buf, s, 3, n, d)
+}
+
+// Writes a peer with the first n of four addresses as an entry of a message; nothing where it is over its limits.
+pub fn put_peer(buf: &mut [u8], at: usize, field: u8, id: &[u8], n: usize, a: &[u8], b: &[u8], c: &[u8], d: &[u8], connection: u8) -> usize
+    ensures { λ r. ⌜ Put (now (buf .entry)) at (peerPiece field (peerWith (now (id .entry)) n (now (a .entry)) (now (b .entry)) (now (c .entry)) (now (d .entry)) connection)) (now (buf .exit)) r ⌝ }
+{
+    if peer_fits(id, n, a, b, c, d, connection) {
+        let size = peer_body_len(id, n, a, b, c, d, connection);
+        let p = wire::put_head(buf, at, field, size);
+        let q = wire::put_single(buf, p, 1, id);
+        let r = put_addresses(buf, q, n, a, b, c, d);
+        return wire::put_number(buf, r, 3, connection as u64);
+    }
+    at
+}

@@ -1,0 +1,8 @@
+pub mod Varints
+pub mod Reading
+pub mod Reach
+pub mod Scan
+pub mod Within
+pub mod Digits
+pub mod Putting
+pub mod RoundTrip
