@@ -1,1 +1,5 @@
 pub mod Table
+pub mod Form
+pub mod Near
+pub mod Contact
+pub mod Inner
