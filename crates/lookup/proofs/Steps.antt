@@ -1,0 +1,284 @@
+-- Laws of the steps: each answer, from the tests that lead there. Assumes nothing.
+use Prim.Native.Nat.{ℕ, _+_, _≤_, _<_}
+use mathlib.Core.Path.{_≡_, refl, sym, ap, ap₂, _∙_, subst}
+use mathlib.Core.Bool.{Bool, true, false, cond, not, _&&_, _||_}
+use mathlib.Core.List.{List, [], _∷_, _++_, map}
+use native.Mathlib.Omega.{arith}
+use lib.Dec.{leb, ltb, eqb}
+use lib.ListN.{length, take, drop, replicate, length-map}
+use lib.Seq.{sets, length-take-le}
+use borrow.Author.Tests.{eq-eqb, ne-eqb, lt-ltb, le-ltb, le-leb, lt-leb, not-true, not-false, leb-true, leb-false}
+use Rattle.octets.specs.Octets.{same}
+use Rattle.octets.proofs.Bools.{cond-yes, cond-no, cond-ind, and-on, and-off, and-r, or-l, or-off, or-r, not-yes, not-no, not-both, either}
+use Rattle.sha256.specs.Sha256.{sha256}
+use Rattle.refusal.specs.declared.Refusal.{Refusal}
+use Rattle.refusal.specs.declared.Refusal.the-variants.{OutOfForm, BadPeer, NotInFlight, LookupOver}
+use Rattle.lookup_marks.specs.Marks.{idle, flying, answered, failed, twentyOf, isOver, idleOf, flightsOf, sentOf, ranksOf}
+use Rattle.lookup_marks.specs.declared.Ranks.{Ranks}
+use Rattle.lookup.specs.Lists.{firstIn, anyIn}
+use Rattle.lookup.specs.Inner.{rankOf}
+use Rattle.lookup.specs.Lookup.{room, idMost, candidatesOf, markOf, marksOf, inForm, withCandidates, turnAway, put, mark, gives, refuses, ends, settled, nextOf, idFits, badPeer, flies, flyerOf, whomOf, reported, failureOf, fresh, known, liesAt, enter, meet, hear}
+use Rattle.lookup.specs.declared.Candidate.{Candidate}
+use Rattle.lookup.specs.declared.Lookup.{Lookup}
+use Rattle.lookup.specs.declared.Step.{Step}
+use Rattle.lookup.specs.declared.Answer.{Answer}
+use Rattle.lookup.specs.declared.Answer.the-variants.{Refused, Complete, CutShort, Wait, Ask, Going}
+use Rattle.lookup.specs.declared.Whom.{Whom}
+use Rattle.lookup.specs.declared.Whom.the-variants.{Nobody, At}
+use Rattle.lookup.proofs.Lists.{map-take}
+use Rattle.lookup.proofs.Form.{Formed, formed}
+use Rattle.lookup.proofs.Scans.{put-enter}
+
+-- ---- marks
+pub marks-part : (l : Lookup) (ms : List ℕ) → ms ≡ map markOf (l .candidates) → take (l .count) ms ≡ marksOf l
+marks-part l ms e = ap (take (l .count)) e ∙ map-take markOf (l .count) (l .candidates)
+
+pub marks-count : (l : Lookup) (ms : List ℕ) → ms ≡ map markOf (l .candidates) → length (l .candidates) ≡ 256 → l .count ≤ 256 → l .count ≡ length (take (l .count) ms)
+marks-count l ms e hl h = sym (length-take-le (l .count) ms (omega (arith, ap length e, length-map (l .candidates) markOf)))
+
+-- a lookup in form has its candidates in the array
+pub room-of : (l : Lookup) (b : Bool) → b ≡ inForm l → not b ≡ false → l .count ≤ 256
+room-of l b e h = formed l (sym e ∙ not-false b h) .fits
+
+-- ---- the answer of a lookup that is over
+abbrev pub stepOf : Lookup → Ranks → Answer → Step
+stepOf l f a = record { lookup = l; found = f; answer = a }
+
+module _ (l : Lookup) (ms : List ℕ) (f : Ranks) (s : ℕ) (em : ms ≡ marksOf l) (ef : f ≡ ranksOf (twentyOf ms)) (es : s ≡ sentOf ms) where
+  found : f ≡ ranksOf (twentyOf (marksOf l))
+  found = ef ∙ ap (λ (x : List ℕ). ranksOf (twentyOf x)) em
+
+  sent : s ≡ sentOf (marksOf l)
+  sent = es ∙ ap sentOf em
+
+  pub end-cut : l .turned ≡ true → stepOf l f (CutShort s) ≡ ends l
+  end-cut t =
+      ap₂ (λ (x : Ranks) (y : ℕ). stepOf l x (CutShort y)) found sent
+      ∙ sym (ap (λ (a : Answer). stepOf l (ranksOf (twentyOf (marksOf l))) a) (cond-yes (l .turned) (CutShort (sentOf (marksOf l))) (Complete (sentOf (marksOf l))) t))
+
+  pub end-whole : l .turned ≡ false → stepOf l f (Complete s) ≡ ends l
+  end-whole t =
+      ap₂ (λ (x : Ranks) (y : ℕ). stepOf l x (Complete y)) found sent
+      ∙ sym (ap (λ (a : Answer). stepOf l (ranksOf (twentyOf (marksOf l))) a) (cond-no (l .turned) (CutShort (sentOf (marksOf l))) (Complete (sentOf (marksOf l))) t))
+
+-- ---- over or going
+module _ (l : Lookup) (ms : List ℕ) (em : ms ≡ marksOf l) (o : Bool) (eo : o ≡ isOver ms) (r : Step) where
+  is-over : o ≡ isOver (marksOf l)
+  is-over = eo ∙ ap isOver em
+
+  pub settle-over : o ≡ true → r ≡ ends l → r ≡ settled l
+  unfolding settled
+  settle-over t e = e ∙ sym (cond-yes (isOver (marksOf l)) (ends l) (gives l Going) (sym is-over ∙ t))
+
+  pub settle-going : o ≡ false → r ≡ gives l Going → r ≡ settled l
+  unfolding settled
+  settle-going t e = e ∙ sym (cond-no (isOver (marksOf l)) (ends l) (gives l Going) (sym is-over ∙ t))
+
+-- ---- next
+module _ (l : Lookup) (b : Bool) (eb : b ≡ inForm l) (r : Step) where
+  pub next-bad : not b ≡ true → r ≡ refuses l OutOfForm → r ≡ nextOf l
+  unfolding nextOf
+  next-bad h e = e ∙ sym (cond-yes (not (inForm l)) (refuses l OutOfForm) _ (ap not (sym eb) ∙ h))
+
+  module _ (h : not b ≡ false) (ms : List ℕ) (em : ms ≡ marksOf l) (o : Bool) (eo : o ≡ isOver ms) where
+    in-form : not (inForm l) ≡ false
+    in-form = ap not (sym eb) ∙ h
+
+    over : o ≡ isOver (marksOf l)
+    over = eo ∙ ap isOver em
+
+    pub next-over : o ≡ true → r ≡ ends l → r ≡ nextOf l
+    unfolding nextOf
+    next-over t e = e ∙ sym (cond-no (not (inForm l)) (refuses l OutOfForm) _ in-form ∙ cond-yes (isOver (marksOf l)) (ends l) _ (sym over ∙ t))
+
+    module _ (t : o ≡ false) (f : ℕ) (ef : f ≡ flightsOf ms) where
+      flights : f ≡ flightsOf (marksOf l)
+      flights = ef ∙ ap flightsOf em
+
+      full : (x : Bool) → leb (l .limit) f ≡ x → leb (l .limit) (flightsOf (marksOf l)) ≡ x
+      full x e = ap (leb (l .limit)) (sym flights) ∙ e
+
+      pub next-full : l .limit ≤ f → r ≡ gives l Wait → r ≡ nextOf l
+      unfolding nextOf
+      next-full g e =
+          e ∙ sym (cond-no (not (inForm l)) (refuses l OutOfForm) _ in-form ∙ cond-no (isOver (marksOf l)) (ends l) _ (sym over ∙ t)
+          ∙ cond-yes (leb (l .limit) (flightsOf (marksOf l))) (gives l Wait) _ (full true (le-leb (l .limit) f g)))
+
+      module _ (g : f < l .limit) (i : ℕ) (ei : i ≡ idleOf ms) where
+        nearest : i ≡ idleOf (marksOf l)
+        nearest = ei ∙ ap idleOf em
+
+        pub next-ask : (k : Lookup) → i < l .count → k ≡ mark i flying l → r ≡ gives k (Ask i) → r ≡ nextOf l
+        unfolding nextOf
+        next-ask k z ek e =
+            e ∙ ap (λ (x : Lookup). gives x (Ask i)) ek ∙ ap (λ (j : ℕ). gives (mark j flying l) (Ask j)) nearest
+            ∙ sym (cond-no (not (inForm l)) (refuses l OutOfForm) _ in-form ∙ cond-no (isOver (marksOf l)) (ends l) _ (sym over ∙ t)
+            ∙ cond-no (leb (l .limit) (flightsOf (marksOf l))) (gives l Wait) _ (full false (lt-leb (l .limit) f g))
+            ∙ cond-yes (ltb (idleOf (marksOf l)) (l .count)) (gives (mark (idleOf (marksOf l)) flying l) (Ask (idleOf (marksOf l)))) (gives l Wait)
+              (ap (λ (j : ℕ). ltb j (l .count)) (sym nearest) ∙ lt-ltb i (l .count) z))
+
+        pub next-wait : l .count ≤ i → r ≡ gives l Wait → r ≡ nextOf l
+        unfolding nextOf
+        next-wait z e =
+            e ∙ sym (cond-no (not (inForm l)) (refuses l OutOfForm) _ in-form ∙ cond-no (isOver (marksOf l)) (ends l) _ (sym over ∙ t)
+            ∙ cond-no (leb (l .limit) (flightsOf (marksOf l))) (gives l Wait) _ (full false (lt-leb (l .limit) f g))
+            ∙ cond-no (ltb (idleOf (marksOf l)) (l .count)) (gives (mark (idleOf (marksOf l)) flying l) (Ask (idleOf (marksOf l)))) (gives l Wait)
+              (ap (λ (j : ℕ). ltb j (l .count)) (sym nearest) ∙ le-ltb i (l .count) z))
+
+-- ---- ids and peers
+module _ (id : List ℕ) where
+  pub fits-none : length id < 1 → false ≡ idFits id
+  fits-none h = sym (and-off (leb 1 (length id)) _ (lt-leb 1 (length id) h))
+
+  pub fits-most : 1 ≤ length id → leb (length id) idMost ≡ idFits id
+  fits-most h = sym (and-on (leb 1 (length id)) _ (le-leb 1 (length id) h))
+
+pub fits-len : (id : List ℕ) (b : Bool) → b ≡ idFits id → not b ≡ false → length id ≤ 64
+fits-len id b e h = leb-true (length id) idMost (and-r (leb 1 (length id)) (leb (length id) idMost) (sym e ∙ not-false b h))
+
+pub flies-no : (p : List ℕ) (c : Candidate) → (c .mark ≡ flying → ⊥) → false ≡ flies p c
+unfolding flies
+flies-no p c h = sym (and-off (eqb (c .mark) flying) (same (c .place) p) (ne-eqb (c .mark) flying h))
+
+pub flies-same : (p : List ℕ) (c : Candidate) (b : Bool) → c .mark ≡ flying → b ≡ same (c .place) p → b ≡ flies p c
+unfolding flies
+flies-same p c b h e = e ∙ sym (and-on (eqb (c .mark) flying) (same (c .place) p) (eq-eqb (c .mark) flying h))
+
+module _ (own ours id : List ℕ) (a : Bool) (ea : a ≡ idFits own) where
+  pub bad-own : not a ≡ true → badPeer own ours id ≡ true
+  unfolding badPeer
+  bad-own h = or-l (not (idFits own)) _ (ap not (sym ea) ∙ h)
+
+  module _ (h : not a ≡ false) (b : Bool) (eb : b ≡ idFits id) where
+    pub bad-id : not b ≡ true → badPeer own ours id ≡ true
+    unfolding badPeer
+    bad-id g = or-r (not (idFits own)) _ (or-l (not (idFits id)) _ (ap not (sym eb) ∙ g))
+
+    module _ (g : not b ≡ false) (p : List ℕ) (s : Bool) (ep : p ≡ sha256 id) (es : s ≡ same p ours) where
+      pub bad-place : s ≡ true → badPeer own ours id ≡ true
+      unfolding badPeer
+      bad-place t = or-r (not (idFits own)) _ (or-r (not (idFits id)) _ (sym (es ∙ ap (λ (x : List ℕ). same x ours) ep) ∙ t))
+
+      pub good-peer : s ≡ false → badPeer own ours id ≡ false
+      unfolding badPeer
+      good-peer t =
+          or-off (not (idFits own)) _ (ap not (sym ea) ∙ h) ∙ or-off (not (idFits id)) _ (ap not (sym eb) ∙ g)
+          ∙ sym (es ∙ ap (λ (x : List ℕ). same x ours) ep) ∙ t
+
+-- ---- whom a report is about
+module _ (l : Lookup) (own ours id : List ℕ) (b : Bool) (eb : b ≡ inForm l) where
+  pub whom-form : not b ≡ true → Nobody OutOfForm ≡ whomOf l own ours id
+  unfolding whomOf
+  whom-form h = sym (cond-yes (not (inForm l)) (Nobody OutOfForm) _ (ap not (sym eb) ∙ h))
+
+  module _ (h : not b ≡ false) where
+    formedness : not (inForm l) ≡ false
+    formedness = ap not (sym eb) ∙ h
+
+    pub whom-bad : badPeer own ours id ≡ true → Nobody BadPeer ≡ whomOf l own ours id
+    unfolding whomOf
+    whom-bad t = sym (cond-no (not (inForm l)) (Nobody OutOfForm) _ formedness ∙ cond-yes (badPeer own ours id) (Nobody BadPeer) _ t)
+
+    module _ (t : badPeer own ours id ≡ false) (ms : List ℕ) (em : ms ≡ marksOf l) (o : Bool) (eo : o ≡ isOver ms) where
+      ended : o ≡ isOver (marksOf l)
+      ended = eo ∙ ap isOver em
+
+      pub whom-over : o ≡ true → Nobody LookupOver ≡ whomOf l own ours id
+      unfolding whomOf
+      whom-over w =
+          sym (cond-no (not (inForm l)) (Nobody OutOfForm) _ formedness ∙ cond-no (badPeer own ours id) (Nobody BadPeer) _ t
+          ∙ cond-yes (isOver (marksOf l)) (Nobody LookupOver) _ (sym ended ∙ w))
+
+      module _ (w : o ≡ false) (p : List ℕ) (ep : p ≡ sha256 id) (i : ℕ) (ei : i ≡ flyerOf p (candidatesOf l)) where
+        flyer : i ≡ flyerOf (sha256 id) (candidatesOf l)
+        flyer = ei ∙ ap (λ (x : List ℕ). flyerOf x (candidatesOf l)) ep
+
+        pub whom-none : l .count ≤ i → Nobody NotInFlight ≡ whomOf l own ours id
+        unfolding whomOf
+        whom-none z =
+            sym (cond-no (not (inForm l)) (Nobody OutOfForm) _ formedness ∙ cond-no (badPeer own ours id) (Nobody BadPeer) _ t
+            ∙ cond-no (isOver (marksOf l)) (Nobody LookupOver) _ (sym ended ∙ w)
+            ∙ cond-yes (leb (l .count) (flyerOf (sha256 id) (candidatesOf l))) (Nobody NotInFlight) _ (ap (leb (l .count)) (sym flyer) ∙ le-leb (l .count) i z))
+
+        pub whom-at : i < l .count → At i ≡ whomOf l own ours id
+        unfolding whomOf
+        whom-at z =
+            ap At flyer
+            ∙ sym (cond-no (not (inForm l)) (Nobody OutOfForm) _ formedness ∙ cond-no (badPeer own ours id) (Nobody BadPeer) _ t
+            ∙ cond-no (isOver (marksOf l)) (Nobody LookupOver) _ (sym ended ∙ w)
+            ∙ cond-no (leb (l .count) (flyerOf (sha256 id) (candidatesOf l))) (Nobody NotInFlight) (At (flyerOf (sha256 id) (candidatesOf l))) (ap (leb (l .count)) (sym flyer) ∙ lt-leb (l .count) i z))
+
+-- who is found stands in the array
+abbrev Within : Lookup → Whom → Type 0
+Within l (Nobody r) = Unit {0}
+Within l (At i) = (i < l .count) × (l .count ≤ room)
+
+within : (l : Lookup) (own ours id : List ℕ) → Within l (whomOf l own ours id)
+unfolding whomOf
+within l own ours id =
+    cond-ind (Within l) (not (inForm l)) _ _ (λ e. tt)
+      (λ f. cond-ind (Within l) (badPeer own ours id) _ _ (λ e. tt)
+      (λ b. cond-ind (Within l) (isOver (marksOf l)) _ _ (λ e. tt)
+      (λ o. cond-ind (Within l) (leb (l .count) (flyerOf (sha256 id) (candidatesOf l))) _ _ (λ e. tt)
+      (λ e. (leb-false (l .count) (flyerOf (sha256 id) (candidatesOf l)) e, formed l (not-false (inForm l) f) .fits)))))
+
+pub found-within : (l : Lookup) (own ours id : List ℕ) (w : Whom) (i : ℕ) → w ≡ whomOf l own ours id → w ≡ At i → (i < l .count) × (l .count ≤ room)
+found-within l own ours id w i e q = subst (Within l) (sym e ∙ q) (within l own ours id)
+
+pub marked-room : (l k : Lookup) (i m : ℕ) → k ≡ mark i m l → l .count ≤ room → k .count ≤ room
+marked-room l k i m e h = subst (λ (x : Lookup). x .count ≤ room) (sym e) h
+
+-- ---- failure
+module _ (l : Lookup) (own ours id : List ℕ) (w : Whom) (ew : w ≡ whomOf l own ours id) (s : Step) where
+  pub fail-refused : (r : Refusal) → w ≡ Nobody r → s ≡ refuses l r → s ≡ failureOf l own ours id
+  unfolding failureOf
+  fail-refused r q e = e ∙ ap (λ (x : Whom). reported l x (λ i. mark i failed l)) (sym q ∙ ew)
+
+  pub fail-at : (i : ℕ) (k : Lookup) → w ≡ At i → k ≡ mark i failed l → s ≡ settled k → s ≡ failureOf l own ours id
+  unfolding failureOf
+  fail-at i k q ek e = e ∙ ap settled ek ∙ ap (λ (x : Whom). reported l x (λ i. mark i failed l)) (sym q ∙ ew)
+
+-- ---- hearing of a peer
+pub fresh-is : (id kept p : List ℕ) (n : ℕ) → kept ≡ sets (replicate idMost 0) 0 id → p ≡ sha256 id → n ≡ length id
+    → record { id = kept; place = p; mark = idle; len = n } ≡ fresh id
+fresh-is id kept p n ek ep en = rw (ek, ep, en)
+
+module _ (c : Candidate) (l : Lookup) (b : Bool) (eb : b ≡ known (c .place) (candidatesOf l)) where
+  pub meet-known : b ≡ true → l ≡ meet c l
+  unfolding meet
+  meet-known t = sym (cond-yes (known (c .place) (candidatesOf l)) l _ (sym eb ∙ t))
+
+  module _ (t : b ≡ false) where
+    pub meet-new : (r : ℕ) (k : Lookup) → l .count < room → length (l .candidates) ≡ 256 → r ≡ rankOf (l .target) (c .place) (candidatesOf l)
+        → k ≡ withCandidates l (l .count + 1) (take r (l .candidates) ++ (c ∷ (drop r (candidatesOf l) ++ drop (l .count + 1) (l .candidates))))
+        → k ≡ meet c l
+    unfolding meet
+    meet-new r k h hl er ek =
+        ek ∙ put-enter l c r h hl er
+        ∙ sym (cond-no (known (c .place) (candidatesOf l)) l _ (sym eb ∙ t)
+        ∙ cond-yes (ltb (l .count) room) (put l (enter (l .target) c (candidatesOf l))) (turnAway l) (lt-ltb (l .count) room h))
+
+    pub meet-full : room ≤ l .count → turnAway l ≡ meet c l
+    unfolding meet
+    meet-full h =
+        sym (cond-no (known (c .place) (candidatesOf l)) l _ (sym eb ∙ t)
+        ∙ cond-no (ltb (l .count) room) (put l (enter (l .target) c (candidatesOf l))) (turnAway l) (le-ltb (l .count) room h))
+
+module _ (ours id : List ℕ) (l : Lookup) (a : Bool) (ea : a ≡ idFits id) where
+  pub hear-bad : not a ≡ true → l ≡ hear ours id l
+  unfolding hear
+  hear-bad h = sym (cond-yes (not (idFits id)) l _ (ap not (sym ea) ∙ h))
+
+  module _ (h : not a ≡ false) (c : Candidate) (ec : c ≡ fresh id) (s : Bool) (es : s ≡ same (c .place) ours) where
+    ourselves : s ≡ same (sha256 id) ours
+    ourselves = es ∙ ap (λ (x : Candidate). same (x .place) ours) ec
+
+    pub hear-ours : s ≡ true → l ≡ hear ours id l
+    unfolding hear
+    hear-ours t = sym (cond-no (not (idFits id)) l _ (ap not (sym ea) ∙ h) ∙ cond-yes (same (sha256 id) ours) l _ (sym ourselves ∙ t))
+
+    pub hear-new : (k : Lookup) → s ≡ false → k ≡ meet c l → k ≡ hear ours id l
+    unfolding hear
+    hear-new k t ek =
+        ek ∙ ap (λ (x : Candidate). meet x l) ec
+        ∙ sym (cond-no (not (idFits id)) l _ (ap not (sym ea) ∙ h) ∙ cond-no (same (sha256 id) ours) l (meet (fresh id) l) (sym ourselves ∙ t))

@@ -1,0 +1,28 @@
+-- `flies_at`: the mark, then the place. Assumes nothing.
+use Prim.Native.Nat.{_≤_, _<_, _-_, _+_}
+use mathlib.Core.Path.{_≡_, refl, sym, ap, _∙_}
+use mathlib.Core.Bool.{not}
+use mathlib.Core.List.{List, map}
+use lib.ListN.{length, take, drop, replicate, length-map, length-replicate}
+use native.Mathlib.Omega.{arith}
+use borrow.Author.Needs.{needs}
+use borrow.Author.Tests.{not-true, not-false}
+use Rattle.lookup.proofs.Steps.{flies-no, flies-same}
+use borrow.Author.Needs.{needs}
+use Rattle.lookup.proofs.flies_at.Statement.{statement}
+use Rattle.lookup.proofs.flies_at.Tie as tie
+use Rattle.lookup.proofs.flies_at.Reads as reads
+use Rattle.lookup.proofs.flies_at.Lts as lts
+use Rattle.lookup.proofs.lies_at.Reads as lies-at-reads
+
+returns : tie.Need-returns
+returns c = flies-no (c .before .before .args .place) (c .before .before .args .c) (c .if1 .taken)
+
+lies-at-requires : tie.Need-lies-at-requires
+lies-at-requires c κs = search needs
+
+returns-2 : tie.Need-returns-2
+returns-2 c = flies-same (c .before .before .before .args .place) (c .before .before .before .args .c) _ (c .before .if1 .left) (c .lies-at .ensures)
+
+pub flies-at-spec : {M : Type 1} → statement M
+flies-at-spec = tie.close (tie.spec returns lies-at-requires returns-2)

@@ -1,0 +1,70 @@
+-- `is_known`: from i on. Assumes nothing.
+use Prim.Native.Nat.{_≤_, _<_, _-_, _+_}
+use mathlib.Core.Path.{_≡_, refl, sym, ap, _∙_}
+use mathlib.Core.Bool.{not}
+use mathlib.Core.List.{List, map}
+use lib.ListN.{length, take, drop, replicate, length-map, length-replicate}
+use native.Mathlib.Omega.{arith}
+use borrow.Author.Needs.{needs}
+use borrow.Author.Tests.{not-true, not-false}
+use Rattle.lookup.specs.Lists.{anyIn}
+use Rattle.lookup.specs.Lookup.{liesAt}
+use Rattle.lookup.proofs.Lists.{find-hit, find-miss, find-end}
+use Rattle.lookup.proofs.is_known.Statement.{statement}
+use Rattle.lookup.proofs.is_known.Tie as tie
+use Rattle.lookup.proofs.is_known.Reads as reads
+use Rattle.lookup.proofs.is_known.Lts as lts
+use Rattle.lookup.proofs.lies_at.Reads as lies-at-reads
+
+abbrev Inv-loop : tie.InvT-loop
+Inv-loop n place l i₀ i = (i ≤ n) × (anyIn (liesAt place) (drop i (take n (l .candidates))) ≡ anyIn (liesAt place) (take n (l .candidates)))
+
+abbrev μ-loop : tie.MeasureT-loop
+μ-loop n place l i₀ i = n - i
+
+long : (c : tie.Start Inv-loop μ-loop) → length (c .args .t1 .candidates) ≡ 256
+long c = simp length-map at (c .good .0 .1 .1 .0 .1 .0 .1)
+
+
+loop-holds : tie.Need-loop-holds Inv-loop μ-loop
+loop-holds c = (omega arith, refl)
+
+mul-c : tie.Need-mul-c Inv-loop μ-loop
+mul-c c = search needs
+
+element-copy-out-c : tie.Need-element-copy-out-c Inv-loop μ-loop
+element-copy-out-c c = search needs
+
+lies-at-requires : tie.Need-lies-at-requires Inv-loop μ-loop
+lies-at-requires c κs = search needs
+
+returns : tie.Need-returns Inv-loop μ-loop
+returns c = find-hit (liesAt (c .before .before .before .before .before .args .place)) _ _ _ _ _ _ (omega (arith, long (c .before .before .before .before .before))) (c .before .before .before .loop-test .taken) (c .before .lies-at .ensures) (c .if1 .taken) (c .before .before .before .before .loop .inv .1)
+
+add-i : tie.Need-add-i Inv-loop μ-loop
+add-i c = search needs
+
+loop-less : tie.Need-loop-less Inv-loop μ-loop
+loop-less c = search needs
+
+loop-again : tie.Need-loop-again Inv-loop μ-loop
+loop-again c = (omega arith, find-miss (liesAt (c .before .before .before .before .before .args .place)) _ _ _ _ _ _ (omega (arith, long (c .before .before .before .before .before))) (c .before .before .before .loop-test .taken) (c .before .lies-at .ensures) (c .if1 .left) (c .before .before .before .before .loop .inv .1))
+
+returns-2 : tie.Need-returns-2 Inv-loop μ-loop
+returns-2 c = find-end (liesAt (c .before .before .args .place)) _ _ _ _ (c .loop-test .left) (c .before .loop .inv .1)
+
+pub is-known-spec : {M : Type 1} → statement M
+is-known-spec =
+    tie.close
+    (tie.spec
+    Inv-loop
+    μ-loop
+    loop-holds
+    mul-c
+    element-copy-out-c
+    lies-at-requires
+    returns
+    add-i
+    loop-less
+    loop-again
+    returns-2)

@@ -1,0 +1,218 @@
+-- The closest-peer lookup: document 01, 'Lookup'. A lookup is a value; each step takes it in and hands the next one back.
+use Prim.Native.Nat.{ℕ, zero, suc}
+use mathlib.Core.Bool.{Bool, true, false, cond, not, _&&_, _||_}
+use mathlib.Core.List.{List, [], _∷_, _++_, map}
+use lib.ListN.{length, take, drop, replicate}
+use lib.Seq.{sets}
+use lib.Dec.{leb, ltb, eqb}
+use Rattle.octets.specs.Octets.{same}
+use Rattle.octets.specs.Search.{allOf}
+use Rattle.place.specs.Place.{nearerTo}
+use Rattle.sha256.specs.Sha256.{sha256}
+use Rattle.refusal.specs.declared.Refusal.{Refusal}
+use Rattle.refusal.specs.declared.Refusal.the-variants.{OutOfForm, BadPeer, NotInFlight, LookupOver}
+use Rattle.lookup_marks.specs.Marks.{idle, flying, answered, failed, twentyOf, isOver, idleOf, flightsOf, sentOf, ranksOf}
+use Rattle.lookup_marks.specs.declared.Ranks.{Ranks}
+use Rattle.lookup.specs.Lists.{firstIn, anyIn}
+use Rattle.lookup.specs.declared.Candidate.{Candidate}
+use Rattle.lookup.specs.declared.Lookup.{Lookup}
+use Rattle.lookup.specs.declared.Step.{Step}
+use Rattle.lookup.specs.declared.Answer.{Answer}
+use Rattle.lookup.specs.declared.Answer.the-variants.{Refused, Complete, CutShort, Wait, Ask, Going}
+use Rattle.lookup.specs.declared.Whom.{Whom}
+use Rattle.lookup.specs.declared.Whom.the-variants.{Nobody, At}
+
+-- ---- limits
+-- "Room for 256."
+abbrev pub room : ℕ
+room = 256
+
+-- a peer id has 1 to 64 bytes
+abbrev pub idMost : ℕ
+idMost = 64
+
+-- a key has 1 to 128 bytes
+abbrev pub keyMost : ℕ
+keyMost = 128
+
+-- "a limit of 1 to 10"
+abbrev pub limitMost : ℕ
+limitMost = 10
+
+-- "the first 21 closerPeers entries"
+abbrev pub heardMost : ℕ
+heardMost = 21
+
+-- ---- the candidates, nearest first, and their marks
+abbrev pub candidatesOf : Lookup → List Candidate
+candidatesOf l = take (l .count) (l .candidates)
+
+abbrev pub markOf : Candidate → ℕ
+markOf c = c .mark
+
+abbrev pub marksOf : Lookup → List ℕ
+marksOf l = map markOf (candidatesOf l)
+
+-- ---- form: "a key of 1 to 128 bytes, a limit of 1 to 10, up to 256 candidates nearest first with ids of 1 to 64 bytes, no place twice".
+-- Each being nearer than the next, no place stands twice.
+unfoldable pub wellMade : Candidate → Bool
+wellMade c = allOf (leb (c .mark) failed ∷ leb 1 (c .len) ∷ leb (c .len) idMost ∷ [])
+
+-- each of cs is well made and farther from the target t than the one before it, the first than d
+unfoldable pub follow : List ℕ → Candidate → List Candidate → Bool
+follow t d [] = true
+follow t d (c ∷ cs) = (wellMade c && nearerTo t (d .place) (c .place)) && follow t c cs
+
+unfoldable pub nearestFirst : List ℕ → List Candidate → Bool
+nearestFirst t [] = true
+nearestFirst t (c ∷ cs) = wellMade c && follow t c cs
+
+unfoldable pub inForm : Lookup → Bool
+inForm l =
+    allOf
+    (leb 1 (l .size)
+    ∷ leb (l .size) keyMost
+    ∷ leb 1 (l .limit)
+    ∷ leb (l .limit) limitMost
+    ∷ leb (l .count) room
+    ∷ nearestFirst (l .target) (candidatesOf l)
+    ∷ [])
+
+-- ---- what changes, and that all else stays
+abbrev pub withCandidates : Lookup → ℕ → List Candidate → Lookup
+withCandidates l n cs =
+    record
+      { candidates = cs
+      ; key = l .key
+      ; target = l .target
+      ; count = n
+      ; size = l .size
+      ; limit = l .limit
+      ; turned = l .turned
+      }
+
+-- someone was turned away
+abbrev pub turnAway : Lookup → Lookup
+turnAway l =
+    record
+      { candidates = l .candidates
+      ; key = l .key
+      ; target = l .target
+      ; count = l .count
+      ; size = l .size
+      ; limit = l .limit
+      ; turned = true
+      }
+
+-- the candidates cs stand in the lookup; what the array holds past them stays
+abbrev pub put : Lookup → List Candidate → Lookup
+put l cs = withCandidates l (length cs) (cs ++ drop (length cs) (l .candidates))
+
+abbrev pub withMark : ℕ → Candidate → Candidate
+withMark m c = record { id = c .id; place = c .place; mark = m; len = c .len }
+
+-- the candidate of rank i gets the mark m
+unfoldable pub markAt : ℕ → ℕ → List Candidate → List Candidate
+markAt i m [] = []
+markAt zero m (c ∷ cs) = withMark m c ∷ cs
+markAt (suc i) m (c ∷ cs) = c ∷ markAt i m cs
+
+abbrev pub mark : ℕ → ℕ → Lookup → Lookup
+mark i m l = withCandidates l (l .count) (markAt i m (l .candidates))
+
+-- ---- answers
+abbrev pub gives : Lookup → Answer → Step
+gives l a = record { lookup = l; found = ranksOf []; answer = a }
+
+abbrev pub refuses : Lookup → Refusal → Step
+refuses l r = gives l (Refused r)
+
+-- "Over means complete, or cut short if marked, with the answered ones of those 20 in order and the number of requests sent"
+abbrev pub ends : Lookup → Step
+ends l =
+    record
+      { lookup = l
+      ; found = ranksOf (twentyOf (marksOf l))
+      ; answer = cond (l .turned) (CutShort (sentOf (marksOf l))) (Complete (sentOf (marksOf l)))
+      }
+
+-- "The test for over is made after every start, reply and failure"
+unfoldable pub settled : Lookup → Step
+settled l = cond (isOver (marksOf l)) (ends l) (gives l Going)
+
+-- ---- next: "over, if all of the 20 nearest not failed have answered; else wait, if the limit is in flight; else ask the nearest idle one
+-- among those 20; else wait"
+unfoldable pub nextOf : Lookup → Step
+nextOf l =
+    cond (not (inForm l)) (refuses l OutOfForm)
+    (cond (isOver (marksOf l)) (ends l)
+    (cond (leb (l .limit) (flightsOf (marksOf l))) (gives l Wait)
+    (cond (ltb (idleOf (marksOf l)) (l .count)) (gives (mark (idleOf (marksOf l)) flying l) (Ask (idleOf (marksOf l))))
+    (gives l Wait))))
+
+-- ---- reply and failure: who it is about
+abbrev pub idFits : List ℕ → Bool
+idFits id = leb 1 (length id) && leb (length id) idMost
+
+-- "peer id not 1 to 64 bytes, or of our place"; a box whose own id is no peer id refuses the same way
+unfoldable pub badPeer : List ℕ → List ℕ → List ℕ → Bool
+badPeer own ours id = not (idFits own) || (not (idFits id) || same (sha256 id) ours)
+
+-- the candidate at the place p is in flight
+unfoldable pub flies : List ℕ → Candidate → Bool
+flies p c = eqb (c .mark) flying && same (c .place) p
+
+-- its rank, or the number of candidates where there is none
+abbrev pub flyerOf : List ℕ → List Candidate → ℕ
+flyerOf p cs = firstIn (flies p) cs
+
+-- whom a report is about, by rank; or the refusal: 0, 12, 17 or 16
+unfoldable pub whomOf : Lookup → List ℕ → List ℕ → List ℕ → Whom
+whomOf l own ours id =
+    cond (not (inForm l)) (Nobody OutOfForm)
+    (cond (badPeer own ours id) (Nobody BadPeer)
+    (cond (isOver (marksOf l)) (Nobody LookupOver)
+    (cond (leb (l .count) (flyerOf (sha256 id) (candidatesOf l))) (Nobody NotInFlight)
+    (At (flyerOf (sha256 id) (candidatesOf l))))))
+
+-- refused, or what the lookup becomes
+abbrev pub reported : Lookup → Whom → (ℕ → Lookup) → Step
+reported l (Nobody r) next = refuses l r
+reported l (At i) next = settled (next i)
+
+-- "a failure report, marks the peer failed for good"
+unfoldable pub failureOf : Lookup → List ℕ → List ℕ → List ℕ → Step
+failureOf l own ours id = reported l (whomOf l own ours id) (λ i. mark i failed l)
+
+-- ---- hearing of a peer
+-- a candidate as it comes in: idle, its id with zeros after it
+abbrev pub fresh : List ℕ → Candidate
+fresh id = record { id = sets (replicate idMost 0) 0 id; place = sha256 id; mark = idle; len = length id }
+
+-- some candidate lies at p
+abbrev pub liesAt : List ℕ → Candidate → Bool
+liesAt p c = same (c .place) p
+
+abbrev pub known : List ℕ → List Candidate → Bool
+known p cs = anyIn (liesAt p) cs
+
+-- c among cs, after those nearer to the target t
+unfoldable pub enter : List ℕ → Candidate → List Candidate → List Candidate
+enter t c [] = c ∷ []
+enter t c (d ∷ cs) = cond (nearerTo t (d .place) (c .place)) (d ∷ enter t c cs) (c ∷ d ∷ cs)
+
+-- a known place is skipped; "A new place with no room marks the lookup."
+unfoldable pub meet : Candidate → Lookup → Lookup
+meet c l =
+    cond (known (c .place) (candidatesOf l)) l
+    (cond (ltb (l .count) room) (put l (enter (l .target) c (candidatesOf l)))
+    (turnAway l))
+
+-- "skipping among them bad ids, ourselves and places known"
+unfoldable pub hear : List ℕ → List ℕ → Lookup → Lookup
+hear ours id l = cond (not (idFits id)) l (cond (same (sha256 id) ours) l (meet (fresh id) l))
+
+-- one after another
+unfoldable pub hearAll : List ℕ → List (List ℕ) → Lookup → Lookup
+hearAll ours [] l = l
+hearAll ours (id ∷ ids) l = hearAll ours ids (hear ours id l)

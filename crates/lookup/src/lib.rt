@@ -1,0 +1,434 @@
+// The closest-peer lookup: a value that each step takes in and hands back.
+ghost use mathlib.Core.Path.{_≡_};
+ghost use mathlib.Core.Bool.{_&&_};
+ghost use mathlib.Core.List.{map, _∷_, _++_};
+ghost use Prim.Native.Nat.{_+_, _<_, _≤_};
+ghost use lib.ListN.{length, take, drop};
+ghost use Rattle.place.specs.Place.{nearerTo};
+ghost use Rattle.lookup_marks.specs.Marks.{failed};
+ghost use Rattle.lookup.specs.Inner.{rankOf};
+ghost use Rattle.lookup.specs.Lookup.{markOf, marksOf, wellMade, nearestFirst, inForm, withCandidates, turnAway, markAt, mark, gives, refuses, ends, settled, nextOf, idFits, flies, flyerOf, whomOf, failureOf, fresh, liesAt, known, meet, hear};
+
+use refusal::Refusal;
+use lookup_marks::Ranks;
+
+// Room for candidates, and the limits of a peer id, of a key and of the requests in flight.
+pub const ROOM: usize = 256;
+
+pub const ID_MOST: usize = 64;
+
+pub const KEY_MOST: usize = 128;
+
+pub const LIMIT_MOST: usize = 10;
+
+// A peer that was heard of: its mark is one of lookup_marks.
+pub struct Candidate {
+    pub id: [u8; 64],
+    pub place: [u8; 32],
+    pub mark: u8,
+    pub len: u8,
+}
+
+// A lookup: its candidates nearest first, the key with its size and place, how many may be in flight, and whether someone was turned away.
+pub struct Lookup {
+    pub candidates: [Candidate; 256],
+    pub key: [u8; 128],
+    pub target: [u8; 32],
+    pub count: usize,
+    pub size: usize,
+    pub limit: usize,
+    pub turned: bool,
+}
+
+// What a step answers. A peer to ask is named by its rank; over comes with the number of requests sent.
+pub enum Answer {
+    Refused(Refusal),
+    Complete(usize),
+    CutShort(usize),
+    Wait,
+    Ask(usize),
+    Going,
+}
+
+// Whom a report is about, by rank, or why it is refused.
+pub enum Whom {
+    Nobody(Refusal),
+    At(usize),
+}
+
+// A step's outcome: the lookup to go on with, the answer and, where it is over, the ranks of the nearest that answered.
+pub struct Step {
+    pub lookup: Lookup,
+    pub found: Ranks,
+    pub answer: Answer,
+}
+
+fn well_made(c: Candidate) -> bool
+    ensures { λ r. ⌜ r ≡ wellMade c ⌝ }
+{
+    if c.mark > lookup_marks::FAILED {
+        return false;
+    }
+    if c.len < 1 {
+        return false;
+    }
+    c.len as usize <= ID_MOST
+}
+
+// Whether c may stand right after d.
+fn follows(target: [u8; 32], d: Candidate, c: Candidate) -> bool
+    ensures { λ r. ⌜ r ≡ (wellMade c && nearerTo target (d .place) (c .place)) ⌝ }
+{
+    if !well_made(c) {
+        return false;
+    }
+    let near = d.place;
+    let far = c.place;
+    place::nearer(&target, &near, &far)
+}
+
+// Whether the first n candidates are well made and stand nearest first.
+fn in_order(l: Lookup, n: usize) -> bool
+    requires { ⌜ n ≤ 256 ⌝ }
+    ensures { λ r. ⌜ r ≡ nearestFirst (l .target) (take n (l .candidates)) ⌝ }
+{
+    if n == 0 {
+        return true;
+    }
+    let target = l.target;
+    let mut last = l.candidates[0];
+    if !well_made(last) {
+        return false;
+    }
+    let mut i: usize = 1;
+    while i < n {
+        let c = l.candidates[i];
+        if !follows(target, last, c) {
+            return false;
+        }
+        last = c;
+        i += 1;
+    }
+    true
+}
+
+// Whether a lookup is in form.
+pub fn in_form(l: Lookup) -> bool
+    ensures { λ r. ⌜ r ≡ inForm l ⌝ }
+{
+    let size = l.size;
+    let limit = l.limit;
+    let n = l.count;
+    if size < 1 {
+        return false;
+    }
+    if size > KEY_MOST {
+        return false;
+    }
+    if limit < 1 {
+        return false;
+    }
+    if limit > LIMIT_MOST {
+        return false;
+    }
+    if n > ROOM {
+        return false;
+    }
+    in_order(l, n)
+}
+
+// The marks of all places in the array, side by side.
+fn marks_of(l: Lookup) -> [u8; 256]
+    ensures { λ r. ⌜ r ≡ map markOf (l .candidates) ⌝ }
+{
+    let mut marks = [0u8; 256];
+    let mut i: usize = 0;
+    while i < 256 {
+        let c = l.candidates[i];
+        marks[i] = c.mark;
+        i += 1;
+    }
+    marks
+}
+
+// The candidate of rank i gets the mark m.
+fn set_mark(l: Lookup, i: usize, m: u8) -> Lookup
+    requires { ⌜ i < 256 ⌝ }
+    ensures { λ r. ⌜ r ≡ mark i m l ⌝ }
+{
+    let mut k = l;
+    let mut c = k.candidates[i];
+    c.mark = m;
+    k.candidates[i] = c;
+    k
+}
+
+// An answer with nobody found.
+fn give(l: Lookup, answer: Answer) -> Step
+    ensures { λ r. ⌜ r ≡ gives l answer ⌝ }
+{
+    let at = [0usize; 20];
+    let found = Ranks { at, n: 0 };
+    Step {
+        lookup: l,
+        found,
+        answer,
+    }
+}
+
+// The answer of a lookup that is over.
+fn end(l: Lookup, marks: &[u8]) -> Step
+    requires { ⌜ now marks ≡ marksOf l ⌝ }
+    ensures { λ r. ⌜ r ≡ ends l ⌝ }
+{
+    let found = lookup_marks::twenty(marks);
+    let sent = lookup_marks::sent(marks);
+    if l.turned {
+        return Step {
+            lookup: l,
+            found,
+            answer: Answer::CutShort(sent),
+        };
+    }
+    Step {
+        lookup: l,
+        found,
+        answer: Answer::Complete(sent),
+    }
+}
+
+// Over or going, after a start, a reply or a failure.
+fn settle(l: Lookup) -> Step
+    requires { ⌜ l .count ≤ 256 ⌝ }
+    ensures { λ r. ⌜ r ≡ settled l ⌝ }
+{
+    let n = l.count;
+    let marks = marks_of(l);
+    let held = &marks[..n];
+    if lookup_marks::over(held) {
+        return end(l, held);
+    }
+    give(l, Answer::Going)
+}
+
+// Whether a peer id has 1 to 64 bytes.
+fn id_fits(id: &[u8]) -> bool
+    ensures { λ r. ⌜ r ≡ idFits (now (id .entry)) ⌝ }
+{
+    if id.len() < 1 {
+        return false;
+    }
+    id.len() <= ID_MOST
+}
+
+// Whether the candidate lies at this place.
+fn lies_at(c: Candidate, place: [u8; 32]) -> bool
+    ensures { λ r. ⌜ r ≡ liesAt place c ⌝ }
+{
+    let own = c.place;
+    octets::same_bytes(&own, &place)
+}
+
+// Whether the candidate is nearer to the target than this place.
+fn is_nearer(target: [u8; 32], c: Candidate, place: [u8; 32]) -> bool
+    ensures { λ r. ⌜ r ≡ nearerTo target (c .place) place ⌝ }
+{
+    let own = c.place;
+    place::nearer(&target, &own, &place)
+}
+
+// Whether the candidate lies at this place and is in flight.
+fn flies_at(c: Candidate, place: [u8; 32]) -> bool
+    ensures { λ r. ⌜ r ≡ flies place c ⌝ }
+{
+    if c.mark != lookup_marks::IN_FLIGHT {
+        return false;
+    }
+    lies_at(c, place)
+}
+
+// The rank of the candidate in flight at this place, or n.
+fn flyer(l: Lookup, n: usize, place: [u8; 32]) -> usize
+    requires { ⌜ n ≤ 256 ⌝ }
+    ensures { λ r. ⌜ r ≡ flyerOf place (take n (l .candidates)) ⌝ }
+{
+    let mut i: usize = 0;
+    while i < n {
+        let c = l.candidates[i];
+        if flies_at(c, place) {
+            return i;
+        }
+        i += 1;
+    }
+    n
+}
+
+// Whom a report on the peer with this id is about. The box's own id and place come with it.
+fn about(l: Lookup, own: &[u8], ours: [u8; 32], id: &[u8]) -> Whom
+    ensures { λ r. ⌜ r ≡ whomOf l (now (own .entry)) ours (now (id .entry)) ⌝ }
+{
+    if !in_form(l) {
+        return Whom::Nobody(Refusal::OutOfForm);
+    }
+    if !id_fits(own) {
+        return Whom::Nobody(Refusal::BadPeer);
+    }
+    if !id_fits(id) {
+        return Whom::Nobody(Refusal::BadPeer);
+    }
+    let place = sha256::hash(id);
+    if octets::same_bytes(&place, &ours) {
+        return Whom::Nobody(Refusal::BadPeer);
+    }
+    let n = l.count;
+    let marks = marks_of(l);
+    let held = &marks[..n];
+    if lookup_marks::over(held) {
+        return Whom::Nobody(Refusal::LookupOver);
+    }
+    let i = flyer(l, n, place);
+    if n <= i {
+        return Whom::Nobody(Refusal::NotInFlight);
+    }
+    Whom::At(i)
+}
+
+// Whether some candidate lies at this place.
+fn is_known(l: Lookup, n: usize, place: [u8; 32]) -> bool
+    requires { ⌜ n ≤ 256 ⌝ }
+    ensures { λ r. ⌜ r ≡ known place (take n (l .candidates)) ⌝ }
+{
+    let mut i: usize = 0;
+    while i < n {
+        let c = l.candidates[i];
+        if lies_at(c, place) {
+            return true;
+        }
+        i += 1;
+    }
+    false
+}
+
+// How many are nearer than the place, up to the first that isn't.
+fn rank(l: Lookup, n: usize, place: [u8; 32]) -> usize
+    requires { ⌜ n ≤ 256 ⌝ }
+    ensures { λ r. ⌜ r ≡ rankOf (l .target) place (take n (l .candidates)) ⌝ }
+{
+    let target = l.target;
+    let mut i: usize = 0;
+    while i < n {
+        let c = l.candidates[i];
+        if !is_nearer(target, c, place) {
+            return i;
+        }
+        i += 1;
+    }
+    n
+}
+
+// The candidates from rank r on move one up, and c comes in.
+fn insert(l: Lookup, n: usize, r: usize, c: Candidate) -> Lookup
+    requires { ⌜ (n < 256) × (r ≤ n) ⌝ }
+    ensures { λ s. ⌜ s ≡ withCandidates l (n + 1) (take r (l .candidates) ++ (c ∷ (drop r (take n (l .candidates)) ++ drop (n + 1) (l .candidates)))) ⌝ }
+{
+    let mut k = l;
+    let mut j = n;
+    while r < j {
+        let d = k.candidates[j - 1];
+        k.candidates[j] = d;
+        j -= 1;
+    }
+    k.candidates[r] = c;
+    k.count = n + 1;
+    k
+}
+
+// A candidate comes in at its rank, unless its place is known; where there is no room, the lookup is marked.
+fn take_in(l: Lookup, c: Candidate) -> Lookup
+    requires { ⌜ l .count ≤ 256 ⌝ }
+    ensures { λ r. ⌜ r ≡ meet c l ⌝ }
+{
+    let n = l.count;
+    let place = c.place;
+    if is_known(l, n, place) {
+        return l;
+    }
+    if n < ROOM {
+        let r = rank(l, n, place);
+        return insert(l, n, r, c);
+    }
+    let mut k = l;
+    k.turned = true;
+    k
+}
+
+// A candidate as it comes in: idle.
+fn newcomer(id: &[u8]) -> Candidate
+    requires { ⌜ length (now id) ≤ 64 ⌝ }
+    ensures { λ r. ⌜ r ≡ fresh (now (id .entry)) ⌝ }
+{
+    let place = sha256::hash(id);
+    let len = id.len() as u8;
+    let mut kept = [0u8; 64];
+    octets::copy(&mut kept, 0, id);
+    Candidate {
+        id: kept,
+        place,
+        mark: lookup_marks::IDLE,
+        len,
+    }
+}
+
+// The peer with this id is heard of.
+fn hear_of(l: Lookup, ours: [u8; 32], id: &[u8]) -> Lookup
+    requires { ⌜ l .count ≤ 256 ⌝ }
+    ensures { λ r. ⌜ r ≡ hear ours (now (id .entry)) l ⌝ }
+{
+    if !id_fits(id) {
+        return l;
+    }
+    let c = newcomer(id);
+    let place = c.place;
+    if octets::same_bytes(&place, &ours) {
+        return l;
+    }
+    take_in(l, c)
+}
+
+impl Lookup {
+    // The next step: over, wait, or whom to ask, who is then in flight.
+    pub fn next(self) -> Step
+        ensures { λ r. ⌜ r ≡ nextOf self ⌝ }
+    {
+        if !in_form(self) {
+            return give(self, Answer::Refused(Refusal::OutOfForm));
+        }
+        let n = self.count;
+        let marks = marks_of(self);
+        let held = &marks[..n];
+        if lookup_marks::over(held) {
+            return end(self, held);
+        }
+        let limit = self.limit;
+        if limit <= lookup_marks::in_flight(held) {
+            return give(self, Answer::Wait);
+        }
+        let i = lookup_marks::idle(held);
+        if i < n {
+            let asked = set_mark(self, i, lookup_marks::IN_FLIGHT);
+            return give(asked, Answer::Ask(i));
+        }
+        give(self, Answer::Wait)
+    }
+
+    // The peer with this id did not answer, or not as it should: it has failed for good.
+    pub fn failure(self, own: &[u8], ours: [u8; 32], id: &[u8]) -> Step
+        ensures { λ r. ⌜ r ≡ failureOf self (now (own .entry)) ours (now (id .entry)) ⌝ }
+    {
+        let w = about(self, own, ours, id);
+        match w {
+            Whom::Nobody(r) => give(self, Answer::Refused(r)),
+            Whom::At(i) => settle(set_mark(self, i, lookup_marks::FAILED)),
+        }
+    }
+}
