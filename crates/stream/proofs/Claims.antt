@@ -37,7 +37,7 @@ pub several : Several
 several P A B O L Peer Good Fits S s r cs ds h k g n = same-end L S cs ds s r h k g n
 
 pub several-plainly : SeveralPlainly
-several-plainly P A B O L Peer Good Fits S s r f n cs h = read-out L S s r f n cs h
+several-plainly P A B O L Peer Good Fits S K s r f n cs h = read-out L S K s r f n cs h
 
 pub past : Past
 past f m n bs j k e = past-alike f m n bs j k e
