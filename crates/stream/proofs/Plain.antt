@@ -3,27 +3,27 @@ use Prim.Native.Nat.{ℕ, _+_, _≤_}
 use mathlib.Core.Path.{_≡_, refl, sym, ap, _∙_, subst}
 use mathlib.Core.List.{List, [], _∷_, _++_, append-assoc, append-nil}
 use mathlib.Core.Bool.{Bool, true, false, cond, true≢false, false≢true}
-use native.Mathlib.Nat.{add-assoc, add-zero}
+use native.Mathlib.Nat.{add-zero}
 use native.Mathlib.Omega.{arith}
 use lib.ListN.{length, take, drop}
 use lib.Dec.{eqb}
 use borrow.Author.Tests.{eqb-true, eq-eqb}
-use Rattle.octets.proofs.Bools.{cond-ind, cond-no}
+use Rattle.octets.proofs.Bools.{cond-ind}
 use Rattle.refusal.specs.declared.Refusal.{Refusal}
 use Rattle.stream.specs.declared.Framing.{Framing}
 use Rattle.stream.specs.declared.Framing.the-variants.{Shut}
 use Rattle.stream.specs.declared.Answer.{Answer}
 use Rattle.stream.specs.declared.Answer.the-variants.{Message, Refused, More}
-use Rattle.stream.specs.Stream.{bodyLimit, fresh, isShut, stepOf, storeOf, Out, out, shift, after, runOf}
+use Rattle.stream.specs.Stream.{bodyLimit, fresh, isShut, inForm, stepOf, storeOf, Out, out, shift, after, runOf}
 use Rattle.stream.specs.Frames.{Event, message, refused, Head, partly, whole, bad, headOf, framingOf, halfOf}
-use Rattle.stream.specs.World.{Did, Sys, Mark, happened, asked, setAt, here, putBack, Line, Shared, World, Layer, Call, hand, does, asks, Act, takes, acts, bytes, given, isMore, acted, calls, Fine, Sound, Ready, AllFit}
-use Rattle.stream.specs.Plain.{Wire, leading, pending, standing, dealt, actNext, byHead, next, plainly, unread, Left, ReadOut, Blunt}
+use Rattle.stream.specs.World.{Did, Sys, Mark, happened, setAt, here, putBack, Line, Shared, World, Layer, Call, hand, does, asks, Act, takes, acts, bytes, given, isMore, acted, calls, Fine, Sound, Ready, AllFit}
+use Rattle.stream.specs.Plain.{Wire, leading, pending, standing, dealt, actNext, byHead, next, plainly, unread, ReadOut, Blunt}
 use Rattle.stream.proofs.Lists.{length-snoc}
 use Rattle.stream.proofs.Runs.{shift-shift, shift-zero, run-nil, run-cons}
 use Rattle.stream.proofs.Kept.{shut-only, step-open, store-length}
-use Rattle.stream.proofs.Heads.{Ran, RanPart, RanWhole, head-run}
+use Rattle.stream.proofs.Heads.{Ran, head-run}
 use Rattle.stream.proofs.Order.{Step, at, other, actsOf, step, run, marks, set-same}
-use Rattle.stream.proofs.World.{taken, steps, given-steps, stepLine, lands, happens, rules, byte, byte-shut, byte-by, byte-well, calls-steps, run-order}
+use Rattle.stream.proofs.World.{taken, steps, given-steps, stepLine, lands, rules, byte, byte-shut, byte-by, byte-well, calls-steps, run-order}
 
 -- ---- what a connection is given
 module _ {B : Type 0} where
@@ -310,8 +310,7 @@ module _ {P A B O : Type 0} (L : Layer P A B O) where
       where
         go : (t : Bool) → w .shut ≡ t → (q : Answer) → stepOf f b .answer ≡ q → (did .shared .state ≡ d .shared .state) × Rel (did .line) w (p ++ (b ∷ [])) rest
         go true h q e =
-            let D : did ≡ d = byte-shut L i d b (r .shut ∙ h) in
-            (
+            let D : did ≡ d = byte-shut L i d b (r .shut ∙ h) in (
               ap (λ (y : Here). y .shared .state) D,
               subst (λ (y : Here). Rel (y .line) w (p ++ (b ∷ [])) rest) (sym D)
                   (record {
@@ -328,8 +327,7 @@ module _ {P A B O : Type 0} (L : Layer P A B O) where
             let D : did ≡ record { line = stepLine L (d .line) b; shared = d .shared } = byte-by L i d b More e (r .shut ∙ h) in
             let place : d .line .taken ≡ w .taken + length p = placed h in
             let n : length (p ++ (b ∷ [])) ≡ length p + 1 = length-snoc p b in
-            let pos : d .line .taken + 1 ≡ w .taken + length (p ++ (b ∷ [])) = omega arith in
-            (
+            let pos : d .line .taken + 1 ≡ w .taken + length (p ++ (b ∷ [])) = omega arith in (
               ap (λ (y : Here). y .shared .state) D,
               subst (λ (y : Here). Rel (y .line) w (p ++ (b ∷ [])) rest) (sym D)
                   (record {
@@ -356,10 +354,10 @@ module _ {P A B O : Type 0} (L : Layer P A B O) where
 
   -- ---- an act
   module _ {Fits : B → Type 0} (K : Blunt L Fits) where
-    act-rel : (i : ℕ) (d : Here) (w : Wire P B) (p : List ℕ) (b : B) (rest : List (Act B)) → Fits b → bodyLimit ≤ length (acted L i b d .line .buffer) → Rel (d .line) w p (acts b ∷ rest)
+    act-rel : (i : ℕ) (d : Here) (w : Wire P B) (p : List ℕ) (b : B) (rest : List (Act B)) → Fits b → inForm (d .line .framing) ≡ true → bodyLimit ≤ length (acted L i b d .line .buffer) → Rel (d .line) w p (acts b ∷ rest)
         → (acted L i b d .shared .state ≡ next L i (record { line = w; shared = d .shared .state }) .shared)
         × Rel (acted L i b d .line) (next L i (record { line = w; shared = d .shared .state }) .line) [] rest
-    act-rel i d w p b rest fit room r =
+    act-rel i d w p b rest fit form room r =
         let a : A = d .shared .state in
         let none-left : leading (acts b ∷ rest) ≡ [] = leading-acts b rest in
         let l : d .line ≡ standing w (d .line .buffer) = rel-stands (d .line) w p (acts b ∷ rest) r none-left in
@@ -377,9 +375,8 @@ module _ {P A B O : Type 0} (L : Layer P A B O) where
           left = sym (bytes-none rest);
           shut = ap isShut fr;
           place = ap (λ (x : Did (Line P) A). x .line .taken) same ∙ K .taken i b w (d .line .buffer) a fit ∙ sym (none (isShut (e .line .framing)) (e .line .taken));
-          mid = λ z. mid-fresh (g .line .framing) (g .line .buffer) (K .anew i b (d .line) a fit (ap isShut fr ∙ z)) room;
-        } in
-        (
+          mid = λ z. mid-fresh (g .line .framing) (g .line .buffer) (K .anew i b (d .line) a fit form (ap isShut fr ∙ z)) room;
+        } in (
           ap (λ (x : Did (Line P) A). x .shared) same ∙ K .state i b w (d .line .buffer) a fit ∙ sym (ap (λ (x : Did (Wire P B) A). x .shared) N),
           subst (λ (x : Did (Wire P B) A). Rel (g .line) (x .line) [] rest) (sym N) R,
         )
@@ -475,7 +472,7 @@ module _ {P A B O : Type 0} (L : Layer P A B O) where
         let f : Fine Peer (d .line) = S .act-line i b (s .lines i) (s .shared .state) (fit .0) (r .lines i) (r .good) in
         let g : Good (d .shared .state) = S .act-good i b (s .lines i) (s .shared .state) (fit .0) (r .lines i) (r .good) in
         after-event xs s w p i (acts b) d (plain-run xs (fit .1)) (put-ready s i d r f g) e h
-        (act-rel K i (here s i) (w .lines i) (p i) b (actsOf i xs) (fit .0) (f .room) (own-rel s w p xs i (acts b) h))
+        (act-rel K i (here s i) (w .lines i) (p i) b (actsOf i xs) (fit .0) (r .lines i .form) (f .room) (own-rel s w p xs i (acts b) h))
     plain-run (other o ∷ xs) fit s w p r e h =
         plain-run xs fit (step (rules L) s (other o)) (record { lines = w .lines; shared = L .host (w .shared) o }) p
         (record { lines = r .lines; good = S .hosts (s .shared .state) o (r .good) }) (ap (λ (a : A). L .host a o) e) h

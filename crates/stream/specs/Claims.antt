@@ -6,11 +6,12 @@ use mathlib.Core.Bool.{Bool, true, false, cond}
 use lib.ListN.{length, take, drop}
 use Rattle.stream.specs.declared.Framing.{Framing}
 use Rattle.stream.specs.declared.Framing.the-variants.{Shut, Prefix, Body}
+use Rattle.stream.specs.declared.Ending.{Ending}
 use Rattle.stream.specs.declared.Answer.{Answer}
 use Rattle.stream.specs.declared.Answer.the-variants.{Message, Refused, More}
 use Rattle.stream.specs.Stream.{bodyLimit, fresh, isShut, inForm, Out, receiveOf, endOf}
 use Rattle.stream.specs.Frames.{Event, Frames, frames, framingOf, halfOf, puts}
-use Rattle.stream.specs.World.{Did, Line, Shared, World, Layer, Call, joined, given, handedAll, calls, bare, Fine, Sound, Ready, AllFit}
+use Rattle.stream.specs.World.{Did, Line, Shared, World, Layer, Call, joined, given, handedAll, calls, bare, turned, Roomy, Fine, Sound, Ready, AllFit}
 use Rattle.stream.specs.Plain.{ReadOut, Blunt, plainly, unread}
 
 -- ---- 1. Pieces cut anywhere, empty ones too, give what the whole string gives: whatever the layer above keeps of events, with their places
@@ -68,6 +69,15 @@ OwnReceive =
     (P A B O : Type 0) (put : ℕ → P → A → Event → A) (stops : ℕ → P → A → Event → Bool) (act : ℕ → B → Line P → A → Did (Line P) A) (host : A → O → A) (Fits : B → Type 0)
     → ((i : ℕ) (b : B) (l : Line P) (a : A) → Fits b → Fine Anyone l → Fine Anyone (act i b l a .line))
     → Sound (bare put stops act host) Anyone Anyone Fits
+
+-- and so it is with this crate's `open` and `end` as the acts: nothing is asked then but receive buffers that are large enough
+pub record Turns (P A O : Type 0) (put : ℕ → P → A → Event → A) (stops : ℕ → P → A → Event → Bool) (tell : ℕ → P → A → ℕ → Ending → A) (host : A → O → A) : Type 0 where
+  pub sound : Sound (bare put stops (turned tell) host) Anyone Anyone Roomy
+  pub blunt : Blunt (bare put stops (turned tell) host) Roomy
+
+abbrev pub OpenAndEnd : Type 1
+OpenAndEnd =
+    (P A O : Type 0) (put : ℕ → P → A → Event → A) (stops : ℕ → P → A → Event → Bool) (tell : ℕ → P → A → ℕ → Ending → A) (host : A → O → A) → Turns P A O put stops tell host
 
 -- ---- 6. What stands past the half-read body in the buffer changes no answer and no body
 

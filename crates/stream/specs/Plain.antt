@@ -5,7 +5,7 @@ use mathlib.Core.List.{List, [], _∷_}
 use mathlib.Core.Bool.{Bool, true, false, cond}
 use lib.ListN.{length, take, drop}
 use Rattle.stream.specs.declared.Framing.the-variants.{Shut}
-use Rattle.stream.specs.Stream.{fresh, isShut}
+use Rattle.stream.specs.Stream.{fresh, isShut, inForm}
 use Rattle.stream.specs.Frames.{Event, message, refused, Head, partly, whole, bad, headOf, framingOf, halfOf}
 use Rattle.stream.specs.World.{Did, Sys, Mark, happened, asked, here, putBack, Line, World, Layer, Call, Act, takes, acts, given}
 
@@ -80,4 +80,4 @@ pub record Blunt {P A B O : Type 0} (L : Layer P A B O) (Fits : B → Type 0) : 
   pub framing : (i : ℕ) (b : B) (w : Wire P B) (m : List ℕ) (a : A) → Fits b → L .act i b (standing w m) a .line .framing ≡ L .act i b (standing w []) a .line .framing
   pub taken : (i : ℕ) (b : B) (w : Wire P B) (m : List ℕ) (a : A) → Fits b → L .act i b (standing w m) a .line .taken ≡ L .act i b (standing w []) a .line .taken
   pub state : (i : ℕ) (b : B) (w : Wire P B) (m : List ℕ) (a : A) → Fits b → L .act i b (standing w m) a .shared ≡ L .act i b (standing w []) a .shared
-  pub anew : (i : ℕ) (b : B) (l : Line P) (a : A) → Fits b → isShut (L .act i b l a .line .framing) ≡ false → L .act i b l a .line .framing ≡ fresh
+  pub anew : (i : ℕ) (b : B) (l : Line P) (a : A) → Fits b → inForm (l .framing) ≡ true → isShut (L .act i b l a .line .framing) ≡ false → L .act i b l a .line .framing ≡ fresh

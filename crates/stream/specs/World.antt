@@ -7,9 +7,10 @@ use lib.ListN.{length, take, drop}
 use lib.Dec.{eqb}
 use Rattle.stream.specs.declared.Framing.{Framing}
 use Rattle.stream.specs.declared.Framing.the-variants.{Shut}
+use Rattle.stream.specs.declared.Ending.{Ending}
 use Rattle.stream.specs.declared.Answer.{Answer}
 use Rattle.stream.specs.declared.Answer.the-variants.{Message, Refused, More}
-use Rattle.stream.specs.Stream.{bodyLimit, isShut, inForm, Out, runOf, receiveOf}
+use Rattle.stream.specs.Stream.{bodyLimit, fresh, isShut, inForm, Out, runOf, receiveOf, endOf}
 use Rattle.stream.specs.Frames.{Event, message, refused}
 
 -- ---- lines and what they share
@@ -128,6 +129,21 @@ called put stops i l a o =
 -- the layer whose `receive` is this crate's, with what events and other calls do
 abbrev pub bare : {P A B O : Type 0} → (ℕ → P → A → Event → A) → (ℕ → P → A → Event → Bool) → (ℕ → B → Line P → A → Did (Line P) A) → (A → O → A) → Layer P A B O
 bare put stops act host = record { receive = λ i l a bs. called put stops i l a (receiveOf (l .framing) (l .buffer) bs); put = put; stops = stops; act = act; host = host }
+
+-- opening a connection with a receive buffer, and ending it: what this crate's `open` and `end` do. `tell` is what an end's answer does to the state
+pub data Turn (P : Type 0) : Type 0 where
+  opens : P → List ℕ → Turn P
+  ends : Turn P
+
+abbrev pub turned : {P A : Type 0} → (ℕ → P → A → ℕ → Ending → A) → ℕ → Turn P → Line P → A → Did (Line P) A
+turned tell i (opens p m) l a = record { line = record { who = p; framing = fresh; buffer = m; taken = 0 }; shared = a }
+turned tell i ends l a =
+    let e = endOf (l .framing) in
+    record { line = record { who = l .who; framing = e .framing; buffer = l .buffer; taken = l .taken }; shared = tell i (l .who) a (l .taken) (e .answer) }
+
+abbrev pub Roomy : {P : Type 0} → Turn P → Type 0
+Roomy (opens p m) = bodyLimit ≤ length m
+Roomy ends = Unit {0}
 
 -- ---- the host
 module _ {P A B O : Type 0} (L : Layer P A B O) where
