@@ -2,7 +2,7 @@
 use Prim.Native.Nat.{ℕ, suc, _+_, _*_, _%_, _≤_, _<_}
 use mathlib.Core.Path.{_≡_, refl, sym, ap, _∙_}
 use mathlib.Core.List.{List, [], _∷_}
-use mathlib.Core.Bool.{Bool, true, false, not, true≢false, false≢true}
+use mathlib.Core.Bool.{Bool, true, false, cond, not, true≢false, false≢true}
 use native.Mathlib.Omega.{arith}
 use lib.ListN.{length, length-set}
 use lib.Dec.{eqb, ltb, leb}
@@ -10,7 +10,7 @@ use borrow.Author.Tests.{le-leb, lt-ltb, ltb-false, eqb-false}
 use Rattle.octets.proofs.Bools.{cond-ind, and-i, and-l}
 use Rattle.refusal.specs.declared.Refusal.{Refusal}
 use Rattle.refusal.specs.declared.Refusal.the-variants as no
-use Rattle.stream.specs.declared.Ended.{Ended}
+use Rattle.stream.specs.declared.Ending.the-variants as ends
 use Rattle.stream.specs.declared.Held.{Held}
 use Rattle.stream.specs.declared.Held.the-variants.{Nothing, One, Two}
 use Rattle.stream.specs.declared.Framing.{Framing}
@@ -19,7 +19,7 @@ use Rattle.stream.specs.declared.Answer.{Answer}
 use Rattle.stream.specs.declared.Answer.the-variants.{Message, Refused, More}
 use Rattle.stream.specs.declared.Lead.{Lead}
 use Rattle.stream.specs.declared.Lead.the-variants.{On, Length, Bad}
-use Rattle.stream.specs.Stream.{bodyLimit, isShut, heldForm, inForm, limited, minimal, prefixStep, Stepped, led, stepOf, storeOf, Out, after, runOf, stays, receiveOf, endIn, endOf}
+use Rattle.stream.specs.Stream.{bodyLimit, isShut, heldForm, inForm, limited, minimal, prefixStep, Stepped, led, stepOf, storeOf, Out, after, runOf, stays, receiveOf, ended, endIn, endOf}
 use Rattle.stream.specs.World.{isMore}
 use Rattle.stream.proofs.Steps.{body-short, body-small}
 
@@ -220,13 +220,17 @@ module _ (f : Framing) (m bs : List ℕ) where
       no-message : {X : Type 0} (r : Refusal) → Refused r ≡ Message n → X
       no-message r e = absurd (let z : _≡_ {A = ℕ} 0 1 = cc in omega arith)
 
-pub end-form : (f : Framing) → inForm f ≡ true → inForm (endOf f .framing) ≡ true
+-- an end shuts a connection in form
+pub end-shuts : (f : Framing) → inForm f ≡ true → endOf f .framing ≡ Shut
 unfolding endOf
-end-form f h = cond-ind (λ (e : Ended). inForm (e .framing) ≡ true) (not (inForm f)) _ _ (λ g. h) (λ g. over f)
+end-shuts f h = ap (λ (t : Bool). cond (not t) (ended f (ends.Refused no.OutOfForm)) (endIn f) .framing) h ∙ over f
   where
-    over : (f : Framing) → inForm (endIn f .framing) ≡ true
+    over : (f : Framing) → endIn f .framing ≡ Shut
     over Shut = refl
     over (Prefix Nothing) = refl
     over (Prefix (One a)) = refl
     over (Prefix (Two a b)) = refl
     over (Body want have) = refl
+
+pub end-form : (f : Framing) → inForm f ≡ true → inForm (endOf f .framing) ≡ true
+end-form f h = ap inForm (end-shuts f h)

@@ -6,8 +6,8 @@ pub mod Kept
 pub mod World
 pub mod Heads
 pub mod Frames
-pub mod Plain
 pub mod Past
 pub mod Later
-pub mod Claims
 pub mod Examples
+pub mod Plain
+pub mod Claims

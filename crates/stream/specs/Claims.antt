@@ -6,11 +6,13 @@ use mathlib.Core.Bool.{Bool, true, false, cond}
 use lib.ListN.{length, take, drop}
 use Rattle.stream.specs.declared.Framing.{Framing}
 use Rattle.stream.specs.declared.Framing.the-variants.{Shut, Prefix, Body}
+use Rattle.stream.specs.declared.Ending.{Ending}
 use Rattle.stream.specs.declared.Answer.{Answer}
 use Rattle.stream.specs.declared.Answer.the-variants.{Message, Refused, More}
-use Rattle.stream.specs.Stream.{bodyLimit, fresh, inForm, Out, receiveOf, endOf}
+use Rattle.stream.specs.Stream.{bodyLimit, fresh, isShut, inForm, Out, receiveOf, endOf}
 use Rattle.stream.specs.Frames.{Event, Frames, frames, framingOf, halfOf, puts}
-use Rattle.stream.specs.World.{Did, Sys, Line, Shared, World, Layer, Call, joined, given, handedAll, calls, bare, Wire, plainly, unread, Hands, Fine, Sound, Ready, AllFit}
+use Rattle.stream.specs.World.{Did, Line, Shared, World, Layer, Call, joined, given, handedAll, calls, bare, turned, Roomy, Fine, Sound, Ready, AllFit}
+use Rattle.stream.specs.Plain.{ReadOut, Blunt, plainly, unread}
 
 -- ---- 1. Pieces cut anywhere, empty ones too, give what the whole string gives: whatever the layer above keeps of events, with their places
 -- and bodies, the final framing and the buffer
@@ -50,24 +52,12 @@ Several =
     → calls L s cs .shared .order ≡ calls L s ds .shared .order
     → calls L s cs ≡ calls L s ds
 
--- ---- 4. And that is the plain reading of each connection's string, message by message in the order of the events
-
--- a connection against its string, of which w is what is left unread
-pub record Left {P : Type 0} (w : Wire P) (l : Line P) : Type 0 where
-  pub who : l .who ≡ w .who
-  pub framing : l .framing ≡ cond (w .shut) Shut (framingOf (w .left))
-  pub taken : l .taken ≡ w .taken + cond (w .shut) 0 (length (w .left))
-  pub half : w .shut ≡ false → take (length (halfOf (w .left))) (l .buffer) ≡ halfOf (w .left)
-
-pub record ReadOut {P A O : Type 0} (w : Sys (Wire P) A) (s : World P A O) : Type 0 where
-  pub state : s .shared .state ≡ w .shared
-  pub lines : (i : ℕ) → Left (w .lines i) (s .lines i)
-
+-- ---- 4. And that is the plain reading of what each connection is given, message by message in the order of the events
 abbrev pub SeveralPlainly : Type 1
 SeveralPlainly =
-    (P A B O : Type 0) (L : Layer P A B O) (Peer : P → Type 0) (Good : A → Type 0) (Fits : B → Type 0) → Sound L Peer Good Fits
-    → (s : World P A O) → Ready Peer Good s → ((i : ℕ) → s .lines i .framing ≡ fresh) → s .shared .order ≡ []
-    → (cs : List (Call B O)) → Hands cs
+    (P A B O : Type 0) (L : Layer P A B O) (Peer : P → Type 0) (Good : A → Type 0) (Fits : B → Type 0) → Sound L Peer Good Fits → Blunt L Fits
+    → (s : World P A O) → Ready Peer Good s → ((i : ℕ) → isShut (s .lines i .framing) ≡ false → s .lines i .framing ≡ fresh) → s .shared .order ≡ []
+    → (cs : List (Call B O)) → AllFit Fits cs
     → ReadOut (plainly L (unread s cs) (calls L s cs .shared .order)) (calls L s cs)
 
 -- ---- 5. This crate's `receive` is such a layer, whatever events, acts and other calls do
@@ -79,6 +69,15 @@ OwnReceive =
     (P A B O : Type 0) (put : ℕ → P → A → Event → A) (stops : ℕ → P → A → Event → Bool) (act : ℕ → B → Line P → A → Did (Line P) A) (host : A → O → A) (Fits : B → Type 0)
     → ((i : ℕ) (b : B) (l : Line P) (a : A) → Fits b → Fine Anyone l → Fine Anyone (act i b l a .line))
     → Sound (bare put stops act host) Anyone Anyone Fits
+
+-- and so it is with this crate's `open` and `end` as the acts: nothing is asked then but receive buffers that are large enough
+pub record Turns (P A O : Type 0) (put : ℕ → P → A → Event → A) (stops : ℕ → P → A → Event → Bool) (tell : ℕ → P → A → ℕ → Ending → A) (host : A → O → A) : Type 0 where
+  pub sound : Sound (bare put stops (turned tell) host) Anyone Anyone Roomy
+  pub blunt : Blunt (bare put stops (turned tell) host) Roomy
+
+abbrev pub OpenAndEnd : Type 1
+OpenAndEnd =
+    (P A O : Type 0) (put : ℕ → P → A → Event → A) (stops : ℕ → P → A → Event → Bool) (tell : ℕ → P → A → ℕ → Ending → A) (host : A → O → A) → Turns P A O put stops tell host
 
 -- ---- 6. What stands past the half-read body in the buffer changes no answer and no body
 

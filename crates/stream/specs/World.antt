@@ -7,10 +7,11 @@ use lib.ListN.{length, take, drop}
 use lib.Dec.{eqb}
 use Rattle.stream.specs.declared.Framing.{Framing}
 use Rattle.stream.specs.declared.Framing.the-variants.{Shut}
+use Rattle.stream.specs.declared.Ending.{Ending}
 use Rattle.stream.specs.declared.Answer.{Answer}
 use Rattle.stream.specs.declared.Answer.the-variants.{Message, Refused, More}
-use Rattle.stream.specs.Stream.{bodyLimit, isShut, inForm, Out, runOf, receiveOf}
-use Rattle.stream.specs.Frames.{Event, message, refused, Head, partly, whole, bad, headOf}
+use Rattle.stream.specs.Stream.{bodyLimit, fresh, isShut, inForm, Out, runOf, receiveOf, endOf}
+use Rattle.stream.specs.Frames.{Event, message, refused}
 
 -- ---- lines and what they share
 
@@ -129,6 +130,21 @@ called put stops i l a o =
 abbrev pub bare : {P A B O : Type 0} → (ℕ → P → A → Event → A) → (ℕ → P → A → Event → Bool) → (ℕ → B → Line P → A → Did (Line P) A) → (A → O → A) → Layer P A B O
 bare put stops act host = record { receive = λ i l a bs. called put stops i l a (receiveOf (l .framing) (l .buffer) bs); put = put; stops = stops; act = act; host = host }
 
+-- opening a connection with a receive buffer, and ending it: what this crate's `open` and `end` do. `tell` is what an end's answer does to the state
+pub data Turn (P : Type 0) : Type 0 where
+  opens : P → List ℕ → Turn P
+  ends : Turn P
+
+abbrev pub turned : {P A : Type 0} → (ℕ → P → A → ℕ → Ending → A) → ℕ → Turn P → Line P → A → Did (Line P) A
+turned tell i (opens p m) l a = record { line = record { who = p; framing = fresh; buffer = m; taken = 0 }; shared = a }
+turned tell i ends l a =
+    let e = endOf (l .framing) in
+    record { line = record { who = l .who; framing = e .framing; buffer = l .buffer; taken = l .taken }; shared = tell i (l .who) a (l .taken) (e .answer) }
+
+abbrev pub Roomy : {P : Type 0} → Turn P → Type 0
+Roomy (opens p m) = bodyLimit ≤ length m
+Roomy ends = Unit {0}
+
 -- ---- the host
 module _ {P A B O : Type 0} (L : Layer P A B O) where
   abbrev pub noteIf : Bool → ℕ → Shared A O → A → Shared A O
@@ -169,53 +185,6 @@ module _ {P A B O : Type 0} (L : Layer P A B O) where
   unfoldable pub calls : World P A O → List (Call B O) → World P A O
   calls s [] = s
   calls s (c ∷ cs) = calls (call s c) cs
-
--- ---- the plain reading
-
--- a connection's bytes as a string: the unread ones, the place of their first, and whether the connection is shut
-pub record Wire (P : Type 0) : Type 0 where
-  pub who : P
-  pub shut : Bool
-  pub taken : ℕ
-  pub left : List ℕ
-
-module _ {P A B O : Type 0} (L : Layer P A B O) where
-  abbrev pub dealt : ℕ → Wire P → A → ℕ → Event → Bool → Did (Wire P) A
-  dealt i w a n e t = record { line = record { who = w .who; shut = t; taken = w .taken + n; left = drop n (w .left) }; shared = L .put i (w .who) a e }
-
-  abbrev pub byHead : Head → ℕ → Wire P → A → Did (Wire P) A
-  byHead partly i w a = record { line = w; shared = a }
-  byHead (bad k r) i w a = dealt i w a k (refused (w .taken + k) r) true
-  byHead (whole k n) i w a =
-      let e = message (w .taken + (k + n)) (take n (drop k (w .left))) in
-      dealt i w a (k + n) e (L .stops i (w .who) a e)
-
-  abbrev pub next : ℕ → Did (Wire P) A → Did (Wire P) A
-  next i d = byHead (headOf (d .line .left)) i (d .line) (d .shared)
-
-  -- messages are read whole, in the order that is given
-  unfoldable pub plainly : Sys (Wire P) A → List (Mark O) → Sys (Wire P) A
-  plainly w [] = w
-  plainly w (happened i ∷ ms) = plainly (putBack w i (next i (here w i))) ms
-  plainly w (asked o ∷ ms) = plainly (record { lines = w .lines; shared = L .host (w .shared) o }) ms
-
--- the bytes of connection i as one string
-unfoldable pub stringOf : {B O : Type 0} → ℕ → List (Call B O) → List ℕ
-stringOf i [] = []
-stringOf i (hand j p ∷ cs) = cond (eqb i j) (p ++ stringOf i cs) (stringOf i cs)
-stringOf i (does j b ∷ cs) = stringOf i cs
-stringOf i (asks o ∷ cs) = stringOf i cs
-
--- the connections of a world before the calls, nothing read yet
-abbrev pub unread : {P A B O : Type 0} → World P A O → List (Call B O) → Sys (Wire P) A
-unread s cs = record { lines = λ i. record { who = s .lines i .who; shut = false; taken = s .lines i .taken; left = stringOf i cs }; shared = s .shared .state }
-
--- calls that hand over pieces, or are on no connection
-unfoldable pub Hands : {B O : Type 0} → List (Call B O) → Type 0
-Hands [] = Unit {0}
-Hands (hand i p ∷ cs) = Hands cs
-Hands (does i b ∷ cs) = ⊥
-Hands (asks o ∷ cs) = Hands cs
 
 -- ---- what the theorems ask of a layer
 
