@@ -5,6 +5,8 @@ use mathlib.Core.Bool.{Bool, true, false}
 use mathlib.Core.List.{List, [], _∷_, _++_}
 use Prim.Native.Nat.{ℕ, zero, suc, _+_, _*_, _-_, _^_, _<_, _≤_, min}
 use native.Mathlib.Omega.{arith}
+use lib.Dec.{ltb}
+use borrow.Author.Tests.{lt-ltb, le-ltb}
 use lib.Arith.{digits-lt}
 use lib.ListN.{length, take, drop, length-drop}
 use lib.Seq.{take-all}
@@ -87,8 +89,15 @@ module _ (a b : List ℕ) (i : ℕ) (la : i + 8 ≤ length a) (lb : i + 8 ≤ le
       ∙ ap (λ (x : List ℕ). lower (x ++ drop (i + 8) a) (part b i (i + 8) ++ drop (i + 8) b)) (word-inj a b i la lb ha hb e)
       ∙ lower-append (part b i (i + 8)) (drop (i + 8) a) (drop (i + 8) b)
 
-pub word-higher : (a b : List ℕ) (i : ℕ) → i + 8 ≤ length a → i + 8 ≤ length b → Bytes a → Bytes b → number (part b i (i + 8)) < number (part a i (i + 8)) → lower (drop i a) (drop i b) ≡ false
-word-higher a b i la lb ha hb h = to-false (lower (drop i a) (drop i b)) (λ q. lower-asym (drop i a) (drop i b) q (word-lower b a i lb la hb ha h))
+-- where two words differ, they decide
+pub word-decides : (a b : List ℕ) (i : ℕ) → i + 8 ≤ length a → i + 8 ≤ length b → Bytes a → Bytes b → {x y : ℕ} → x ≡ number (part a i (i + 8)) → y ≡ number (part b i (i + 8)) → (x ≡ y → ⊥)
+    → ltb x y ≡ lower (drop i a) (drop i b)
+word-decides a b i la lb ha hb {x} {y} ex ey ne = by (three x y)
+  where
+    by : (x < y) ⊎ ((y < x) ⊎ (x ≡ y)) → ltb x y ≡ lower (drop i a) (drop i b)
+    by (inl h) = lt-ltb x y h ∙ sym (word-lower a b i la lb ha hb (omega arith))
+    by (inr (inl h)) = le-ltb x y (omega arith) ∙ sym (to-false (lower (drop i a) (drop i b)) (λ q. lower-asym (drop i a) (drop i b) q (word-lower b a i lb la hb ha (omega arith))))
+    by (inr (inr h)) = absurd (ne h)
 
 -- a part up to the end
 pub to-end : (s : List ℕ) (i : ℕ) → part s i (length s) ≡ drop i s

@@ -2,7 +2,7 @@
 // the value (low byte first), 8..136 the key, 136..2,184 the value, zeros everywhere else.
 use refusal::Refusal;
 ghost use mathlib.Core.Path.{_≡_};
-ghost use Prim.Native.Nat.{_+_, _*_, _-_, _<_, _≤_, min};
+ghost use Prim.Native.Nat.{_+_, _*_, _<_, _≤_, min};
 ghost use lib.ListN.{length, replicate};
 ghost use lib.Seq.{sets};
 ghost use Rattle.octets.specs.Octets.{lower};
@@ -120,35 +120,26 @@ fn slot_holds(store: &[u8], key: &[u8], i: usize) -> bool
     octets::same_bytes(key_of(s), key)
 }
 
-// How many bytes two slices both have after a place.
-fn room_after(a: usize, b: usize, i: usize) -> usize
-    ensures { λ r. ⌜ r ≡ min a b - i ⌝ }
+fn shorter(a: usize, b: usize) -> usize
+    ensures { λ r. ⌜ r ≡ min a b ⌝ }
 {
-    if a <= i {
-        return 0;
-    }
-    if b <= i {
-        return 0;
-    }
     if a < b {
-        return a - i;
+        return a;
     }
-    b - i
+    b
 }
 
 // Whether key a comes before key b in bytewise order, a word at a time: keys may be the same for long, since strangers choose them.
 fn key_before(a: &[u8], b: &[u8]) -> bool
     ensures { λ r. ⌜ r ≡ lower (now (a .entry)) (now (b .entry)) ⌝ }
 {
+    let n = shorter(a.len(), b.len());
     let mut i: usize = 0;
-    while 8 <= room_after(a.len(), b.len(), i) {
+    while 8 <= n - i {
         let x = octets::word(a, i);
         let y = octets::word(b, i);
-        if x < y {
-            return true;
-        }
-        if y < x {
-            return false;
+        if x != y {
+            return x < y;
         }
         i += 8;
     }
@@ -159,7 +150,7 @@ fn key_before(a: &[u8], b: &[u8]) -> bool
 // So a key is compared with eight others at most, not with all.
 
 // The place of a key in the order: all before it are lower, and no other is.
-fn place_for(store: &[u8], order: &[usize], held: usize, key: &[u8]) -> usize
+fn place_for(store: &[u8], order: &[u8], held: usize, key: &[u8]) -> usize
     requires { ⌜ Rising (now store) (now order) held ⌝ }
     ensures { λ r. ⌜ Between (now (store .entry)) (now (order .entry)) held (now (key .entry)) r ⌝ }
 {
@@ -167,7 +158,7 @@ fn place_for(store: &[u8], order: &[usize], held: usize, key: &[u8]) -> usize
     let mut hi = held;
     while lo < hi {
         let mid = lo + (hi - lo) / 2;
-        let j = order[mid];
+        let j = order[mid] as usize;
         if key_before(key_of(slot_at(store, j)), key) {
             lo = mid + 1;
             continue;
@@ -178,19 +169,19 @@ fn place_for(store: &[u8], order: &[usize], held: usize, key: &[u8]) -> usize
 }
 
 // Whether the slot at a place of the order has this key.
-fn stands_at(store: &[u8], order: &[usize], held: usize, p: usize, key: &[u8]) -> bool
+fn stands_at(store: &[u8], order: &[u8], held: usize, p: usize, key: &[u8]) -> bool
     requires { ⌜ Rising (now store) (now order) held ⌝ }
     ensures { λ r. ⌜ r ≡ standsAt (now (store .entry)) (now (order .entry)) held p (now (key .entry)) ⌝ }
 {
     if held <= p {
         return false;
     }
-    let j = order[p];
+    let j = order[p] as usize;
     slot_holds(store, key, j)
 }
 
 // Puts a slot number into the order at a place, and moves those after it on.
-fn insert(order: &mut [usize], held: usize, p: usize, i: usize)
+fn insert(order: &mut [u8], held: usize, p: usize, i: u8)
     requires { ⌜ (p ≤ held) × (held < length (now order)) ⌝ }
     ensures { λ _. ⌜ Inserted (now (order .entry)) (now (order .exit)) held p i ⌝ }
 {
@@ -203,7 +194,7 @@ fn insert(order: &mut [usize], held: usize, p: usize, i: usize)
 }
 
 // Tests slot i, and puts it into the order if it is used. The answer is how many slots the order then has, or more than there can be if it doesn't fit.
-fn settle(store: &[u8], order: &mut [usize], held: usize, i: usize) -> usize
+fn settle(store: &[u8], order: &mut [u8], held: usize, i: usize) -> usize
     requires { ⌜ (i < slotsOf (now store)) × Ordered (now store) (now order) held i ⌝ }
     ensures { λ r. ⌜ Settled (now (store .entry)) (now (order .exit)) i r ⌝ }
 {
@@ -219,7 +210,7 @@ fn settle(store: &[u8], order: &mut [usize], held: usize, i: usize) -> usize
     if stands_at(store, order, held, p, key) {
         return UNFIT;
     }
-    insert(order, held, p, i);
+    insert(order, held, p, i as u8);
     held + 1
 }
 
@@ -228,7 +219,7 @@ pub fn in_form(store: &[u8]) -> bool
     ensures { λ r. ⌜ r ≡ inForm (now (store .entry)) ⌝ }
 {
     let n = slots(store);
-    let mut order = [0usize; 256];
+    let mut order = [0u8; 256];
     let mut held: usize = 0;
     let mut i: usize = 0;
     while i < n {

@@ -19,14 +19,8 @@ loop-holds c = moving (c .args .order .now) (c .args .held) (c .args .p) (c .pre
 sub-order : tie.Need-sub-order Inv-loop μ-loop
 sub-order c = search needs
 
-mul-order : tie.Need-mul-order Inv-loop μ-loop
-mul-order c = search needs
-
 slice-read-order : tie.Need-slice-read-order Inv-loop μ-loop
 slice-read-order c = omega (arith, c .before .before .loop .inv .size, c .before .before .loop .inv .most, c .before .before .before .pre .1)
-
-mul-order-2 : tie.Need-mul-order-2 Inv-loop μ-loop
-mul-order-2 c = search needs
 
 slice-write-order : tie.Need-slice-write-order Inv-loop μ-loop
 slice-write-order c = omega (arith, c .before .before .loop .inv .size, c .before .before .loop .inv .most, c .before .before .before .pre .1)
@@ -39,9 +33,6 @@ loop-less c = search needs
 
 loop-again : tie.Need-loop-again Inv-loop μ-loop
 loop-again c = move-on (c .before .before .before .args .order .now) (c .before .before .before .args .held) (c .before .before .before .args .p) (c .before .before .before .pre .1) (c .before .before .loop .order) (c .before .before .loop .m) (c .before .before .loop .inv) (omega arith)
-
-mul-order-3 : tie.Need-mul-order-3 Inv-loop μ-loop
-mul-order-3 c = search needs
 
 slice-write-order-2 : tie.Need-slice-write-order-2 Inv-loop μ-loop
 slice-write-order-2 c = omega (arith, c .before .loop .inv .size, c .before .loop .inv .most, c .before .loop .inv .least, c .before .before .pre .1)
@@ -60,14 +51,11 @@ insert-spec =
     μ-loop
     loop-holds
     sub-order
-    mul-order
     slice-read-order
-    mul-order-2
     slice-write-order
     sub-m
     loop-less
     loop-again
-    mul-order-3
     slice-write-order-2
     same-length
     returns)

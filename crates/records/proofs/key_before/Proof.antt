@@ -4,28 +4,30 @@ use borrow.Author.Needs.{needs}
 use mathlib.Core.Path.{_≡_, refl, sym, ap₂, _∙_}
 use Prim.Native.Nat.{ℕ, _≤_, _-_}
 use lib.ListN.{length, drop}
-use lib.Seq.{take-all}
 use Rattle.octets.specs.Octets.{lower}
-use Rattle.records.proofs.Words.{word-lower, word-higher, word-passed, to-end}
+use Rattle.records.proofs.Words.{word-decides, word-passed, to-end}
 use Rattle.records.proofs.key_before.Statement.{statement}
 use Rattle.records.proofs.key_before.Tie as tie
 use Rattle.records.proofs.key_before.Reads as reads
 use Rattle.records.proofs.key_before.Lts as lts
 use Rattle.octets.proofs.lower_bytes.Reads as lower-bytes-reads
 use Rattle.octets.proofs.word.Reads as word-reads
-use Rattle.records.proofs.room_after.Reads as room-after-reads
+use Rattle.records.proofs.shorter.Reads as shorter-reads
 
 abbrev Inv-loop : tie.InvT-loop
-Inv-loop a b i₀ i = (i ≤ length a) × (i ≤ length b) × (lower a b ≡ lower (drop i a) (drop i b))
+Inv-loop a b n i₀ i = (i ≤ n) × (lower a b ≡ lower (drop i a) (drop i b))
 
 abbrev μ-loop : tie.MeasureT-loop
-μ-loop a b i₀ i = length a - i
+μ-loop a b n i₀ i = n - i
+
+shorter-requires : tie.Need-shorter-requires Inv-loop μ-loop
+shorter-requires c κs = search needs
 
 loop-holds : tie.Need-loop-holds Inv-loop μ-loop
-loop-holds c = (omega arith, omega arith, refl)
+loop-holds c = (omega arith, refl)
 
-room-after-requires : tie.Need-room-after-requires Inv-loop μ-loop
-room-after-requires c κs = search needs
+sub-loop : tie.Need-sub-loop Inv-loop μ-loop
+sub-loop c = omega arith
 
 word-requires : tie.Need-word-requires Inv-loop μ-loop
 word-requires c κs = search needs
@@ -34,34 +36,31 @@ word-requires-2 : tie.Need-word-requires-2 Inv-loop μ-loop
 word-requires-2 c κs = search needs
 
 returns : tie.Need-returns Inv-loop μ-loop
-returns c = sym (c .before .before .before .before .before .loop .inv .2 ∙ word-lower (c .before .before .before .before .before .before .before .before .args .a .now) (c .before .before .before .before .before .before .before .before .args .b .now) (c .before .before .before .before .before .loop .i) (omega (arith, c .before .before .before .before .room-after .ensures, c .before .before .before .if1 .taken)) (omega (arith, c .before .before .before .before .room-after .ensures, c .before .before .before .if1 .taken)) (λ k. c .before .before .before .before .before .before .before .shared-slice-known .given k .fits) (λ k. c .before .before .before .before .before .before .shared-slice-known2 .given k .fits) (omega (arith, c .before .before .word .ensures, c .before .word2 .ensures, c .if2 .taken)))
-
-returns-2 : tie.Need-returns-2 Inv-loop μ-loop
-returns-2 c = sym (c .before .before .before .before .before .before .loop .inv .2 ∙ word-higher (c .before .before .before .before .before .before .before .before .before .args .a .now) (c .before .before .before .before .before .before .before .before .before .args .b .now) (c .before .before .before .before .before .before .loop .i) (omega (arith, c .before .before .before .before .before .room-after .ensures, c .before .before .before .before .if1 .taken)) (omega (arith, c .before .before .before .before .before .room-after .ensures, c .before .before .before .before .if1 .taken)) (λ k. c .before .before .before .before .before .before .before .before .shared-slice-known .given k .fits) (λ k. c .before .before .before .before .before .before .before .shared-slice-known2 .given k .fits) (omega (arith, c .before .before .before .word .ensures, c .before .before .word2 .ensures, c .if3 .taken)))
+returns c = word-decides (c .before .before .before .before .before .before .before .before .args .a .now) (c .before .before .before .before .before .before .before .before .args .b .now) (c .before .before .before .before .loop .i) (omega (arith, c .before .before .before .before .before .shorter .ensures, c .before .before .before .loop-test .taken)) (omega (arith, c .before .before .before .before .before .shorter .ensures, c .before .before .before .loop-test .taken)) (λ k. c .before .before .before .before .before .before .before .shared-slice-known .given k .fits) (λ k. c .before .before .before .before .before .before .shared-slice-known2 .given k .fits) (c .before .before .word .ensures) (c .before .word2 .ensures) (c .if1 .taken) ∙ sym (c .before .before .before .before .loop .inv .1)
 
 add-i : tie.Need-add-i Inv-loop μ-loop
-add-i c = omega (arith, c .before .before .before .before .before .room-after .ensures, c .before .before .before .before .if1 .taken)
+add-i c = omega (arith, c .before .before .before .before .before .shorter .ensures, c .before .before .before .loop-test .taken)
 
 loop-less : tie.Need-loop-less Inv-loop μ-loop
-loop-less c = omega (arith, c .before .before .before .before .before .room-after .ensures, c .before .before .before .before .if1 .taken)
+loop-less c = omega arith
 
 loop-again : tie.Need-loop-again Inv-loop μ-loop
-loop-again c = (omega (arith, c .before .before .before .before .before .room-after .ensures, c .before .before .before .before .if1 .taken), omega (arith, c .before .before .before .before .before .room-after .ensures, c .before .before .before .before .if1 .taken), c .before .before .before .before .before .before .loop .inv .2 ∙ word-passed (c .before .before .before .before .before .before .before .before .before .args .a .now) (c .before .before .before .before .before .before .before .before .before .args .b .now) (c .before .before .before .before .before .before .loop .i) (omega (arith, c .before .before .before .before .before .room-after .ensures, c .before .before .before .before .if1 .taken)) (omega (arith, c .before .before .before .before .before .room-after .ensures, c .before .before .before .before .if1 .taken)) (λ k. c .before .before .before .before .before .before .before .before .shared-slice-known .given k .fits) (λ k. c .before .before .before .before .before .before .before .shared-slice-known2 .given k .fits) (omega (arith, c .before .before .before .word .ensures, c .before .before .word2 .ensures, c .before .if2 .left, c .if3 .left)))
+loop-again c = (omega arith, c .before .before .before .before .loop .inv .1 ∙ word-passed (c .before .before .before .before .before .before .before .before .args .a .now) (c .before .before .before .before .before .before .before .before .args .b .now) (c .before .before .before .before .loop .i) (omega (arith, c .before .before .before .before .before .shorter .ensures, c .before .before .before .loop-test .taken)) (omega (arith, c .before .before .before .before .before .shorter .ensures, c .before .before .before .loop-test .taken)) (λ k. c .before .before .before .before .before .before .before .shared-slice-known .given k .fits) (λ k. c .before .before .before .before .before .before .shared-slice-known2 .given k .fits) (sym (c .before .before .word .ensures) ∙ c .if1 .left ∙ c .before .word2 .ensures))
 
 sub-lower-bytes : tie.Need-sub-lower-bytes Inv-loop μ-loop
-sub-lower-bytes c = search needs
+sub-lower-bytes c = omega (arith, c .before .before .shorter .ensures)
 
 part-lower-bytes-start : tie.Need-part-lower-bytes-start Inv-loop μ-loop
-part-lower-bytes-start c = search needs
+part-lower-bytes-start c = omega (arith, c .before .before .shorter .ensures)
 
 part-lower-bytes-end : tie.Need-part-lower-bytes-end Inv-loop μ-loop
 part-lower-bytes-end c = search needs
 
 sub-lower-bytes-2 : tie.Need-sub-lower-bytes-2 Inv-loop μ-loop
-sub-lower-bytes-2 c = search needs
+sub-lower-bytes-2 c = omega (arith, c .before .before .before .shorter .ensures)
 
 part-lower-bytes-start-2 : tie.Need-part-lower-bytes-start-2 Inv-loop μ-loop
-part-lower-bytes-start-2 c = search needs
+part-lower-bytes-start-2 c = omega (arith, c .before .before .before .shorter .ensures)
 
 part-lower-bytes-end-2 : tie.Need-part-lower-bytes-end-2 Inv-loop μ-loop
 part-lower-bytes-end-2 c = search needs
@@ -69,8 +68,8 @@ part-lower-bytes-end-2 c = search needs
 lower-bytes-requires : tie.Need-lower-bytes-requires Inv-loop μ-loop
 lower-bytes-requires c κs = search needs
 
-returns-3 : tie.Need-returns-3 Inv-loop μ-loop
-returns-3 c = c .lower-bytes .ensures ∙ ap₂ lower (to-end (c .before .before .before .before .before .before .before .before .args .a .now) (c .before .before .before .before .before .loop .i)) (to-end (c .before .before .before .before .before .before .before .before .args .b .now) (c .before .before .before .before .before .loop .i)) ∙ sym (c .before .before .before .before .before .loop .inv .2)
+returns-2 : tie.Need-returns-2 Inv-loop μ-loop
+returns-2 c = c .lower-bytes .ensures ∙ ap₂ lower (to-end (c .before .before .before .before .before .before .before .before .args .a .now) (c .before .before .before .before .loop .i)) (to-end (c .before .before .before .before .before .before .before .before .args .b .now) (c .before .before .before .before .loop .i)) ∙ sym (c .before .before .before .before .loop .inv .1)
 
 pub key-before-spec : {M : Type 1} → statement M
 key-before-spec =
@@ -78,12 +77,12 @@ key-before-spec =
     (tie.spec
     Inv-loop
     μ-loop
+    shorter-requires
     loop-holds
-    room-after-requires
+    sub-loop
     word-requires
     word-requires-2
     returns
-    returns-2
     add-i
     loop-less
     loop-again
@@ -94,4 +93,4 @@ key-before-spec =
     part-lower-bytes-start-2
     part-lower-bytes-end-2
     lower-bytes-requires
-    returns-3)
+    returns-2)

@@ -30,11 +30,11 @@ sub-mid c = omega (arith, c .before .loop .inv .order)
 add-mid : tie.Need-add-mid Inv-loop μ-loop
 add-mid c = omega (arith, c .before .loop .inv .within, c .before .before .before .before .before .pre .room)
 
-mul-j : tie.Need-mul-j Inv-loop μ-loop
-mul-j c = omega (arith, c .before .loop .inv .within, c .before .before .before .before .before .pre .room)
-
 shared-slice-read-j : tie.Need-shared-slice-read-j Inv-loop μ-loop
 shared-slice-read-j c = omega (arith, c .before .before .loop .inv .within, c .before .before .before .before .before .before .pre .room)
+
+cast-j : tie.Need-cast-j Inv-loop μ-loop
+cast-j c = omega (arith, c .shared-slice-known4 .given (c .before .before .loop .lo + (c .before .before .loop .hi - c .before .before .loop .lo) / 2))
 
 slot-at-requires : tie.Need-slot-at-requires Inv-loop μ-loop
 slot-at-requires c κs = c .before .before .before .before .before .before .pre .slots (c .before .before .loop .lo + (c .before .before .loop .hi - c .before .before .loop .lo) / 2) (omega (arith, c .before .before .loop .inv .within))
@@ -72,8 +72,8 @@ place-for-spec =
     loop-holds
     sub-mid
     add-mid
-    mul-j
     shared-slice-read-j
+    cast-j
     slot-at-requires
     key-of-requires
     key-before-requires

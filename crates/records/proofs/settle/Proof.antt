@@ -45,6 +45,9 @@ same-length c = search needs
 returns-3 : tie.Need-returns-3
 returns-3 c = settle-twice (c .before .before .before .before .before .before .before .before .before .before .before .before .before .args .store .now) (c .before .before .before .before .before .before .before .before .before .before .before .before .before .args .order .now) (c .before .before .before .before .before .before .before .before .before .before .before .before .before .args .held) (c .before .before .before .before .before .before .before .before .before .before .before .before .before .args .i) (c .before .before .before .before .before .before .before .before .before .before .before .before .before .pre .1) (c .before .before .before .before .before .before .before .before .before .before .before .before .before .pre .0) (c .before .before .before .before .before .before .before .before .before .before .slot-at .ensures .0) (omega arith) (c .before .before .before .before .before .before .before .is-record .ensures) (not-false _ (c .before .before .before .before .before .before .if2 .left)) (c .before .before .before .before .before .key-of .ensures) (c .before .before .before .place-for .result) (c .before .before .before .place-for .ensures) (c .before .stands-at .ensures) (c .if3 .taken)
 
+cast-insert : tie.Need-cast-insert
+cast-insert c = omega (arith, c .before .before .before .before .before .before .before .before .before .before .before .before .before .before .pre .0, slots-most (c .before .before .before .before .before .before .before .before .before .before .before .before .before .before .args .store .now))
+
 insert-requires : tie.Need-insert-requires
 insert-requires c κs = (c .before .before .before .before .place-for .ensures .most, omega (arith, c .before .before .before .before .before .before .before .before .before .before .before .before .before .before .pre .1 .few, c .before .before .before .before .before .before .before .before .before .before .before .before .before .before .pre .1 .size, c .before .before .before .before .before .before .before .before .before .before .before .before .before .before .pre .0, slots-most (c .before .before .before .before .before .before .before .before .before .before .before .before .before .before .args .store .now)))
 
@@ -71,6 +74,7 @@ settle-spec =
     stands-at-requires
     same-length
     returns-3
+    cast-insert
     insert-requires
     add-result
     same-length-2

@@ -11,11 +11,11 @@ use Rattle.records.proofs.slot_holds.Reads as slot-holds-reads
 returns : tie.Need-returns
 returns c = stands-past (c .before .before .before .before .args .store .now) (c .before .before .before .before .args .order .now) (c .before .before .before .before .args .held) (c .before .before .before .before .args .p) (c .before .before .before .before .args .key .now) (omega arith)
 
-mul-j : tie.Need-mul-j
-mul-j c = search needs
-
 shared-slice-read-j : tie.Need-shared-slice-read-j
 shared-slice-read-j c = search needs
+
+cast-j : tie.Need-cast-j
+cast-j c = omega (arith, c .shared-slice-known4 .given (c .before .before .before .before .before .args .p))
 
 slot-holds-requires : tie.Need-slot-holds-requires
 slot-holds-requires c κs = c .before .before .before .before .before .pre .slots (c .before .before .before .before .before .args .p) (omega arith)
@@ -25,4 +25,4 @@ returns-2 c = stands-is (c .before .before .before .before .before .before .args
 
 pub stands-at-spec : {M : Type 1} → statement M
 stands-at-spec =
-    tie.close (tie.spec returns mul-j shared-slice-read-j slot-holds-requires returns-2)
+    tie.close (tie.spec returns shared-slice-read-j cast-j slot-holds-requires returns-2)
