@@ -5,11 +5,11 @@ ghost use mathlib.Core.Path.{_≡_};
 ghost use Prim.Native.Nat.{_+_, _*_, _<_, _≤_, min};
 ghost use lib.ListN.{length, replicate};
 ghost use lib.Seq.{sets};
-ghost use Rattle.octets.specs.Search.{all};
+ghost use Rattle.octets.specs.Octets.{lower};
 ghost use Rattle.recipe.specs.Limits.{valueMax};
 ghost use Rattle.records.specs.Limits.{slotSize, keyMax};
-ghost use Rattle.records.specs.Store.{slotsOf, slot, keyOf, sizeOf, valueOf, isKey, isRecord, holds, apart, fits, inForm, slotWith, freeSlot, found, findOf, heldPlan, planOf, padded, header, slotBytes, offerAnswer, offerAfter, putAnswer, putAfter};
-ghost use Rattle.records.specs.Inner.{Fitting};
+ghost use Rattle.records.specs.Store.{slotsOf, slot, keyOf, sizeOf, valueOf, isKey, isRecord, holds, inForm, slotWith, freeSlot, found, findOf, heldPlan, planOf, padded, header, slotBytes, offerAnswer, offerAfter, putAnswer, putAfter};
+ghost use Rattle.records.specs.Inner.{Fitting, Rising, Between, standsAt, Inserted, Ordered, Settled};
 
 // The limits and the layout; specs/Limits.antt has the same.
 pub const SLOTS_MAX: usize = 256;
@@ -18,6 +18,9 @@ pub const KEY_MAX: usize = 128;
 pub const KEY_AT: usize = 8;
 pub const VALUE_AT: usize = 136;
 pub const SLOT: usize = 2184;
+
+// More than any order of slots has.
+const UNFIT: usize = 257;
 
 // How many slots a store has: whole ones, at most 256.
 fn slots(store: &[u8]) -> usize
@@ -117,35 +120,98 @@ fn slot_holds(store: &[u8], key: &[u8], i: usize) -> bool
     octets::same_bytes(key_of(s), key)
 }
 
-// Whether no slot before i has the key of slot i.
-fn all_apart(store: &[u8], i: usize) -> bool
-    requires { ⌜ i < slotsOf (now store) ⌝ }
-    ensures { λ r. ⌜ r ≡ all i (apart (now (store .entry)) i) ⌝ }
+fn shorter(a: usize, b: usize) -> usize
+    ensures { λ r. ⌜ r ≡ min a b ⌝ }
 {
-    let key = key_of(slot_at(store, i));
-    let mut j: usize = 0;
-    while j < i {
-        if slot_holds(store, key, j) {
-            return false;
-        }
-        j += 1;
+    if a < b {
+        return a;
     }
-    true
+    b
 }
 
-// Whether slot i is free, or holds a record whose key no slot before it has.
-fn slot_fits(store: &[u8], i: usize) -> bool
-    requires { ⌜ i < slotsOf (now store) ⌝ }
-    ensures { λ r. ⌜ r ≡ fits (now (store .entry)) i ⌝ }
+// Whether key a comes before key b in bytewise order, a word at a time: keys may be the same for long, since strangers choose them.
+fn key_before(a: &[u8], b: &[u8]) -> bool
+    ensures { λ r. ⌜ r ≡ lower (now (a .entry)) (now (b .entry)) ⌝ }
+{
+    let n = shorter(a.len(), b.len());
+    let mut i: usize = 0;
+    while 8 <= n - i {
+        let x = octets::word(a, i);
+        let y = octets::word(b, i);
+        if x != y {
+            return x < y;
+        }
+        i += 8;
+    }
+    octets::lower_bytes(&a[i..], &b[i..])
+}
+
+// The form test keeps the used slots in the order of their keys: `order` has `held` slot numbers, and the key of each is lower than the next one's.
+// So a key is compared with eight others at most, not with all.
+
+// The place of a key in the order: all before it are lower, and no other is.
+fn place_for(store: &[u8], order: &[u8], held: usize, key: &[u8]) -> usize
+    requires { ⌜ Rising (now store) (now order) held ⌝ }
+    ensures { λ r. ⌜ Between (now (store .entry)) (now (order .entry)) held (now (key .entry)) r ⌝ }
+{
+    let mut lo: usize = 0;
+    let mut hi = held;
+    while lo < hi {
+        let mid = lo + (hi - lo) / 2;
+        let j = order[mid] as usize;
+        if key_before(key_of(slot_at(store, j)), key) {
+            lo = mid + 1;
+            continue;
+        }
+        hi = mid;
+    }
+    lo
+}
+
+// Whether the slot at a place of the order has this key.
+fn stands_at(store: &[u8], order: &[u8], held: usize, p: usize, key: &[u8]) -> bool
+    requires { ⌜ Rising (now store) (now order) held ⌝ }
+    ensures { λ r. ⌜ r ≡ standsAt (now (store .entry)) (now (order .entry)) held p (now (key .entry)) ⌝ }
+{
+    if held <= p {
+        return false;
+    }
+    let j = order[p] as usize;
+    slot_holds(store, key, j)
+}
+
+// Puts a slot number into the order at a place, and moves those after it on.
+fn insert(order: &mut [u8], held: usize, p: usize, i: u8)
+    requires { ⌜ (p ≤ held) × (held < length (now order)) ⌝ }
+    ensures { λ _. ⌜ Inserted (now (order .entry)) (now (order .exit)) held p i ⌝ }
+{
+    let mut m = held;
+    while p < m {
+        order[m] = order[m - 1];
+        m -= 1;
+    }
+    order[p] = i;
+}
+
+// Tests slot i, and puts it into the order if it is used. The answer is how many slots the order then has, or more than there can be if it doesn't fit.
+fn settle(store: &[u8], order: &mut [u8], held: usize, i: usize) -> usize
+    requires { ⌜ (i < slotsOf (now store)) × Ordered (now store) (now order) held i ⌝ }
+    ensures { λ r. ⌜ Settled (now (store .entry)) (now (order .exit)) i r ⌝ }
 {
     let s = slot_at(store, i);
     if s[0] < 1 {
-        return true;
+        return held;
     }
     if !is_record(s) {
-        return false;
+        return UNFIT;
     }
-    all_apart(store, i)
+    let key = key_of(s);
+    let p = place_for(store, order, held, key);
+    if stands_at(store, order, held, p, key) {
+        return UNFIT;
+    }
+    insert(order, held, p, i as u8);
+    held + 1
 }
 
 // Whether the store is in form.
@@ -153,9 +219,12 @@ pub fn in_form(store: &[u8]) -> bool
     ensures { λ r. ⌜ r ≡ inForm (now (store .entry)) ⌝ }
 {
     let n = slots(store);
+    let mut order = [0u8; 256];
+    let mut held: usize = 0;
     let mut i: usize = 0;
     while i < n {
-        if !slot_fits(store, i) {
+        held = settle(store, &mut order, held, i);
+        if SLOTS_MAX < held {
             return false;
         }
         i += 1;

@@ -1,47 +1,51 @@
--- `in_form` tests slot after slot.
+-- `in_form` settles slot after slot.
 use native.Mathlib.Omega.{arith}
 use borrow.Author.Needs.{needs}
-use borrow.Author.Tests.{not-true, not-false}
-use mathlib.Core.Path.{_≡_, sym, subst, _∙_}
+use mathlib.Core.Path.{_≡_, refl, sym, subst, _∙_}
 use mathlib.Core.Bool.{true}
 use Prim.Native.Nat.{ℕ, _≤_, _-_}
 use Rattle.octets.specs.Search.{all}
 use Rattle.octets.proofs.Searching.{all-zero, all-more, all-fails}
 use Rattle.records.specs.Store.{slotsOf, fits, inForm}
+use Rattle.records.specs.Inner.{Ordered}
+use Rattle.records.proofs.Ordering.{ordered}
 use Rattle.records.proofs.in_form.Statement.{statement}
 use Rattle.records.proofs.in_form.Tie as tie
 use Rattle.records.proofs.in_form.Reads as reads
 use Rattle.records.proofs.in_form.Lts as lts
-use Rattle.records.proofs.slot_fits.Reads as slot-fits-reads
+use Rattle.records.proofs.settle.Reads as settle-reads
 use Rattle.records.proofs.slots.Reads as slots-reads
 
 abbrev Inv-loop : tie.InvT-loop
-Inv-loop store n i₀ i = (i ≤ n) × (all i (fits store) ≡ true)
+Inv-loop store n order₀ held₀ i₀ order held i = (i ≤ n) × (all i (fits store) ≡ true) × Ordered store order held i
 
 abbrev μ-loop : tie.MeasureT-loop
-μ-loop store n i₀ i = n - i
+μ-loop store n order₀ held₀ i₀ order held i = n - i
 
 slots-requires : tie.Need-slots-requires Inv-loop μ-loop
 slots-requires c κs = search needs
 
 loop-holds : tie.Need-loop-holds Inv-loop μ-loop
-loop-holds c = (omega arith, all-zero (fits (c .before .before .args .store .now)))
+loop-holds c = (omega arith, all-zero (fits (c .before .before .args .store .now)), ordered _ _ refl)
 
-slot-fits-requires : tie.Need-slot-fits-requires Inv-loop μ-loop
-slot-fits-requires c κs = omega (arith, c .before .before .slots .ensures)
+slice-aggregate-settle : tie.Need-slice-aggregate-settle Inv-loop μ-loop
+slice-aggregate-settle c = sym (c .before .before .loop .inv .2 .size)
+
+settle-requires : tie.Need-settle-requires Inv-loop μ-loop
+settle-requires c κs = (omega (arith, c .before .before .before .slots .ensures), c .before .before .loop .inv .2)
 
 returns : tie.Need-returns Inv-loop μ-loop
 unfolding inForm
-returns c = sym (all-fails (fits (c .before .before .before .before .before .before .args .store .now)) (slotsOf (c .before .before .before .before .before .before .args .store .now)) (c .before .before .before .loop .i) (omega (arith, c .before .before .before .before .slots .ensures)) (sym (c .before .slot-fits .ensures) ∙ not-true _ (c .if1 .taken)))
+returns c = sym (all-fails (fits (c .before .before .before .before .before .before .before .before .args .store .now)) (slotsOf (c .before .before .before .before .before .before .before .before .args .store .now)) (c .before .before .before .before .before .loop .i) (omega (arith, c .before .before .before .before .before .before .slots .ensures)) (c .before .before .settle .ensures .unfit (omega arith)))
 
 add-i : tie.Need-add-i Inv-loop μ-loop
-add-i c = omega (arith, c .before .before .before .before .slots .ensures)
+add-i c = omega (arith, c .before .before .before .before .before .before .slots .ensures)
 
 loop-less : tie.Need-loop-less Inv-loop μ-loop
 loop-less c = omega arith
 
 loop-again : tie.Need-loop-again Inv-loop μ-loop
-loop-again c = (omega arith, all-more (fits (c .before .before .before .before .before .before .args .store .now)) (c .before .before .before .loop .i) (c .before .before .before .loop .inv .1) (sym (c .before .slot-fits .ensures) ∙ not-false _ (c .if1 .left)))
+loop-again c = (omega arith, all-more (fits (c .before .before .before .before .before .before .before .before .args .store .now)) (c .before .before .before .before .before .loop .i) (c .before .before .before .before .before .loop .inv .1) (c .before .before .settle .ensures .fit (omega arith) .0), c .before .before .settle .ensures .fit (omega arith) .1)
 
 returns-2 : tie.Need-returns-2 Inv-loop μ-loop
 unfolding inForm
@@ -55,7 +59,8 @@ in-form-spec =
     μ-loop
     slots-requires
     loop-holds
-    slot-fits-requires
+    slice-aggregate-settle
+    settle-requires
     returns
     add-i
     loop-less
