@@ -278,7 +278,15 @@ pub struct Closest {
     pub n: usize,
 }
 
-// Whether slot a is nearer to the target than slot b. The first byte decides for most, with no call.
+// Whether slot a is nearer to the target than slot b.
+fn nearer_slot(table: &[u8], target: &[u8], a: usize, b: usize) -> bool
+    requires { ⌜ (length (now target) ≡ 32) × (a * 616 + 616 ≤ length (now table)) × (b * 616 + 616 ≤ length (now table)) ⌝ }
+    ensures { λ r. ⌜ r ≡ ltb (far (now (table .entry)) (now (target .entry)) a) (far (now (table .entry)) (now (target .entry)) b) ⌝ }
+{
+    place::nearer(target, place_at(table, a), place_at(table, b))
+}
+
+// The same, where the first byte decides for most slots, with no call.
 fn closer(table: &[u8], target: &[u8], a: usize, b: usize) -> bool
     requires { ⌜ (length (now target) ≡ 32) × (a * 616 + 616 ≤ length (now table)) × (b * 616 + 616 ≤ length (now table)) ⌝ }
     ensures { λ r. ⌜ r ≡ ltb (far (now (table .entry)) (now (target .entry)) a) (far (now (table .entry)) (now (target .entry)) b) ⌝ }
@@ -294,7 +302,7 @@ fn closer(table: &[u8], target: &[u8], a: usize, b: usize) -> bool
     if y < x {
         return false;
     }
-    place::nearer(target, p, q)
+    nearer_slot(table, target, a, b)
 }
 
 // How many of the n nearest so far are no farther than slot k. By halves, so that no order of the slots makes it slow.
@@ -307,7 +315,7 @@ fn rank(table: &[u8], target: &[u8], at: &[usize; 20], n: usize, k: usize) -> us
     while low < high {
         let mid = (low + high) / 2;
         let s = at[mid];
-        if closer(table, target, k, s) {
+        if nearer_slot(table, target, k, s) {
             high = mid;
             continue;
         }
