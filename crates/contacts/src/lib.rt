@@ -278,15 +278,23 @@ pub struct Closest {
     pub n: usize,
 }
 
-// Whether slot a is nearer to the target than slot b.
-fn nearer_slot(table: &[u8], target: &[u8], a: usize, b: usize) -> bool
+// Whether the first byte already shows that slot a is farther from the target than slot b.
+fn farther(table: &[u8], target: &[u8], a: usize, b: usize) -> bool
     requires { ⌜ (length (now target) ≡ 32) × (a * 616 + 616 ≤ length (now table)) × (b * 616 + 616 ≤ length (now table)) ⌝ }
-    ensures { λ r. ⌜ r ≡ ltb (far (now (table .entry)) (now (target .entry)) a) (far (now (table .entry)) (now (target .entry)) b) ⌝ }
+    ensures { λ r. ⌜ (r ≡ true → ltb (far (now (table .entry)) (now (target .entry)) a) (far (now (table .entry)) (now (target .entry)) b) ≡ false) ⌝ }
 {
-    place::nearer(target, place_at(table, a), place_at(table, b))
+    let p = place_at(table, a);
+    let q = place_at(table, b);
+    let first = target[0];
+    let far = p[0] ^ first;
+    let near = q[0] ^ first;
+    if near < far {
+        return true;
+    }
+    false
 }
 
-// The same, where the first byte decides for most slots, with no call.
+// Whether slot a is nearer to the target than slot b. The first byte decides for most.
 fn closer(table: &[u8], target: &[u8], a: usize, b: usize) -> bool
     requires { ⌜ (length (now target) ≡ 32) × (a * 616 + 616 ≤ length (now table)) × (b * 616 + 616 ≤ length (now table)) ⌝ }
     ensures { λ r. ⌜ r ≡ ltb (far (now (table .entry)) (now (target .entry)) a) (far (now (table .entry)) (now (target .entry)) b) ⌝ }
@@ -302,7 +310,7 @@ fn closer(table: &[u8], target: &[u8], a: usize, b: usize) -> bool
     if y < x {
         return false;
     }
-    nearer_slot(table, target, a, b)
+    place::nearer(target, p, q)
 }
 
 // How many of the n nearest so far are no farther than slot k. By halves, so that no order of the slots makes it slow.
@@ -315,7 +323,7 @@ fn rank(table: &[u8], target: &[u8], at: &[usize; 20], n: usize, k: usize) -> us
     while low < high {
         let mid = (low + high) / 2;
         let s = at[mid];
-        if nearer_slot(table, target, k, s) {
+        if closer(table, target, k, s) {
             high = mid;
             continue;
         }
@@ -348,7 +356,7 @@ fn add(table: &[u8], target: &[u8], at: &mut [usize; 20], n: usize, k: usize)
     put(at, p, k);
 }
 
-// The same, where most slots are seen to be too far by one look at the farthest that is kept. Returns how many are kept.
+// The same, where most slots are seen to be too far by one look at the farthest that is kept, with no call. Returns how many are kept.
 fn keep(table: &[u8], target: &[u8], at: &mut [usize; 20], n: usize, k: usize) -> usize
     requires { ⌜ Held (now table) (now target) (now at) n k ⌝ }
     ensures { λ r. ⌜ (r ≡ length (kept (now (table .entry)) (now (target .entry)) (k + 1))) × (now (at .exit) ≡ filled (kept (now (table .entry)) (now (target .entry)) (k + 1))) ⌝ }
@@ -358,6 +366,9 @@ fn keep(table: &[u8], target: &[u8], at: &mut [usize; 20], n: usize, k: usize) -
         return n + 1;
     }
     let last = at[19];
+    if farther(table, target, k, last) {
+        return NEAREST;
+    }
     if closer(table, target, k, last) {
         add(table, target, at, n, k);
     }

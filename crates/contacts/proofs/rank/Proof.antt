@@ -24,14 +24,14 @@ mul-s c = omega (arith, c .before .loop .inv .within, held-count (c .before .bef
 element-copy-out-s : tie.Need-element-copy-out-s Inv-loop μ-loop
 element-copy-out-s c = omega (arith, c .before .loop .inv .within, held-count (c .before .before .before .before .pre), held-length (c .before .before .before .before .pre))
 
-nearer-slot-requires : tie.Need-nearer-slot-requires Inv-loop μ-loop
-nearer-slot-requires c κs = (c .before .before .before .before .before .pre .long, c .before .before .before .before .before .pre .whole, omega (arith, c .before .before .before .before .before .pre .whole, held-below (c .before .before .before .before .before .pre) ((c .before .before .loop .low + c .before .before .loop .high) / 2) (omega (arith, c .before .before .loop .inv .within))))
+closer-requires : tie.Need-closer-requires Inv-loop μ-loop
+closer-requires c κs = (c .before .before .before .before .before .pre .long, c .before .before .before .before .before .pre .whole, omega (arith, c .before .before .before .before .before .pre .whole, held-below (c .before .before .before .before .before .pre) ((c .before .before .loop .low + c .before .before .loop .high) / 2) (omega (arith, c .before .before .loop .inv .within))))
 
 loop-less : tie.Need-loop-less Inv-loop μ-loop
 loop-less c = omega arith
 
 loop-again : tie.Need-loop-again Inv-loop μ-loop
-loop-again c = halve-left (c .before .before .before .before .before .before .before .pre) (c .before .before .before .before .loop .low) (c .before .before .before .before .loop .high) ((c .before .before .before .before .loop .low + c .before .before .before .before .loop .high) / 2) (c .before .before .before .before .loop .inv) (omega arith) (omega arith) (sym (c .before .nearer-slot .ensures) ∙ c .if1 .taken)
+loop-again c = halve-left (c .before .before .before .before .before .before .before .pre) (c .before .before .before .before .loop .low) (c .before .before .before .before .loop .high) ((c .before .before .before .before .loop .low + c .before .before .before .before .loop .high) / 2) (c .before .before .before .before .loop .inv) (omega arith) (omega arith) (sym (c .before .closer .ensures) ∙ c .if1 .taken)
 
 add-low : tie.Need-add-low Inv-loop μ-loop
 add-low c = omega (arith, c .before .before .before .before .loop .inv .within, held-count (c .before .before .before .before .before .before .before .pre))
@@ -40,7 +40,7 @@ loop-less-2 : tie.Need-loop-less-2 Inv-loop μ-loop
 loop-less-2 c = omega arith
 
 loop-again-2 : tie.Need-loop-again-2 Inv-loop μ-loop
-loop-again-2 c = halve-right (c .before .before .before .before .before .before .before .pre) (c .before .before .before .before .loop .low) (c .before .before .before .before .loop .high) ((c .before .before .before .before .loop .low + c .before .before .before .before .loop .high) / 2) (c .before .before .before .before .loop .inv) (omega arith) (omega arith) (sym (c .before .nearer-slot .ensures) ∙ c .if1 .left)
+loop-again-2 c = halve-right (c .before .before .before .before .before .before .before .pre) (c .before .before .before .before .loop .low) (c .before .before .before .before .loop .high) ((c .before .before .before .before .loop .low + c .before .before .before .before .loop .high) / 2) (c .before .before .before .before .loop .inv) (omega arith) (omega arith) (sym (c .before .closer .ensures) ∙ c .if1 .left)
 
 returns : tie.Need-returns Inv-loop μ-loop
 returns c = halved (c .before .before .before .before .pre) (c .before .loop .low) (c .before .loop .high) (c .before .loop .inv) (c .loop-test .left)
@@ -55,7 +55,7 @@ rank-spec =
     add-mid
     mul-s
     element-copy-out-s
-    nearer-slot-requires
+    closer-requires
     loop-less
     loop-again
     add-low
