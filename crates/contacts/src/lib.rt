@@ -278,7 +278,23 @@ pub struct Closest {
     pub n: usize,
 }
 
-// Whether slot a is nearer to the target than slot b. The first byte decides for most, with no call.
+// Whether the first byte already shows that slot a is farther from the target than slot b.
+fn farther(table: &[u8], target: &[u8], a: usize, b: usize) -> bool
+    requires { ⌜ (length (now target) ≡ 32) × (a * 616 + 616 ≤ length (now table)) × (b * 616 + 616 ≤ length (now table)) ⌝ }
+    ensures { λ r. ⌜ (r ≡ true → ltb (far (now (table .entry)) (now (target .entry)) a) (far (now (table .entry)) (now (target .entry)) b) ≡ false) ⌝ }
+{
+    let p = place_at(table, a);
+    let q = place_at(table, b);
+    let first = target[0];
+    let far = p[0] ^ first;
+    let near = q[0] ^ first;
+    if near < far {
+        return true;
+    }
+    false
+}
+
+// Whether slot a is nearer to the target than slot b. The first byte decides for most.
 fn closer(table: &[u8], target: &[u8], a: usize, b: usize) -> bool
     requires { ⌜ (length (now target) ≡ 32) × (a * 616 + 616 ≤ length (now table)) × (b * 616 + 616 ≤ length (now table)) ⌝ }
     ensures { λ r. ⌜ r ≡ ltb (far (now (table .entry)) (now (target .entry)) a) (far (now (table .entry)) (now (target .entry)) b) ⌝ }
@@ -340,7 +356,7 @@ fn add(table: &[u8], target: &[u8], at: &mut [usize; 20], n: usize, k: usize)
     put(at, p, k);
 }
 
-// The same, where most slots are seen to be too far by one look at the farthest that is kept. Returns how many are kept.
+// The same, where most slots are seen to be too far by one look at the farthest that is kept, with no call. Returns how many are kept.
 fn keep(table: &[u8], target: &[u8], at: &mut [usize; 20], n: usize, k: usize) -> usize
     requires { ⌜ Held (now table) (now target) (now at) n k ⌝ }
     ensures { λ r. ⌜ (r ≡ length (kept (now (table .entry)) (now (target .entry)) (k + 1))) × (now (at .exit) ≡ filled (kept (now (table .entry)) (now (target .entry)) (k + 1))) ⌝ }
@@ -350,6 +366,9 @@ fn keep(table: &[u8], target: &[u8], at: &mut [usize; 20], n: usize, k: usize) -
         return n + 1;
     }
     let last = at[19];
+    if farther(table, target, k, last) {
+        return NEAREST;
+    }
     if closer(table, target, k, last) {
         add(table, target, at, n, k);
     }
