@@ -3,7 +3,7 @@
 use refusal::Refusal;
 ghost use mathlib.Core.Path.{_≡_};
 ghost use Prim.Native.Nat.{_+_, _*_, _<_, _≤_, min};
-ghost use lib.ListN.{length, replicate};
+ghost use lib.ListN.{length, drop, replicate};
 ghost use lib.Seq.{sets};
 ghost use Rattle.octets.specs.Octets.{lower};
 ghost use Rattle.recipe.specs.Limits.{valueMax};
@@ -13,10 +13,15 @@ ghost use Rattle.records.specs.Inner.{Fitting, Rising, Between, standsAt
 
 // The limits and the layout; specs/Limits.antt has the same.
 pub const SLOTS_MAX: usize = 256;
+
 pub const KEY_MIN: usize = 7;
+
 pub const KEY_MAX: usize = 128;
+
 pub const KEY_AT: usize = 8;
+
 pub const VALUE_AT: usize = 136;
+
 pub const SLOT: usize = 2184;
 
 // More than any order of slots has.
@@ -129,12 +134,32 @@ fn shorter(a: usize, b: usize) -> usize
     b
 }
 
-// Whether key a comes before key b in bytewise order, a word at a time: keys may be the same for long, since strangers choose them.
+// How many bytes two slices have in common from their start, two words at a time, of the first n. Strangers choose the keys, and may choose them the
+// same for long.
+fn common(a: &[u8], b: &[u8], n: usize) -> usize
+    requires { ⌜ n ≡ min (length (now a)) (length (now b)) ⌝ }
+    ensures { λ r. ⌜ (r ≤ n) × (lower (now (a .entry)) (now (b .entry)) ≡ lower (drop r (now (a .entry))) (drop r (now (b .entry)))) ⌝ }
+{
+    let mut i: usize = 0;
+    while 16 <= n - i {
+        let j = i + 8;
+        if octets::word(a, i) != octets::word(b, i) {
+            return i;
+        }
+        if octets::word(a, j) != octets::word(b, j) {
+            return i;
+        }
+        i = j + 8;
+    }
+    i
+}
+
+// Whether key a comes before key b in bytewise order: what they have in common is passed over, then the first word that differs decides.
 fn key_before(a: &[u8], b: &[u8]) -> bool
     ensures { λ r. ⌜ r ≡ lower (now (a .entry)) (now (b .entry)) ⌝ }
 {
     let n = shorter(a.len(), b.len());
-    let mut i: usize = 0;
+    let mut i = common(a, b, n);
     while 8 <= n - i {
         let x = octets::word(a, i);
         let y = octets::word(b, i);

@@ -3,10 +3,6 @@ use Rattle.records.proofs.Laying.{held-same, held-higher, held-lower}
 use borrow.Author.Needs.{needs}
 use Rattle.records.proofs.held_plan.Statement.{statement}
 use Rattle.records.proofs.held_plan.Tie as tie
-use Rattle.records.proofs.held_plan.Reads as reads
-use Rattle.records.proofs.held_plan.Lts as lts
-use Rattle.octets.proofs.same_bytes.Reads as same-bytes-reads
-use Rattle.recipe.proofs.outranks.Reads as outranks-reads
 
 same-bytes-requires : tie.Need-same-bytes-requires
 same-bytes-requires c κs = search needs
