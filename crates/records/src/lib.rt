@@ -325,9 +325,9 @@ pub enum Plan {
     Refuse(Refusal),
 }
 
-// What is to be done with a value, where slot i holds another or the same of its key.
-fn held_plan(held: &[u8], value: &[u8], i: usize) -> Plan
-    ensures { λ r. ⌜ r ≡ heldPlan (now (held .entry)) (now (value .entry)) i ⌝ }
+// What is to be done with a value, where slot `at` holds another or the same of its key.
+fn held_plan(held: &[u8], value: &[u8], at: usize) -> Plan
+    ensures { λ r. ⌜ r ≡ heldPlan (now (held .entry)) (now (value .entry)) at ⌝ }
 {
     if octets::same_bytes(held, value) {
         return Plan::Keep;
@@ -335,7 +335,7 @@ fn held_plan(held: &[u8], value: &[u8], i: usize) -> Plan
     if recipe::outranks(held, value) {
         return Plan::Refuse(Refusal::Outranked);
     }
-    Plan::Write(i)
+    Plan::Write(at)
 }
 
 // What a put is to do, with a store of any bytes.
