@@ -5,7 +5,7 @@ ghost use mathlib.Core.Path.{_≡_};
 ghost use Prim.Native.Nat.{_+_, _*_, _<_, _≤_, min};
 ghost use lib.ListN.{length, drop, replicate};
 ghost use lib.Seq.{sets};
-ghost use Rattle.octets.specs.Octets.{lower};
+ghost use Rattle.octets.specs.Octets.{part, lower, number};
 ghost use Rattle.recipe.specs.Limits.{valueMax};
 ghost use Rattle.records.specs.Limits.{slotSize, keyMax};
 ghost use Rattle.records.specs.Store.{slotsOf, slot, keyOf, sizeOf, valueOf, isKey, isRecord, holds, inForm, slotWith, freeSlot, found, findOf, heldPlan, planOf, padded, header, slotBytes, offerAnswer, offerAfter, putAnswer, putAfter};
@@ -134,6 +134,22 @@ fn shorter(a: usize, b: usize) -> usize
     b
 }
 
+// Four bytes as a number, the highest first.
+fn half(a: u8, b: u8, c: u8, d: u8) -> u64
+    ensures { λ r. ⌜ (r ≡ a * 16777216 + b * 65536 + c * 256 + d) × (r < 4294967296) ⌝ }
+{
+    (a as u64) * 16777216 + (b as u64) * 65536 + (c as u64) * 256 + (d as u64)
+}
+
+// The word at a place where there is one: octets::word without its tests, for the loop below.
+fn word_at(s: &[u8], at: usize) -> u64
+    requires { ⌜ at + 8 ≤ length (now s) ⌝ }
+    ensures { λ r. ⌜ r ≡ number (part (now (s .entry)) at (at + 8)) ⌝ }
+{
+    half(s[at], s[at + 1], s[at + 2], s[at + 3]) * 4294967296
+        + half(s[at + 4], s[at + 5], s[at + 6], s[at + 7])
+}
+
 // How many bytes two slices have in common from their start, two words at a time, of the first n. Strangers choose the keys, and may choose them the
 // same for long.
 fn common(a: &[u8], b: &[u8], n: usize) -> usize
@@ -143,10 +159,10 @@ fn common(a: &[u8], b: &[u8], n: usize) -> usize
     let mut i: usize = 0;
     while 16 <= n - i {
         let j = i + 8;
-        if octets::word(a, i) != octets::word(b, i) {
+        if word_at(a, i) != word_at(b, i) {
             return i;
         }
-        if octets::word(a, j) != octets::word(b, j) {
+        if word_at(a, j) != word_at(b, j) {
             return i;
         }
         i = j + 8;
@@ -161,8 +177,8 @@ fn key_before(a: &[u8], b: &[u8]) -> bool
     let n = shorter(a.len(), b.len());
     let mut i = common(a, b, n);
     while 8 <= n - i {
-        let x = octets::word(a, i);
-        let y = octets::word(b, i);
+        let x = word_at(a, i);
+        let y = word_at(b, i);
         if x != y {
             return x < y;
         }

@@ -27,14 +27,14 @@ loop-holds c = c .common .ensures
 sub-loop : tie.Need-sub-loop Inv-loop μ-loop
 sub-loop c = omega arith
 
-word-requires : tie.Need-word-requires Inv-loop μ-loop
-word-requires c κs = search needs
+word-at-requires : tie.Need-word-at-requires Inv-loop μ-loop
+word-at-requires c κs = omega arith
 
-word-requires-2 : tie.Need-word-requires-2 Inv-loop μ-loop
-word-requires-2 c κs = search needs
+word-at-requires-2 : tie.Need-word-at-requires-2 Inv-loop μ-loop
+word-at-requires-2 c κs = omega arith
 
 returns : tie.Need-returns Inv-loop μ-loop
-returns c = word-decides (c .before .before .before .before .before .before .before .before .before .args .a .now) (c .before .before .before .before .before .before .before .before .before .args .b .now) (c .before .before .before .before .loop .i) (omega (arith, c .before .before .before .before .before .before .shorter .ensures, c .before .before .before .loop-test .taken)) (omega (arith, c .before .before .before .before .before .before .shorter .ensures, c .before .before .before .loop-test .taken)) (λ k. c .before .before .before .before .before .before .before .before .shared-slice-known .given k .fits) (λ k. c .before .before .before .before .before .before .before .shared-slice-known2 .given k .fits) (c .before .before .word .ensures) (c .before .word2 .ensures) (c .if1 .taken) ∙ sym (c .before .before .before .before .loop .inv .1)
+returns c = word-decides (c .before .before .before .before .before .before .before .before .before .args .a .now) (c .before .before .before .before .before .before .before .before .before .args .b .now) (c .before .before .before .before .loop .i) (omega (arith, c .before .before .before .before .before .before .shorter .ensures, c .before .before .before .loop-test .taken)) (omega (arith, c .before .before .before .before .before .before .shorter .ensures, c .before .before .before .loop-test .taken)) (λ k. c .before .before .before .before .before .before .before .before .shared-slice-known .given k .fits) (λ k. c .before .before .before .before .before .before .before .shared-slice-known2 .given k .fits) (c .before .before .word-at .ensures) (c .before .word-at2 .ensures) (c .if1 .taken) ∙ sym (c .before .before .before .before .loop .inv .1)
 
 add-i : tie.Need-add-i Inv-loop μ-loop
 add-i c = omega (arith, c .before .before .before .before .before .before .shorter .ensures, c .before .before .before .loop-test .taken)
@@ -43,7 +43,7 @@ loop-less : tie.Need-loop-less Inv-loop μ-loop
 loop-less c = omega arith
 
 loop-again : tie.Need-loop-again Inv-loop μ-loop
-loop-again c = (omega arith, c .before .before .before .before .loop .inv .1 ∙ word-passed (c .before .before .before .before .before .before .before .before .before .args .a .now) (c .before .before .before .before .before .before .before .before .before .args .b .now) (c .before .before .before .before .loop .i) (omega (arith, c .before .before .before .before .before .before .shorter .ensures, c .before .before .before .loop-test .taken)) (omega (arith, c .before .before .before .before .before .before .shorter .ensures, c .before .before .before .loop-test .taken)) (λ k. c .before .before .before .before .before .before .before .before .shared-slice-known .given k .fits) (λ k. c .before .before .before .before .before .before .before .shared-slice-known2 .given k .fits) (sym (c .before .before .word .ensures) ∙ c .if1 .left ∙ c .before .word2 .ensures))
+loop-again c = (omega arith, c .before .before .before .before .loop .inv .1 ∙ word-passed (c .before .before .before .before .before .before .before .before .before .args .a .now) (c .before .before .before .before .before .before .before .before .before .args .b .now) (c .before .before .before .before .loop .i) (omega (arith, c .before .before .before .before .before .before .shorter .ensures, c .before .before .before .loop-test .taken)) (omega (arith, c .before .before .before .before .before .before .shorter .ensures, c .before .before .before .loop-test .taken)) (λ k. c .before .before .before .before .before .before .before .before .shared-slice-known .given k .fits) (λ k. c .before .before .before .before .before .before .before .shared-slice-known2 .given k .fits) (sym (c .before .before .word-at .ensures) ∙ c .if1 .left ∙ c .before .word-at2 .ensures))
 
 sub-lower-bytes : tie.Need-sub-lower-bytes Inv-loop μ-loop
 sub-lower-bytes c = omega (arith, c .before .before .before .shorter .ensures)
@@ -79,8 +79,8 @@ key-before-spec =
     common-requires
     loop-holds
     sub-loop
-    word-requires
-    word-requires-2
+    word-at-requires
+    word-at-requires-2
     returns
     add-i
     loop-less
