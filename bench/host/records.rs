@@ -43,14 +43,9 @@ fn is_key(key: &[u8]) -> bool {
     (7..=128).contains(&key.len()) && key.starts_with(b"/wind/")
 }
 
+// the used slots in the order of their keys, each found by halving
 fn plain_form(store: &[u8]) -> bool {
-    PLAIN_FORM(store)
-}
-
-const PLAIN_FORM: fn(&[u8]) -> bool = pairs_form;
-
-// each key against all before it
-fn pairs_form(store: &[u8]) -> bool {
+    let mut order: Vec<u8> = Vec::with_capacity(MOST);
     for (i, s) in slots(store).enumerate() {
         if s[0] == 0 {
             continue;
@@ -58,8 +53,10 @@ fn pairs_form(store: &[u8]) -> bool {
         if !is_key(key_of(s)) || !(16..=2048).contains(&size_of(s)) {
             return false;
         }
-        if slots(store).take(i).any(|other| other[0] != 0 && key_of(other) == key_of(s)) {
-            return false;
+        let key = |j: u8| key_of(&store[j as usize * SLOT..j as usize * SLOT + SLOT]);
+        match order.binary_search_by(|&j| key(j).cmp(key_of(s))) {
+            Ok(_) => return false,
+            Err(place) => order.insert(place, i as u8),
         }
     }
     true

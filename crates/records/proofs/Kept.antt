@@ -1,27 +1,25 @@
 -- What a store gives, and what after a put that writes: it stays in form, the key gives the new value, and every other key what it gave. Assumes nothing.
 use mathlib.Core.Path.{_≡_, refl, sym, ap, ap₂, _∙_, subst}
 use mathlib.Core.Logic.{⊎-elim}
-use mathlib.Core.Bool.{Bool, true, false, not, _&&_, _||_, cond}
+use mathlib.Core.Bool.{Bool, true, false, not, _&&_, _||_}
 use mathlib.Core.List.{List}
-use Prim.Native.Nat.{ℕ, _+_, _*_, _-_, _<_, _≤_, min}
+use Prim.Native.Nat.{ℕ, _+_, _*_, _<_, _≤_, min}
 use native.Mathlib.Omega.{arith}
-use lib.Dec.{ltb, eqb}
+use lib.Dec.{ltb}
 use lib.ListN.{length}
 use lib.Seq.{sets}
-use borrow.Author.Tests.{ltb-true, ltb-false, lt-ltb, le-ltb, eqb-true, eqb-false, not-true}
+use borrow.Author.Tests.{ltb-true, ltb-false, lt-ltb, le-ltb, not-true}
 use Rattle.octets.specs.Octets.{part, same}
-use Rattle.octets.specs.Search.{all, first}
+use Rattle.octets.specs.Search.{all}
 use Rattle.octets.proofs.Bools.{and-i, or-r, not-both, to-false, either, eq-or-ne, cond-yes, cond-no}
 use Rattle.octets.proofs.Searching.{all-at, all-intro, first-hit, first-same}
 use Rattle.octets.proofs.Parts.{part-part}
 use Rattle.octets.proofs.Strings.{same-refl, same-no}
-use Rattle.recipe.specs.Limits.{trailerSize, valueMax}
-use Rattle.recipe.specs.Recipe.{isRecipe}
+use Rattle.recipe.specs.Limits.{valueMax}
 use Rattle.recipe.proofs.Trailer.{recipe-least, recipe-most}
 use Rattle.records.specs.Limits.{keyMax, valueAt, slotSize}
 use Rattle.records.specs.Store.{slotsOf, slot, used, keyOf, sizeOf, valueOf, slotBytes, isKey, isRecord, holds, apart, fits, inForm, slotWith, freeSlot, heldAt, found, planOf}
-use Rattle.records.specs.History.{Got, Has, None, got}
-use Rattle.records.specs.declared.Found.{Found}
+use Rattle.records.specs.History.{Has, None, got}
 use Rattle.records.specs.declared.Found.the-variants.{Held, NotHeld}
 use Rattle.records.specs.declared.Plan.the-variants.{Write}
 use Rattle.records.proofs.Laying.{slot-in, slot-long, value-size, value-cut, key-most, key-least, record-is}

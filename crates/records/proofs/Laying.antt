@@ -1,25 +1,23 @@
 -- Laws of the layout of a slot, of the tests on one, and of the stores that write one. Assumes nothing.
-use mathlib.Core.Path.{_≡_, refl, sym, ap, ap₂, _∙_, subst}
-use mathlib.Core.Bool.{Bool, true, false, not, _&&_, _||_, cond}
+use mathlib.Core.Path.{_≡_, refl, sym, ap, _∙_}
+use mathlib.Core.Bool.{Bool, true, false}
 use mathlib.Core.List.{List, [], _∷_, _++_}
-use Prim.Native.Nat.{ℕ, zero, suc, _+_, _*_, _-_, _/_, _%_, _<_, _≤_, min}
+use Prim.Native.Nat.{ℕ, suc, _+_, _*_, _-_, _/_, _%_, _<_, _≤_, min}
 use native.Mathlib.Omega.{arith}
-use native.Mathlib.Numerals.{add-one}
-use lib.Dec.{ltb, leb, eqb}
-use lib.ListN.{length, getD, take, drop, set, replicate, length-take, length-drop, length-append, length-replicate, length-set}
-use lib.Seq.{sets, take-all, length-sets}
+use lib.Dec.{ltb, leb}
+use lib.ListN.{length, getD, drop, set, replicate, length-take, length-drop, length-append, length-replicate, length-set}
+use lib.Seq.{sets, take-all}
 use borrow.Author.Tests.{le-leb, lt-leb, ltb-true, ltb-false, eq-eqb, ne-eqb, leb-true}
 use Rattle.octets.specs.Octets.{part, same, startsWith}
 use Rattle.octets.specs.Search.{all, allOf}
-use Rattle.octets.proofs.Bools.{all-on, all-off, all-none, all-head, all-rest, all-one-more, not-both, to-false}
-use Rattle.octets.proofs.Parts.{part-length, part-size}
+use Rattle.octets.proofs.Bools.{all-on, all-off, all-none, all-head, all-rest, all-one-more}
+use Rattle.octets.proofs.Parts.{part-size}
 use Rattle.octets.proofs.Stores.{sets-append}
 use Rattle.recipe.specs.Limits.{trailerSize, valueMax}
 use Rattle.recipe.specs.Recipe.{outranks}
 use Rattle.refusal.specs.declared.Refusal.the-variants.{Outranked}
 use Rattle.records.specs.Limits.{slotsMax, keyMin, keyMax, opening, keyAt, valueAt, slotSize}
 use Rattle.records.specs.Store.{slotsOf, slot, used, keyOf, sizeOf, valueOf, padded, header, slotBytes, isKey, isRecord, holds, apart, fits, heldPlan, isFree}
-use Rattle.records.specs.declared.Plan.{Plan}
 use Rattle.records.specs.declared.Plan.the-variants.{Write, Keep, Refuse}
 
 -- one test that is left of a list of them
@@ -243,9 +241,9 @@ slot-write t at k v h {x} {y} {z} lk eh ex ey ez =
     let l2 : at + keyAt + length (padded keyMax k) ≡ at + valueAt = omega (arith, padded-size keyMax k lk) in
     let ex′ : x ≡ sets t at (header (length k) (length v)) = ex ∙ ap (λ (l : List ℕ). sets t at l) eh in
     let a : sets t at (header (length k) (length v) ++ (padded keyMax k ++ padded valueMax v)) ≡ sets (sets t at (header (length k) (length v))) (at + keyAt) (padded keyMax k ++ padded valueMax v) =
-        sets-append t at (header (length k) (length v)) (padded keyMax k ++ padded valueMax v)
-        ∙ ap (λ (n : ℕ). sets (sets t at (header (length k) (length v))) n (padded keyMax k ++ padded valueMax v)) l1 in
+    sets-append t at (header (length k) (length v)) (padded keyMax k ++ padded valueMax v)
+    ∙ ap (λ (n : ℕ). sets (sets t at (header (length k) (length v))) n (padded keyMax k ++ padded valueMax v)) l1 in
     let b : sets (sets t at (header (length k) (length v))) (at + keyAt) (padded keyMax k ++ padded valueMax v) ≡ sets (sets (sets t at (header (length k) (length v))) (at + keyAt) (padded keyMax k)) (at + valueAt) (padded valueMax v) =
-        sets-append (sets t at (header (length k) (length v))) (at + keyAt) (padded keyMax k) (padded valueMax v)
-        ∙ ap (λ (n : ℕ). sets (sets (sets t at (header (length k) (length v))) (at + keyAt) (padded keyMax k)) n (padded valueMax v)) l2 in
+    sets-append (sets t at (header (length k) (length v))) (at + keyAt) (padded keyMax k) (padded valueMax v)
+    ∙ ap (λ (n : ℕ). sets (sets (sets t at (header (length k) (length v))) (at + keyAt) (padded keyMax k)) n (padded valueMax v)) l2 in
     ez ∙ ap (λ (l : List ℕ). sets l (at + valueAt) (padded valueMax v)) (ey ∙ ap (λ (l : List ℕ). sets l (at + keyAt) (padded keyMax k)) ex′) ∙ sym (a ∙ b)

@@ -1,20 +1,20 @@
 -- Laws of the form test: slot numbers in the order of their keys, each found by halving and put in its place. Assumes nothing.
 use mathlib.Core.Path.{_≡_, refl, sym, ap, ap₂, _∙_, subst}
 use mathlib.Core.Logic.{_⊎_, inl, inr, ⊎-elim}
-use mathlib.Core.Bool.{Bool, true, false, not, _&&_, _||_}
+use mathlib.Core.Bool.{Bool, true, false, not, _&&_}
 use mathlib.Core.List.{List}
-use Prim.Native.Nat.{ℕ, zero, suc, _+_, _*_, _-_, _/_, _<_, _≤_}
+use Prim.Native.Nat.{ℕ, _+_, _-_, _<_, _≤_}
 use native.Mathlib.Omega.{arith}
 use native.Mathlib.Nat.{eq-or-lt-of-le, not-suc-le-zero}
 use lib.Dec.{ltb}
 use lib.ListN.{length, getD, set, length-set}
 use lib.Seq.{getD-set-same, getD-set-other}
 use borrow.Author.Tests.{lt-ltb, le-ltb, ltb-true, ltb-false}
-use Rattle.octets.specs.Octets.{same, lower}
+use Rattle.octets.specs.Octets.{lower}
 use Rattle.octets.specs.Search.{all}
 use Rattle.octets.proofs.Bools.{and-l, and-r, and-i, not-both, to-false, either, eq-or-ne}
 use Rattle.octets.proofs.Searching.{all-intro, all-fails}
-use Rattle.octets.proofs.Strings.{lower-trans, lower-total, lower-irrefl, same-yes, same-no}
+use Rattle.octets.proofs.Strings.{lower-trans, lower-total, lower-irrefl}
 use Rattle.records.specs.Limits.{slotsMax}
 use Rattle.records.specs.Store.{slotsOf, slot, used, keyOf, isRecord, holds, apart, fits}
 use Rattle.records.specs.Inner.{keyIn, Rising, Between, standsAt, Inserted, Ordered, Settled}

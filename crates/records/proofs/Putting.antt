@@ -1,26 +1,25 @@
 -- Laws of a put: which plan the tests lead to, what a plan to write says, and what is found. Assumes nothing.
-use mathlib.Core.Path.{_≡_, refl, sym, ap, ap₂, _∙_, subst}
+use mathlib.Core.Path.{_≡_, refl, sym, ap, _∙_}
 use mathlib.Core.Logic.{_⊎_, inl, inr, ⊎-elim}
-use mathlib.Core.Bool.{Bool, true, false, not, _&&_, _||_, cond}
-use mathlib.Core.List.{List, [], _∷_}
+use mathlib.Core.Bool.{Bool, true, false, not, _&&_, cond}
+use mathlib.Core.List.{List}
 use Prim.Native.Nat.{ℕ, _+_, _*_, _<_, _≤_, min}
 use native.Mathlib.Omega.{arith}
 use lib.Dec.{ltb}
 use lib.ListN.{length}
 use lib.Seq.{sets}
-use borrow.Author.Tests.{lt-ltb, le-ltb, ltb-true, ltb-false, not-true, not-false}
-use Rattle.octets.specs.Octets.{part, same}
+use borrow.Author.Tests.{lt-ltb, le-ltb, ltb-true, ltb-false, not-true}
+use Rattle.octets.specs.Octets.{same}
 use Rattle.octets.specs.Search.{all, first}
-use Rattle.octets.proofs.Bools.{and-l, and-r, and-i, or-e, not-both, to-false, either, cond-yes, cond-no}
+use Rattle.octets.proofs.Bools.{and-l, and-r, and-i, or-e, not-both, cond-yes, cond-no}
 use Rattle.octets.proofs.Searching.{all-at, first-is}
-use Rattle.octets.proofs.Parts.{part-part}
 use Rattle.octets.proofs.Strings.{same-eq, same-yes}
 use Rattle.refusal.specs.declared.Refusal.{Refusal}
 use Rattle.refusal.specs.declared.Refusal.the-variants.{OutOfForm, BreaksRules, BrokenRecipe, Outranked, NoRecordSlot}
 use Rattle.recipe.specs.Limits.{valueMax}
 use Rattle.recipe.specs.Recipe.{isRecipe, outranks}
 use Rattle.recipe.proofs.Trailer.{recipe-most}
-use Rattle.records.specs.Limits.{keyMax, valueAt, slotSize}
+use Rattle.records.specs.Limits.{valueAt, slotSize}
 use Rattle.records.specs.Store.{slotsOf, slot, used, keyOf, sizeOf, valueOf, slotBytes, isKey, isRecord, holds, apart, fits, inForm, slotWith, isFree, freeSlot, heldAt, found, findOf, heldPlan, planOf, answerOf, afterOf, offerAnswer, offerAfter, putAnswer, putAfter}
 use Rattle.records.specs.Inner.{Fitting}
 use Rattle.records.specs.declared.Found.{Found}

@@ -4,29 +4,26 @@ use mathlib.Core.Path.{_≡_, refl, sym, ap, _∙_, subst}
 use mathlib.Core.Logic.{_⊎_, inl, inr, ⊎-elim}
 use mathlib.Core.Bool.{Bool, true, false, not, _&&_, cond}
 use mathlib.Core.List.{List, [], _∷_}
-use Prim.Native.Nat.{ℕ, zero, suc, _+_, _*_, _<_, _≤_}
+use Prim.Native.Nat.{ℕ, zero, suc, _+_, _*_, _<_}
 use native.Mathlib.Omega.{arith}
 use lib.Dec.{ltb, eqb}
-use lib.ListN.{length, getD, take, drop, replicate}
-use lib.Seq.{sets}
+use lib.ListN.{getD}
 use borrow.Author.Tests.{ltb-true, eq-eqb}
 use Rattle.octets.specs.Octets.{part, same}
 use Rattle.octets.specs.Search.{all}
 use Rattle.octets.proofs.Bools.{and-fails, not-both, to-false, either, cond-ind}
 use Rattle.octets.proofs.Searching.{all-intro}
 use Rattle.octets.proofs.Parts.{part-at}
-use Rattle.octets.proofs.Strings.{same-refl, same-eq, same-yes, same-no, differ}
-use Rattle.refusal.specs.declared.Refusal.{Refusal}
+use Rattle.octets.proofs.Strings.{same-eq, same-yes, same-no, differ}
 use Rattle.refusal.specs.declared.Refusal.the-variants.{OutOfForm, BreaksRules, BrokenRecipe, Outranked, NoRecordSlot}
 use Rattle.recipe.specs.Recipe.{isRecipe, outranks}
 use Rattle.recipe.proofs.Rank.{outranks-total, outranks-self, outranked-not}
 use Rattle.records.specs.Limits.{slotSize}
-use Rattle.records.specs.Store.{slotsOf, slot, used, valueOf, slotBytes, isKey, fits, inForm, slotWith, freeSlot, heldPlan, planOf, answerOf, afterOf, offerAnswer, offerAfter, putAnswer, putAfter}
+use Rattle.records.specs.Store.{slotsOf, slot, used, valueOf, isKey, fits, inForm, slotWith, freeSlot, heldPlan, planOf, answerOf, afterOf, offerAnswer, offerAfter, putAnswer, putAfter}
 use Rattle.records.specs.History.{Got, Has, None, got, taken, Offer, accepts, offered, after, Accepted, Unbeaten, cleared}
 use Rattle.records.specs.declared.Plan.{Plan}
 use Rattle.records.specs.declared.Plan.the-variants.{Write, Keep, Refuse}
-use Rattle.records.specs.declared.Answer.{Answer}
-use Rattle.records.specs.declared.Answer.the-variants.{Taken, Refused}
+use Rattle.records.specs.declared.Answer.the-variants.{Refused}
 use Rattle.records.proofs.Putting.{write-where, put-out, put-answer, put-after}
 use Rattle.records.proofs.Kept.{got-held, got-none, fits-in, write-got, write-other, write-form}
 

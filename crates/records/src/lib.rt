@@ -3,9 +3,9 @@
 use refusal::Refusal;
 ghost use mathlib.Core.Path.{_≡_};
 ghost use Prim.Native.Nat.{_+_, _*_, _<_, _≤_, min};
-ghost use lib.ListN.{length, replicate};
+ghost use lib.ListN.{length, drop, replicate};
 ghost use lib.Seq.{sets};
-ghost use Rattle.octets.specs.Octets.{lower};
+ghost use Rattle.octets.specs.Octets.{part, lower, number};
 ghost use Rattle.recipe.specs.Limits.{valueMax};
 ghost use Rattle.records.specs.Limits.{slotSize, keyMax};
 ghost use Rattle.records.specs.Store.{slotsOf, slot, keyOf, sizeOf, valueOf, isKey, isRecord, holds, inForm, slotWith, freeSlot, found, findOf, heldPlan, planOf, padded, header, slotBytes, offerAnswer, offerAfter, putAnswer, putAfter};
@@ -13,10 +13,15 @@ ghost use Rattle.records.specs.Inner.{Fitting, Rising, Between, standsAt
 
 // The limits and the layout; specs/Limits.antt has the same.
 pub const SLOTS_MAX: usize = 256;
+
 pub const KEY_MIN: usize = 7;
+
 pub const KEY_MAX: usize = 128;
+
 pub const KEY_AT: usize = 8;
+
 pub const VALUE_AT: usize = 136;
+
 pub const SLOT: usize = 2184;
 
 // More than any order of slots has.
@@ -129,15 +134,51 @@ fn shorter(a: usize, b: usize) -> usize
     b
 }
 
-// Whether key a comes before key b in bytewise order, a word at a time: keys may be the same for long, since strangers choose them.
+// Four bytes as a number, the highest first.
+fn half(a: u8, b: u8, c: u8, d: u8) -> u64
+    ensures { λ r. ⌜ (r ≡ a * 16777216 + b * 65536 + c * 256 + d) × (r < 4294967296) ⌝ }
+{
+    (a as u64) * 16777216 + (b as u64) * 65536 + (c as u64) * 256 + (d as u64)
+}
+
+// The word at a place where there is one: octets::word without its tests, for the loop below.
+fn word_at(s: &[u8], at: usize) -> u64
+    requires { ⌜ at + 8 ≤ length (now s) ⌝ }
+    ensures { λ r. ⌜ r ≡ number (part (now (s .entry)) at (at + 8)) ⌝ }
+{
+    half(s[at], s[at + 1], s[at + 2], s[at + 3]) * 4294967296
+        + half(s[at + 4], s[at + 5], s[at + 6], s[at + 7])
+}
+
+// How many bytes two slices have in common from their start, two words at a time, of the first n. Strangers choose the keys, and may choose them the
+// same for long.
+fn common(a: &[u8], b: &[u8], n: usize) -> usize
+    requires { ⌜ n ≡ min (length (now a)) (length (now b)) ⌝ }
+    ensures { λ r. ⌜ (r ≤ n) × (lower (now (a .entry)) (now (b .entry)) ≡ lower (drop r (now (a .entry))) (drop r (now (b .entry)))) ⌝ }
+{
+    let mut i: usize = 0;
+    while 16 <= n - i {
+        let j = i + 8;
+        if word_at(a, i) != word_at(b, i) {
+            return i;
+        }
+        if word_at(a, j) != word_at(b, j) {
+            return i;
+        }
+        i = j + 8;
+    }
+    i
+}
+
+// Whether key a comes before key b in bytewise order: what they have in common is passed over, then the first word that differs decides.
 fn key_before(a: &[u8], b: &[u8]) -> bool
     ensures { λ r. ⌜ r ≡ lower (now (a .entry)) (now (b .entry)) ⌝ }
 {
     let n = shorter(a.len(), b.len());
-    let mut i: usize = 0;
+    let mut i = common(a, b, n);
     while 8 <= n - i {
-        let x = octets::word(a, i);
-        let y = octets::word(b, i);
+        let x = word_at(a, i);
+        let y = word_at(b, i);
         if x != y {
             return x < y;
         }
@@ -300,9 +341,9 @@ pub enum Plan {
     Refuse(Refusal),
 }
 
-// What is to be done with a value, where slot i holds another or the same of its key.
-fn held_plan(held: &[u8], value: &[u8], i: usize) -> Plan
-    ensures { λ r. ⌜ r ≡ heldPlan (now (held .entry)) (now (value .entry)) i ⌝ }
+// What is to be done with a value, where slot `at` holds another or the same of its key.
+fn held_plan(held: &[u8], value: &[u8], at: usize) -> Plan
+    ensures { λ r. ⌜ r ≡ heldPlan (now (held .entry)) (now (value .entry)) at ⌝ }
 {
     if octets::same_bytes(held, value) {
         return Plan::Keep;
@@ -310,7 +351,7 @@ fn held_plan(held: &[u8], value: &[u8], i: usize) -> Plan
     if recipe::outranks(held, value) {
         return Plan::Refuse(Refusal::Outranked);
     }
-    Plan::Write(i)
+    Plan::Write(at)
 }
 
 // What a put is to do, with a store of any bytes.

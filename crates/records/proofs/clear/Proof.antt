@@ -4,8 +4,6 @@ use Prim.Native.Nat.{_-_}
 use Rattle.records.proofs.Laying.{Clearing, clearing, clear-on, cleared}
 use Rattle.records.proofs.clear.Statement.{statement}
 use Rattle.records.proofs.clear.Tie as tie
-use Rattle.records.proofs.clear.Reads as reads
-use Rattle.records.proofs.clear.Lts as lts
 
 abbrev Inv-loop : tie.InvT-loop
 Inv-loop buf₀ at n i₀ buf i = Clearing buf₀ at n buf i

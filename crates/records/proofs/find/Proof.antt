@@ -4,10 +4,6 @@ use Rattle.records.proofs.Putting.{find-out, find-in}
 use borrow.Author.Needs.{needs}
 use Rattle.records.proofs.find.Statement.{statement}
 use Rattle.records.proofs.find.Tie as tie
-use Rattle.records.proofs.find.Reads as reads
-use Rattle.records.proofs.find.Lts as lts
-use Rattle.records.proofs.in_form.Reads as in-form-reads
-use Rattle.records.proofs.look.Reads as look-reads
 
 in-form-requires : tie.Need-in-form-requires
 in-form-requires c κs = search needs

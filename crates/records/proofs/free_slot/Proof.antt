@@ -1,20 +1,15 @@
 -- `free_slot` goes from slot to slot; no slot before i is free.
 use native.Mathlib.Omega.{arith}
 use borrow.Author.Needs.{needs}
-use mathlib.Core.Path.{_≡_, sym, ap, subst, _∙_}
+use mathlib.Core.Path.{_≡_, _∙_}
 use mathlib.Core.Bool.{false}
 use Prim.Native.Nat.{ℕ, _≤_, _<_, _-_}
-use Rattle.octets.specs.Search.{first}
 use Rattle.octets.proofs.Searching.{first-hit, first-miss}
 use Rattle.records.specs.Store.{slotsOf, isFree, freeSlot}
 use Rattle.records.proofs.Laying.{free-yes, free-no}
 use Rattle.records.proofs.Nothing.{none-yet, none-more}
 use Rattle.records.proofs.free_slot.Statement.{statement}
 use Rattle.records.proofs.free_slot.Tie as tie
-use Rattle.records.proofs.free_slot.Reads as reads
-use Rattle.records.proofs.free_slot.Lts as lts
-use Rattle.records.proofs.slot_at.Reads as slot-at-reads
-use Rattle.records.proofs.slots.Reads as slots-reads
 
 abbrev Inv-loop : tie.InvT-loop
 Inv-loop store n i₀ i = (i ≤ n) × ((j : ℕ) → j < i → isFree store j ≡ false)

@@ -3,8 +3,6 @@ use Rattle.records.proofs.Laying.{header-is}
 use borrow.Author.Needs.{needs}
 use Rattle.records.proofs.header_of.Statement.{statement}
 use Rattle.records.proofs.header_of.Tie as tie
-use Rattle.records.proofs.header_of.Reads as reads
-use Rattle.records.proofs.header_of.Lts as lts
 
 cast-t3 : tie.Need-cast-t3
 cast-t3 c = search needs

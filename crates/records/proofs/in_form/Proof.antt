@@ -1,7 +1,7 @@
 -- `in_form` settles slot after slot.
 use native.Mathlib.Omega.{arith}
 use borrow.Author.Needs.{needs}
-use mathlib.Core.Path.{_≡_, refl, sym, subst, _∙_}
+use mathlib.Core.Path.{_≡_, refl, sym, subst}
 use mathlib.Core.Bool.{true}
 use Prim.Native.Nat.{ℕ, _≤_, _-_}
 use Rattle.octets.specs.Search.{all}
@@ -11,10 +11,6 @@ use Rattle.records.specs.Inner.{Ordered}
 use Rattle.records.proofs.Ordering.{ordered}
 use Rattle.records.proofs.in_form.Statement.{statement}
 use Rattle.records.proofs.in_form.Tie as tie
-use Rattle.records.proofs.in_form.Reads as reads
-use Rattle.records.proofs.in_form.Lts as lts
-use Rattle.records.proofs.settle.Reads as settle-reads
-use Rattle.records.proofs.slots.Reads as slots-reads
 
 abbrev Inv-loop : tie.InvT-loop
 Inv-loop store n order₀ held₀ i₀ order held i = (i ≤ n) × (all i (fits store) ≡ true) × Ordered store order held i

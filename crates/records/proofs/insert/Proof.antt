@@ -4,8 +4,6 @@ use borrow.Author.Needs.{needs}
 use Rattle.records.proofs.Ordering.{Moving, moving, move-on, inserted}
 use Rattle.records.proofs.insert.Statement.{statement}
 use Rattle.records.proofs.insert.Tie as tie
-use Rattle.records.proofs.insert.Reads as reads
-use Rattle.records.proofs.insert.Lts as lts
 
 abbrev Inv-loop : tie.InvT-loop
 Inv-loop order₀ held p i m₀ order m = Moving order₀ held p order m

@@ -4,9 +4,6 @@ use Rattle.records.proofs.Laying.{key-short, key-long, key-opens}
 use borrow.Author.Needs.{needs}
 use Rattle.records.proofs.is_key.Statement.{statement}
 use Rattle.records.proofs.is_key.Tie as tie
-use Rattle.records.proofs.is_key.Reads as reads
-use Rattle.records.proofs.is_key.Lts as lts
-use Rattle.octets.proofs.starts_with.Reads as starts-with-reads
 
 returns : tie.Need-returns
 returns c = key-short (c .before .before .args .key .now) (omega arith)

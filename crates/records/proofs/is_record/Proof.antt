@@ -5,11 +5,6 @@ use Rattle.records.proofs.Laying.{record-key, record-few, record-last}
 use borrow.Author.Needs.{needs}
 use Rattle.records.proofs.is_record.Statement.{statement}
 use Rattle.records.proofs.is_record.Tie as tie
-use Rattle.records.proofs.is_record.Reads as reads
-use Rattle.records.proofs.is_record.Lts as lts
-use Rattle.records.proofs.is_key.Reads as is-key-reads
-use Rattle.records.proofs.key_of.Reads as key-of-reads
-use Rattle.records.proofs.size_of.Reads as size-of-reads
 
 key-of-requires : tie.Need-key-of-requires
 key-of-requires c κs = search needs

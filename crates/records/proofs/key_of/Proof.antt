@@ -4,8 +4,6 @@ use Rattle.records.proofs.Laying.{key-cut}
 use borrow.Author.Needs.{needs}
 use Rattle.records.proofs.key_of.Statement.{statement}
 use Rattle.records.proofs.key_of.Tie as tie
-use Rattle.records.proofs.key_of.Reads as reads
-use Rattle.records.proofs.key_of.Lts as lts
 
 shared-slice-read-n : tie.Need-shared-slice-read-n
 shared-slice-read-n c = search needs

@@ -5,12 +5,6 @@ use Rattle.records.proofs.Putting.{look-none, look-held}
 use borrow.Author.Needs.{needs}
 use Rattle.records.proofs.look.Statement.{statement}
 use Rattle.records.proofs.look.Tie as tie
-use Rattle.records.proofs.look.Reads as reads
-use Rattle.records.proofs.look.Lts as lts
-use Rattle.records.proofs.held_size.Reads as held-size-reads
-use Rattle.records.proofs.slot_at.Reads as slot-at-reads
-use Rattle.records.proofs.slot_with.Reads as slot-with-reads
-use Rattle.records.proofs.slots.Reads as slots-reads
 
 slot-with-requires : tie.Need-slot-with-requires
 slot-with-requires c κs = search needs

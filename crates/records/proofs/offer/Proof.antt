@@ -1,14 +1,9 @@
 -- `offer` does what the plan says.
 use native.Mathlib.Omega.{arith}
-use mathlib.Core.Path.{sym, _∙_}
 use Rattle.records.proofs.Putting.{write-fits, plan-is, offer-write, offer-keep, offer-refuse}
 use borrow.Author.Needs.{needs}
 use Rattle.records.proofs.offer.Statement.{statement}
 use Rattle.records.proofs.offer.Tie as tie
-use Rattle.records.proofs.offer.Reads as reads
-use Rattle.records.proofs.offer.Lts as lts
-use Rattle.records.proofs.plan_put.Reads as plan-put-reads
-use Rattle.records.proofs.write_slot.Reads as write-slot-reads
 
 plan-put-requires : tie.Need-plan-put-requires
 plan-put-requires c κs = search needs

@@ -9,11 +9,6 @@ use Rattle.records.specs.Store.{keyOf}
 use Rattle.records.proofs.Ordering.{Halving, halving, half-low, half-high, halved}
 use Rattle.records.proofs.place_for.Statement.{statement}
 use Rattle.records.proofs.place_for.Tie as tie
-use Rattle.records.proofs.place_for.Reads as reads
-use Rattle.records.proofs.place_for.Lts as lts
-use Rattle.records.proofs.key_before.Reads as key-before-reads
-use Rattle.records.proofs.key_of.Reads as key-of-reads
-use Rattle.records.proofs.slot_at.Reads as slot-at-reads
 
 abbrev Inv-loop : tie.InvT-loop
 Inv-loop store order held key lo₀ hi₀ lo hi = Halving store order held key lo hi

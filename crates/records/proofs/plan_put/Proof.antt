@@ -2,20 +2,9 @@
 use native.Mathlib.Omega.{arith}
 use borrow.Author.Tests.{not-true, not-false}
 use Rattle.records.proofs.Putting.{plan-key, plan-recipe, plan-held, plan-free, plan-full}
-use mathlib.Core.Path.{sym, _∙_}
 use borrow.Author.Needs.{needs}
 use Rattle.records.proofs.plan_put.Statement.{statement}
 use Rattle.records.proofs.plan_put.Tie as tie
-use Rattle.records.proofs.plan_put.Reads as reads
-use Rattle.records.proofs.plan_put.Lts as lts
-use Rattle.recipe.proofs.check.Reads as check-reads
-use Rattle.records.proofs.free_slot.Reads as free-slot-reads
-use Rattle.records.proofs.held_plan.Reads as held-plan-reads
-use Rattle.records.proofs.is_key.Reads as is-key-reads
-use Rattle.records.proofs.slot_at.Reads as slot-at-reads
-use Rattle.records.proofs.slot_with.Reads as slot-with-reads
-use Rattle.records.proofs.slots.Reads as slots-reads
-use Rattle.records.proofs.value_of.Reads as value-of-reads
 
 is-key-requires : tie.Need-is-key-requires
 is-key-requires c κs = search needs

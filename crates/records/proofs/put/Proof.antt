@@ -4,10 +4,6 @@ use Rattle.records.proofs.Putting.{put-out, put-answer, put-after}
 use borrow.Author.Needs.{needs}
 use Rattle.records.proofs.put.Statement.{statement}
 use Rattle.records.proofs.put.Tie as tie
-use Rattle.records.proofs.put.Reads as reads
-use Rattle.records.proofs.put.Lts as lts
-use Rattle.records.proofs.in_form.Reads as in-form-reads
-use Rattle.records.proofs.offer.Reads as offer-reads
 
 in-form-requires : tie.Need-in-form-requires
 in-form-requires c κs = search needs

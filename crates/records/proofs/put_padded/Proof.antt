@@ -3,10 +3,6 @@ use Rattle.records.proofs.Laying.{pad-write}
 use borrow.Author.Needs.{needs}
 use Rattle.records.proofs.put_padded.Statement.{statement}
 use Rattle.records.proofs.put_padded.Tie as tie
-use Rattle.records.proofs.put_padded.Reads as reads
-use Rattle.records.proofs.put_padded.Lts as lts
-use Rattle.octets.proofs.copy.Reads as copy-reads
-use Rattle.records.proofs.clear.Reads as clear-reads
 
 copy-requires : tie.Need-copy-requires
 copy-requires c κs = search needs

@@ -6,14 +6,6 @@ use Rattle.records.proofs.Ordering.{settle-free, settle-bad, settle-twi
 use borrow.Author.Needs.{needs}
 use Rattle.records.proofs.settle.Statement.{statement}
 use Rattle.records.proofs.settle.Tie as tie
-use Rattle.records.proofs.settle.Reads as reads
-use Rattle.records.proofs.settle.Lts as lts
-use Rattle.records.proofs.insert.Reads as insert-reads
-use Rattle.records.proofs.is_record.Reads as is-record-reads
-use Rattle.records.proofs.key_of.Reads as key-of-reads
-use Rattle.records.proofs.place_for.Reads as place-for-reads
-use Rattle.records.proofs.slot_at.Reads as slot-at-reads
-use Rattle.records.proofs.stands_at.Reads as stands-at-reads
 
 slot-at-requires : tie.Need-slot-at-requires
 slot-at-requires c κs = search needs

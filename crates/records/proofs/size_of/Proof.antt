@@ -4,8 +4,6 @@ use Rattle.records.proofs.Laying.{size-is}
 use borrow.Author.Needs.{needs}
 use Rattle.records.proofs.size_of.Statement.{statement}
 use Rattle.records.proofs.size_of.Tie as tie
-use Rattle.records.proofs.size_of.Reads as reads
-use Rattle.records.proofs.size_of.Lts as lts
 
 shared-slice-read-a : tie.Need-shared-slice-read-a
 shared-slice-read-a c = search needs

@@ -6,8 +6,6 @@ use Rattle.records.proofs.Laying.{slot-in, slot-long, slot-cut}
 use borrow.Author.Needs.{needs}
 use Rattle.records.proofs.slot_at.Statement.{statement}
 use Rattle.records.proofs.slot_at.Tie as tie
-use Rattle.records.proofs.slot_at.Reads as reads
-use Rattle.records.proofs.slot_at.Lts as lts
 
 mul-a : tie.Need-mul-a
 mul-a c = omega (arith, slot-in (c .args .store .now) (c .args .i) (c .pre))

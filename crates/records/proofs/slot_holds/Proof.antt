@@ -4,11 +4,6 @@ use Rattle.records.proofs.Laying.{holds-free, holds-used}
 use borrow.Author.Needs.{needs}
 use Rattle.records.proofs.slot_holds.Statement.{statement}
 use Rattle.records.proofs.slot_holds.Tie as tie
-use Rattle.records.proofs.slot_holds.Reads as reads
-use Rattle.records.proofs.slot_holds.Lts as lts
-use Rattle.octets.proofs.same_bytes.Reads as same-bytes-reads
-use Rattle.records.proofs.key_of.Reads as key-of-reads
-use Rattle.records.proofs.slot_at.Reads as slot-at-reads
 
 slot-at-requires : tie.Need-slot-at-requires
 slot-at-requires c κs = search needs

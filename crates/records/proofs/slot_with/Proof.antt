@@ -9,10 +9,6 @@ use Rattle.records.specs.Store.{slotsOf, holds, slotWith}
 use Rattle.records.proofs.Nothing.{none-yet, none-more}
 use Rattle.records.proofs.slot_with.Statement.{statement}
 use Rattle.records.proofs.slot_with.Tie as tie
-use Rattle.records.proofs.slot_with.Reads as reads
-use Rattle.records.proofs.slot_with.Lts as lts
-use Rattle.records.proofs.slot_holds.Reads as slot-holds-reads
-use Rattle.records.proofs.slots.Reads as slots-reads
 
 abbrev Inv-loop : tie.InvT-loop
 Inv-loop store key n i₀ i = (i ≤ n) × ((j : ℕ) → j < i → holds store key j ≡ false)

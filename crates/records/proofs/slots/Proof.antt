@@ -4,8 +4,6 @@ use mathlib.Core.Path.{refl}
 use Rattle.records.proofs.Laying.{slots-few, slots-many}
 use Rattle.records.proofs.slots.Statement.{statement}
 use Rattle.records.proofs.slots.Tie as tie
-use Rattle.records.proofs.slots.Reads as reads
-use Rattle.records.proofs.slots.Lts as lts
 
 returns : tie.Need-returns
 returns c = slots-few (c .before .args .store .now) refl (omega arith)

@@ -4,9 +4,6 @@ use Rattle.records.proofs.Ordering.{stands-past, stands-is}
 use borrow.Author.Needs.{needs}
 use Rattle.records.proofs.stands_at.Statement.{statement}
 use Rattle.records.proofs.stands_at.Tie as tie
-use Rattle.records.proofs.stands_at.Reads as reads
-use Rattle.records.proofs.stands_at.Lts as lts
-use Rattle.records.proofs.slot_holds.Reads as slot-holds-reads
 
 returns : tie.Need-returns
 returns c = stands-past (c .before .before .before .before .args .store .now) (c .before .before .before .before .args .order .now) (c .before .before .before .before .args .held) (c .before .before .before .before .args .p) (c .before .before .before .before .args .key .now) (omega arith)

@@ -3,9 +3,6 @@ use Rattle.records.proofs.Laying.{value-cut}
 use borrow.Author.Needs.{needs}
 use Rattle.records.proofs.value_of.Statement.{statement}
 use Rattle.records.proofs.value_of.Tie as tie
-use Rattle.records.proofs.value_of.Reads as reads
-use Rattle.records.proofs.value_of.Lts as lts
-use Rattle.records.proofs.held_size.Reads as held-size-reads
 
 held-size-requires : tie.Need-held-size-requires
 held-size-requires c κs = search needs

@@ -3,11 +3,6 @@ use Rattle.records.proofs.Laying.{slot-write}
 use borrow.Author.Needs.{needs}
 use Rattle.records.proofs.write_slot.Statement.{statement}
 use Rattle.records.proofs.write_slot.Tie as tie
-use Rattle.records.proofs.write_slot.Reads as reads
-use Rattle.records.proofs.write_slot.Lts as lts
-use Rattle.octets.proofs.copy.Reads as copy-reads
-use Rattle.records.proofs.header_of.Reads as header-of-reads
-use Rattle.records.proofs.put_padded.Reads as put-padded-reads
 
 header-of-requires : tie.Need-header-of-requires
 header-of-requires c κs = search needs

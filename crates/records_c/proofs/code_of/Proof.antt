@@ -4,9 +4,6 @@ use Rattle.records_c.specs.Codes.{codeOf}
 use borrow.Author.Needs.{needs}
 use Rattle.records_c.proofs.code_of.Statement.{statement}
 use Rattle.records_c.proofs.code_of.Tie as tie
-use Rattle.records_c.proofs.code_of.Reads as reads
-use Rattle.records_c.proofs.code_of.Lts as lts
-use Rattle.refusal.proofs.number.Reads as number-reads
 
 enum-told : tie.Need-enum-told
 enum-told c = search needs

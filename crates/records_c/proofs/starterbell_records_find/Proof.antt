@@ -4,10 +4,6 @@ use Rattle.records_c.specs.Codes.{startOf}
 use borrow.Author.Needs.{needs}
 use Rattle.records_c.proofs.starterbell_records_find.Statement.{statement}
 use Rattle.records_c.proofs.starterbell_records_find.Tie as tie
-use Rattle.records_c.proofs.starterbell_records_find.Reads as reads
-use Rattle.records_c.proofs.starterbell_records_find.Lts as lts
-use Rattle.records.proofs.find.Reads as find-reads
-use Rattle.records_c.proofs.start_of.Reads as start-of-reads
 
 find-requires : tie.Need-find-requires
 find-requires c κs = search needs

@@ -4,10 +4,6 @@ use Rattle.records_c.specs.Codes.{codeOf}
 use borrow.Author.Needs.{needs}
 use Rattle.records_c.proofs.starterbell_records_put.Statement.{statement}
 use Rattle.records_c.proofs.starterbell_records_put.Tie as tie
-use Rattle.records_c.proofs.starterbell_records_put.Reads as reads
-use Rattle.records_c.proofs.starterbell_records_put.Lts as lts
-use Rattle.records.proofs.put.Reads as put-reads
-use Rattle.records_c.proofs.code_of.Reads as code-of-reads
 
 put-requires : tie.Need-put-requires
 put-requires c κs = search needs

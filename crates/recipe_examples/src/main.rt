@@ -1,0 +1,148 @@
+// Document 01's examples on recipes that aren't starred, and the edges of each limit: one line for each.
+ghost use Prim.Native.Nat.{_+_, _*_, _<_, _≤_};
+
+const OUT: i32 = 1;
+
+fn say(what: &[u8], taken: bool) {
+    io::write_all(OUT, what);
+    if taken {
+        io::write_all(OUT, b": taken\n");
+        return;
+    }
+    io::write_all(OUT, b": refused\n");
+}
+
+// Setpoints from a place on, three bytes each: turns 128, 129 .., trim -1.
+fn put_points(buf: &mut [u8], at: usize, count: usize)
+    requires { ⌜ (count ≤ 201) × (at ≤ 2049) ⌝ }
+{
+    let mut i: usize = 0;
+    while i < count {
+        let p = at + i * 3;
+        octets::copy(buf, p, &[(i % 128 + 128) as u8, (i / 128 + 1) as u8, 1]);
+        i += 1;
+    }
+}
+
+// A trailer of format 1 and sequence 0.
+fn put_trailer(buf: &mut [u8], at: usize, distance: usize, count: usize)
+    requires { ⌜ (distance < 65536) × (count < 256) ⌝ }
+{
+    let low = (distance % 256) as u8;
+    let high = (distance / 256) as u8;
+    octets::copy(
+        buf,
+        at,
+        &[
+            low,
+            high,
+            0,
+            0,
+            count as u8,
+            0,
+            1,
+            0,
+            0,
+            0,
+            0,
+            0,
+            0,
+            0,
+            0,
+            0,
+        ],
+    );
+}
+
+// A value of n bytes with so many setpoints, and a note of zeros before them.
+fn with_points(count: usize, n: usize) -> bool
+    requires { ⌜ (count ≤ 201) × (count * 3 + 16 ≤ n) × (n ≤ 2049) ⌝ }
+{
+    let mut v = [0u8; 2049];
+    let end = n - 16;
+    put_points(&mut v, end - count * 3, count);
+    put_trailer(&mut v, end, count * 3 + 16, count);
+    recipe::check(&v[..n])
+}
+
+// One setpoint of these four bytes.
+fn with_four(a: u8, b: u8, c: u8, d: u8) -> bool {
+    recipe::check(&[a, b, c, d, 20, 0, 0, 0, 1, 0, 1, 0, 7, 0, 0, 0, 0, 0, 0, 0])
+}
+
+// Two setpoints, their turns a and c, their trims b and d.
+fn with_two(a: u8, b: u8, c: u8, d: u8) -> bool {
+    recipe::check(&[a, b, c, d, 20, 0, 0, 0, 2, 0, 1, 0, 7, 0, 0, 0, 0, 0, 0, 0])
+}
+
+// One setpoint of two bytes, with other numbers in the trailer.
+fn with_trailer(distance: u8, count: u8, format: u8) -> bool {
+    recipe::check(
+        &[
+            0,
+            1,
+            distance,
+            0,
+            0,
+            0,
+            count,
+            0,
+            format,
+            0,
+            7,
+            0,
+            0,
+            0,
+            0,
+            0,
+            0,
+            0,
+        ],
+    )
+}
+
+fn numbers() {
+    say(b"zigzag 39,999", with_four(0, 0xBF, 0xB8, 2));
+    say(b"zigzag 40,000", with_four(0, 0xC0, 0xB8, 2));
+    say(b"zigzag 40,001", with_four(0, 0xC1, 0xB8, 2));
+    say(b"zigzag 40,002", with_four(0, 0xC2, 0xB8, 2));
+    say(b"turn 1,000,000", with_four(0xC0, 0x84, 0x3D, 1));
+    say(b"turn 1,000,001", with_four(0xC1, 0x84, 0x3D, 1));
+    say(b"turns 5, 6", with_two(5, 1, 6, 1));
+    say(b"turns 5, 5", with_two(5, 1, 5, 1));
+    say(b"turns 6, 5", with_two(6, 1, 5, 1));
+    say(b"turn 0 as 80 80 00", with_four(0x80, 0x80, 0, 1));
+    say(b"trim -1 as 81 80 00", with_four(0, 0x81, 0x80, 0));
+    say(b"trim without an end", with_four(0, 0x81, 0x80, 0x80));
+}
+
+fn trailers() {
+    say(b"distance 18, count 1, format 1", with_trailer(18, 1, 1));
+    say(b"distance 19", with_trailer(19, 1, 1));
+    say(b"distance 17", with_trailer(17, 1, 1));
+    say(b"distance 15", with_trailer(15, 1, 1));
+    say(
+        b"distance 16, count 0, a note of two bytes",
+        with_trailer(16, 0, 1),
+    );
+    say(b"count 0 with bytes left over", with_trailer(18, 0, 1));
+    say(b"count 2 with bytes for one", with_trailer(18, 2, 1));
+    say(b"format 0", with_trailer(18, 1, 0));
+    say(b"format 2", with_trailer(18, 1, 2));
+}
+
+fn sizes() {
+    say(b"count 0, distance 16, 16 bytes", with_points(0, 16));
+    say(b"15 bytes", recipe::check(&[0u8; 15]));
+    say(b"no bytes", recipe::check(&[0u8; 0]));
+    say(b"200 setpoints", with_points(200, 616));
+    say(b"201 setpoints", with_points(201, 619));
+    say(b"2,048 bytes", with_points(200, 2048));
+    say(b"2,049 bytes", with_points(200, 2049));
+}
+
+fn main() {
+    numbers();
+    trailers();
+    sizes();
+}
