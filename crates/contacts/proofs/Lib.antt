@@ -1,5 +1,6 @@
 pub mod Cuts
 pub mod FormFacts
+pub mod Crowds
 pub mod EntryFacts
 mod FieldTests
 mod Pairs

@@ -7,16 +7,25 @@ ghost use lib.Dec.{ltb};
 ghost use lib.ListN.{length, getD, take, drop};
 ghost use Rattle.octets.specs.Octets.{same};
 ghost use Rattle.octets.specs.Search.{all};
-ghost use Rattle.contacts.specs.Table.{slotsOf, slot, mark, place};
-ghost use Rattle.contacts.specs.Form.{addressFits, fieldsFit, inForm};
-ghost use Rattle.contacts.specs.Near.{far, insert, filled, nearestOf};
+ghost use Rattle.contacts.specs.Table.{slotSize, slotsOf, slot, mark, place};
+ghost use Rattle.contacts.specs.Form.{addressRooms, addressFits, fieldsFit, inForm};
+ghost use Rattle.contacts.specs.Near.{nearestCount, far, insert, filled, nearestOf};
 ghost use Rattle.contacts.specs.Contact.{entryId, entryAddress, entryCount};
-ghost use Rattle.contacts.specs.Inner.{keyOr, Indexed, wordsOf, otherPlace, otherBefore, entryFits, kept, Held};
+ghost use Rattle.contacts.specs.Inner.{indexSize, keyOr, Indexed, wordsOf, otherPlace, otherBefore, entryFits, kept, Held};
 
-// Bytes of a slot, and the most slots of a table.
+// Bytes of a slot, and the most slots of a table. specs/Table.antt has what stands where.
 pub const SLOT: usize = 616;
 
 pub const MOST: usize = 5120;
+
+// Where the place, the id and the addresses of a slot begin, and the bytes of a place.
+const PLACE_AT: usize = 8;
+
+const ID_AT: usize = 40;
+
+const ADDRESSES_AT: usize = 104;
+
+const PLACE: usize = 32;
 
 // Buckets, the most contacts of one, and a place in the index for each.
 const BUCKETS: usize = 256;
@@ -35,6 +44,9 @@ const ADDRESSES: usize = 4;
 // How many contacts an answer carries.
 pub const NEAREST: usize = 20;
 
+// The place of the farthest among them.
+const LAST: usize = 19;
+
 // How many whole slots a table has, at most 5,120.
 pub fn slots(table: &[u8]) -> usize
     ensures { λ r. ⌜ r ≡ slotsOf (now (table .entry)) ⌝ }
@@ -48,8 +60,8 @@ pub fn slots(table: &[u8]) -> usize
 
 // A slot that stands in the table whole, and its place.
 fn slot_at(table: &[u8], i: usize) -> &[u8]
-    requires { ⌜ i * 616 + 616 ≤ length (now table) ⌝ }
-    ensures { λ r. ⌜ (now r ≡ slot (now (table .entry)) i) × (length (now r) ≡ 616) ⌝ }
+    requires { ⌜ i * slotSize + slotSize ≤ length (now table) ⌝ }
+    ensures { λ r. ⌜ (now r ≡ slot (now (table .entry)) i) × (length (now r) ≡ slotSize) ⌝ }
 {
     let a = i * SLOT;
     let e = a + SLOT;
@@ -57,18 +69,18 @@ fn slot_at(table: &[u8], i: usize) -> &[u8]
 }
 
 fn place_at(table: &[u8], i: usize) -> &[u8]
-    requires { ⌜ i * 616 + 616 ≤ length (now table) ⌝ }
+    requires { ⌜ i * slotSize + slotSize ≤ length (now table) ⌝ }
     ensures { λ r. ⌜ (now r ≡ place (slot (now (table .entry)) i)) × (length (now r) ≡ 32) ⌝ }
 {
-    let a = i * SLOT + 8;
-    let e = a + 32;
+    let a = i * SLOT + PLACE_AT;
+    let e = a + PLACE;
     &table[a..e]
 }
 
 // ---- the form test
 
 fn address_fits(s: &[u8], k: usize) -> bool
-    requires { ⌜ (length (now s) ≡ 616) × (k < 4) ⌝ }
+    requires { ⌜ (length (now s) ≡ slotSize) × (k < addressRooms) ⌝ }
     ensures { λ r. ⌜ r ≡ addressFits (now (s .entry)) k ⌝ }
 {
     let n = s[4 + k] as usize;
@@ -79,7 +91,7 @@ fn address_fits(s: &[u8], k: usize) -> bool
 }
 
 fn addresses_fit(s: &[u8], count: usize) -> bool
-    requires { ⌜ (length (now s) ≡ 616) × (count ≤ 4) ⌝ }
+    requires { ⌜ (length (now s) ≡ slotSize) × (count ≤ addressRooms) ⌝ }
     ensures { λ r. ⌜ r ≡ all count (addressFits (now (s .entry))) ⌝ }
 {
     let mut k: usize = 0;
@@ -93,7 +105,7 @@ fn addresses_fit(s: &[u8], count: usize) -> bool
 }
 
 fn fields_fit(s: &[u8]) -> bool
-    requires { ⌜ length (now s) ≡ 616 ⌝ }
+    requires { ⌜ length (now s) ≡ slotSize ⌝ }
     ensures { λ r. ⌜ r ≡ fieldsFit (now (s .entry)) ⌝ }
 {
     let mark = s[0] as usize;
@@ -119,13 +131,13 @@ fn fields_fit(s: &[u8]) -> bool
 
 // Where a used slot goes in the index; INDEX where it is out of form by itself, or of our place.
 fn key_of(s: &[u8], ours: &[u8]) -> usize
-    requires { ⌜ (length (now s) ≡ 616) × (1 ≤ getD (now s) 0 0) ⌝ }
+    requires { ⌜ (length (now s) ≡ slotSize) × (1 ≤ getD (now s) 0 0) ⌝ }
     ensures { λ r. ⌜ r ≡ keyOr (now (s .entry)) (now (ours .entry)) ⌝ }
 {
     if !fields_fit(s) {
         return INDEX;
     }
-    let b = place::bucket(&s[8..40], ours);
+    let b = place::bucket(&s[PLACE_AT..ID_AT], ours);
     if BUCKETS <= b {
         return INDEX;
     }
@@ -135,7 +147,7 @@ fn key_of(s: &[u8], ours: &[u8]) -> usize
 
 // Puts each used slot's number, plus 1, where it goes; false where that shows that the table is out of form.
 fn collect(table: &[u8], ours: &[u8], n: usize, at: &mut [u16]) -> bool
-    requires { ⌜ (n ≡ slotsOf (now table)) × (length (now at) ≡ 5120) × ((k : ℕ) → getD (now at) k 0 ≡ 0) ⌝ }
+    requires { ⌜ (n ≡ slotsOf (now table)) × (length (now at) ≡ indexSize) × ((k : ℕ) → getD (now at) k 0 ≡ 0) ⌝ }
     ensures held { λ r. ⌜ (r ≡ true → Indexed (now (table .entry)) (now (ours .entry)) n (now (at .exit))) ⌝ }
     ensures broken { λ r. ⌜ (r ≡ false → inForm (now (table .entry)) (now (ours .entry)) ≡ false) ⌝ }
 {
@@ -226,7 +238,7 @@ fn alone(table: &[u8], mine: &[u8], at: &[u16], k: usize, m: usize) -> bool
 }
 
 fn entry_fits(table: &[u8], at: &[u16], k: usize) -> bool
-    requires { ⌜ (length (now at) ≡ 5120) × (k < 5120) × ((j : ℕ) → getD (now at) j 0 ≤ slotsOf (now table)) ⌝ }
+    requires { ⌜ (length (now at) ≡ indexSize) × (k < indexSize) × ((j : ℕ) → getD (now at) j 0 ≤ slotsOf (now table)) ⌝ }
     ensures { λ r. ⌜ r ≡ entryFits (now (table .entry)) (now (at .entry)) k ⌝ }
 {
     let e = at[k];
@@ -245,8 +257,8 @@ fn entry_fits(table: &[u8], at: &[u16], k: usize) -> bool
 }
 
 fn entries_fit(table: &[u8], at: &[u16]) -> bool
-    requires { ⌜ (length (now at) ≡ 5120) × ((j : ℕ) → getD (now at) j 0 ≤ slotsOf (now table)) ⌝ }
-    ensures { λ r. ⌜ r ≡ all 5120 (entryFits (now (table .entry)) (now (at .entry))) ⌝ }
+    requires { ⌜ (length (now at) ≡ indexSize) × ((j : ℕ) → getD (now at) j 0 ≤ slotsOf (now table)) ⌝ }
+    ensures { λ r. ⌜ r ≡ all indexSize (entryFits (now (table .entry)) (now (at .entry))) ⌝ }
 {
     let mut k: usize = 0;
     while k < INDEX {
@@ -274,13 +286,13 @@ pub fn in_form(table: &[u8], ours: &[u8]) -> bool
 
 // The slots nearest to a place, nearest first: the first n of at.
 pub struct Closest {
-    pub at: [usize; 20],
+    pub at: [usize; NEAREST],
     pub n: usize,
 }
 
 // Whether the first byte already shows that slot a is farther from the target than slot b.
 fn farther(table: &[u8], target: &[u8], a: usize, b: usize) -> bool
-    requires { ⌜ (length (now target) ≡ 32) × (a * 616 + 616 ≤ length (now table)) × (b * 616 + 616 ≤ length (now table)) ⌝ }
+    requires { ⌜ (length (now target) ≡ 32) × (a * slotSize + slotSize ≤ length (now table)) × (b * slotSize + slotSize ≤ length (now table)) ⌝ }
     ensures { λ r. ⌜ (r ≡ true → ltb (far (now (table .entry)) (now (target .entry)) a) (far (now (table .entry)) (now (target .entry)) b) ≡ false) ⌝ }
 {
     let p = place_at(table, a);
@@ -296,7 +308,7 @@ fn farther(table: &[u8], target: &[u8], a: usize, b: usize) -> bool
 
 // Whether slot a is nearer to the target than slot b. The first byte decides for most.
 fn closer(table: &[u8], target: &[u8], a: usize, b: usize) -> bool
-    requires { ⌜ (length (now target) ≡ 32) × (a * 616 + 616 ≤ length (now table)) × (b * 616 + 616 ≤ length (now table)) ⌝ }
+    requires { ⌜ (length (now target) ≡ 32) × (a * slotSize + slotSize ≤ length (now table)) × (b * slotSize + slotSize ≤ length (now table)) ⌝ }
     ensures { λ r. ⌜ r ≡ ltb (far (now (table .entry)) (now (target .entry)) a) (far (now (table .entry)) (now (target .entry)) b) ⌝ }
 {
     let p = place_at(table, a);
@@ -314,7 +326,7 @@ fn closer(table: &[u8], target: &[u8], a: usize, b: usize) -> bool
 }
 
 // How many of the n nearest so far are no farther than slot k. By halves, so that no order of the slots makes it slow.
-fn rank(table: &[u8], target: &[u8], at: &[usize; 20], n: usize, k: usize) -> usize
+fn rank(table: &[u8], target: &[u8], at: &[usize; NEAREST], n: usize, k: usize) -> usize
     requires { ⌜ Held (now table) (now target) (now at) n k ⌝ }
     ensures { λ r. ⌜ (r ≤ n) × (insert (far (now (table .entry)) (now (target .entry))) k (take n (now (at .entry))) ≡ take r (take n (now (at .entry))) ++ k ∷ drop r (take n (now (at .entry)))) ⌝ }
 {
@@ -333,9 +345,9 @@ fn rank(table: &[u8], target: &[u8], at: &[usize; 20], n: usize, k: usize) -> us
 }
 
 // Slot k at place p of at; what stood there and after it moves up by one, and the last falls out.
-fn put(at: &mut [usize; 20], p: usize, k: usize)
-    requires { ⌜ (p ≤ 20) × (length (now at) ≡ 20) ⌝ }
-    ensures { λ r. ⌜ now (at .exit) ≡ take 20 (take p (now (at .entry)) ++ k ∷ drop p (now (at .entry))) ⌝ }
+fn put(at: &mut [usize; NEAREST], p: usize, k: usize)
+    requires { ⌜ (p ≤ nearestCount) × (length (now at) ≡ nearestCount) ⌝ }
+    ensures { λ r. ⌜ now (at .exit) ≡ take nearestCount (take p (now (at .entry)) ++ k ∷ drop p (now (at .entry))) ⌝ }
 {
     let mut x = k;
     let mut i = p;
@@ -348,7 +360,7 @@ fn put(at: &mut [usize; 20], p: usize, k: usize)
 }
 
 // The used slot k into the nearest of the slots below it.
-fn add(table: &[u8], target: &[u8], at: &mut [usize; 20], n: usize, k: usize)
+fn add(table: &[u8], target: &[u8], at: &mut [usize; NEAREST], n: usize, k: usize)
     requires { ⌜ Held (now table) (now target) (now at) n k ⌝ }
     ensures { λ r. ⌜ now (at .exit) ≡ filled (kept (now (table .entry)) (now (target .entry)) (k + 1)) ⌝ }
 {
@@ -357,7 +369,7 @@ fn add(table: &[u8], target: &[u8], at: &mut [usize; 20], n: usize, k: usize)
 }
 
 // The same, where most slots are seen to be too far by one look at the farthest that is kept, with no call. Returns how many are kept.
-fn keep(table: &[u8], target: &[u8], at: &mut [usize; 20], n: usize, k: usize) -> usize
+fn keep(table: &[u8], target: &[u8], at: &mut [usize; NEAREST], n: usize, k: usize) -> usize
     requires { ⌜ Held (now table) (now target) (now at) n k ⌝ }
     ensures { λ r. ⌜ (r ≡ length (kept (now (table .entry)) (now (target .entry)) (k + 1))) × (now (at .exit) ≡ filled (kept (now (table .entry)) (now (target .entry)) (k + 1))) ⌝ }
 {
@@ -365,7 +377,7 @@ fn keep(table: &[u8], target: &[u8], at: &mut [usize; 20], n: usize, k: usize) -
         add(table, target, at, n, k);
         return n + 1;
     }
-    let last = at[19];
+    let last = at[LAST];
     if farther(table, target, k, last) {
         return NEAREST;
     }
@@ -381,7 +393,7 @@ fn pass(table: &[u8], target: &[u8]) -> Closest
     ensures { λ r. ⌜ r ≡ nearestOf (now (table .entry)) (now (target .entry)) ⌝ }
 {
     let end = slots(table);
-    let mut at = [0usize; 20];
+    let mut at = [0usize; NEAREST];
     let mut n: usize = 0;
     let mut k = 0;
     while k < end {
@@ -397,8 +409,8 @@ fn pass(table: &[u8], target: &[u8]) -> Closest
 pub fn nearest(table: &[u8], target: &[u8]) -> Closest
     ensures { λ r. ⌜ r ≡ nearestOf (now (table .entry)) (now (target .entry)) ⌝ }
 {
-    if target.len() != 32 {
-        let at = [0usize; 20];
+    if target.len() != PLACE {
+        let at = [0usize; NEAREST];
         return Closest { at, n: 0 };
     }
     pass(table, target)
@@ -468,7 +480,7 @@ pub fn mark_of(table: &[u8], i: usize) -> usize
 pub fn place_of(table: &[u8], i: usize) -> &[u8]
     ensures { λ r. ⌜ now r ≡ place (slot (now (table .entry)) i) ⌝ }
 {
-    up_to(slot_of(table, i), 8, 32)
+    up_to(slot_of(table, i), PLACE_AT, PLACE)
 }
 
 // The id of slot i, its number of addresses, and its address k, each cut at its limit.
@@ -476,7 +488,7 @@ pub fn id_of(table: &[u8], i: usize) -> &[u8]
     ensures { λ r. ⌜ now r ≡ entryId (slot (now (table .entry)) i) ⌝ }
 {
     let s = slot_of(table, i);
-    up_to(s, 40, at_most(ID, byte(s, 2)))
+    up_to(s, ID_AT, at_most(ID, byte(s, 2)))
 }
 
 pub fn address_count(table: &[u8], i: usize) -> usize
@@ -493,5 +505,9 @@ pub fn address_of(table: &[u8], i: usize, k: usize) -> &[u8]
         let len = s.len();
         return &s[len..];
     }
-    up_to(s, 104 + k * ADDRESS, at_most(ADDRESS, byte(s, 4 + k)))
+    up_to(
+        s,
+        ADDRESSES_AT + k * ADDRESS,
+        at_most(ADDRESS, byte(s, 4 + k)),
+    )
 }

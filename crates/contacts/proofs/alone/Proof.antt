@@ -10,10 +10,6 @@ use Rattle.octets.proofs.Searching.{all-zero, all-more, all-fails}
 use Rattle.contacts.specs.Inner.{otherBefore}
 use Rattle.contacts.proofs.alone.Statement.{statement}
 use Rattle.contacts.proofs.alone.Tie as tie
-use Rattle.contacts.proofs.alone.Reads as reads
-use Rattle.contacts.proofs.alone.Lts as lts
-use Rattle.contacts.proofs.other_place.Reads as other-place-reads
-use Rattle.contacts.proofs.words_of.Reads as words-of-reads
 
 abbrev Inv-loop : tie.InvT-loop
 Inv-loop table mine at k m w d₀ d = (d ≤ m) × (all d (otherBefore table mine at k) ≡ true)

@@ -7,10 +7,6 @@ use Rattle.contacts.proofs.Index.{entry-none, entry-first, entry-gap, e
 use borrow.Author.Needs.{needs}
 use Rattle.contacts.proofs.entry_fits.Statement.{statement}
 use Rattle.contacts.proofs.entry_fits.Tie as tie
-use Rattle.contacts.proofs.entry_fits.Reads as reads
-use Rattle.contacts.proofs.entry_fits.Lts as lts
-use Rattle.contacts.proofs.alone.Reads as alone-reads
-use Rattle.contacts.proofs.place_at.Reads as place-at-reads
 
 mul-e : tie.Need-mul-e
 mul-e c = search needs

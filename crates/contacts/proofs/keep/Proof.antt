@@ -5,11 +5,6 @@ use Rattle.contacts.proofs.Sorting.{held-below, held-more, held-full, h
 use borrow.Author.Needs.{needs}
 use Rattle.contacts.proofs.keep.Statement.{statement}
 use Rattle.contacts.proofs.keep.Tie as tie
-use Rattle.contacts.proofs.keep.Reads as reads
-use Rattle.contacts.proofs.keep.Lts as lts
-use Rattle.contacts.proofs.add.Reads as add-reads
-use Rattle.contacts.proofs.closer.Reads as closer-reads
-use Rattle.contacts.proofs.farther.Reads as farther-reads
 
 add-requires : tie.Need-add-requires
 add-requires c κs = search needs

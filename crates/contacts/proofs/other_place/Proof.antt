@@ -6,10 +6,6 @@ use Rattle.contacts.proofs.Index.{other-none, other-said}
 use borrow.Author.Needs.{needs}
 use Rattle.contacts.proofs.other_place.Statement.{statement}
 use Rattle.contacts.proofs.other_place.Tie as tie
-use Rattle.contacts.proofs.other_place.Reads as reads
-use Rattle.contacts.proofs.other_place.Lts as lts
-use Rattle.contacts.proofs.place_at.Reads as place-at-reads
-use Rattle.contacts.proofs.same_place.Reads as same-place-reads
 
 returns : tie.Need-returns
 returns c = other-none (c .before .before .before .args .table .now) (c .before .before .before .args .mine .now) (c .before .before .before .args .e) (c .if1 .taken)

@@ -4,9 +4,6 @@ use Rattle.contacts.proofs.Pairs.{word-a, word-b, word-c, word-d, first
 use borrow.Author.Needs.{needs}
 use Rattle.contacts.proofs.same_place.Statement.{statement}
 use Rattle.contacts.proofs.same_place.Tie as tie
-use Rattle.contacts.proofs.same_place.Reads as reads
-use Rattle.contacts.proofs.same_place.Lts as lts
-use Rattle.octets.proofs.word.Reads as word-reads
 
 word-requires : tie.Need-word-requires
 word-requires c κs = search needs

@@ -3,9 +3,6 @@ use Rattle.contacts.proofs.Pairs.{words-as}
 use borrow.Author.Needs.{needs}
 use Rattle.contacts.proofs.words_of.Statement.{statement}
 use Rattle.contacts.proofs.words_of.Tie as tie
-use Rattle.contacts.proofs.words_of.Reads as reads
-use Rattle.contacts.proofs.words_of.Lts as lts
-use Rattle.octets.proofs.word.Reads as word-reads
 
 word-requires : tie.Need-word-requires
 word-requires c κs = search needs
