@@ -167,15 +167,8 @@ module _ (n : ℕ) (a b c d : List ℕ) where
   pub four-bytes : addressBytes n a b c d ≡ nthBytes 0 n a ++ (nthBytes 1 n b ++ (nthBytes 2 n c ++ nthBytes 3 n d))
   unfolding addressBytes nthBytes
   four-bytes =
-      rw (
-        nth-all n a b c d,
-        repeated-append 2 (nth 0 n a) (nth 1 n b ++ (nth 2 n c ++ nth 3 n d)),
-        repeated-append 2 (nth 1 n b) (nth 2 n c ++ nth 3 n d),
-        repeated-append 2 (nth 2 n c) (nth 3 n d),
-        written-append (repeated 2 (nth 0 n a)) (repeated 2 (nth 1 n b) ++ (repeated 2 (nth 2 n c) ++ repeated 2 (nth 3 n d))),
-        written-append (repeated 2 (nth 1 n b)) (repeated 2 (nth 2 n c) ++ repeated 2 (nth 3 n d)),
-        written-append (repeated 2 (nth 2 n c)) (repeated 2 (nth 3 n d)),
-      )
+      rw (nth-all n a b c d, repeated-append 2 (nth 0 n a) (nth 1 n b ++ (nth 2 n c ++ nth 3 n d)), repeated-append 2 (nth 1 n b) (nth 2 n c ++ nth 3 n d), repeated-append 2 (nth 2 n c) (nth 3 n d),
+      written-append (repeated 2 (nth 0 n a)) (repeated 2 (nth 1 n b) ++ (repeated 2 (nth 2 n c) ++ repeated 2 (nth 3 n d))), written-append (repeated 2 (nth 1 n b)) (repeated 2 (nth 2 n c) ++ repeated 2 (nth 3 n d)), written-append (repeated 2 (nth 2 n c)) (repeated 2 (nth 3 n d)))
 
   pub four-sum : (x y z w : ℕ) → (x ≡ length (nthBytes 0 n a)) × (x ≤ 131) → (y ≡ length (nthBytes 1 n b)) × (y ≤ 131) → (z ≡ length (nthBytes 2 n c)) × (z ≤ 131) → (w ≡ length (nthBytes 3 n d)) × (w ≤ 131)
       → (x + y + z + w ≡ length (addressBytes n a b c d)) × (x + y + z + w ≤ 524)

@@ -163,13 +163,12 @@ module _ (m : Message) where
   module _ (k : m .kind < 2 ^ 64) (c₁ : Connected (m .closer)) (c₂ : Connected (m .providers)) (h : length (encode m) < 2 ^ 64) where
     message-good : AllGood (messageItems m)
     unfolding messageItems
-    message-good = (
-      (omega arith, omega arith, k),
-      good-append A _ (single-good 2 (omega arith) (omega arith) (m .key))
-          (good-append B _ (held-good (m .held))
-          (good-append C _ (repeated-good 8 (omega arith) (omega arith) (map encodePeer (m .closer)))
-          (repeated-good 9 (omega arith) (omega arith) (map encodePeer (m .providers))))),
-    )
+    message-good =
+        ((omega arith, omega arith, k),
+        good-append A _ (single-good 2 (omega arith) (omega arith) (m .key))
+        (good-append B _ (held-good (m .held))
+        (good-append C _ (repeated-good 8 (omega arith) (omega arith) (map encodePeer (m .closer)))
+        (repeated-good 9 (omega arith) (omega arith) (map encodePeer (m .providers))))))
 
     short : (g : ℕ) → Short (length (encode m)) (parts g (messageItems m))
     unfolding encode
@@ -182,32 +181,18 @@ module _ (m : Message) where
     message-well : wellMessage (encode m) ≡ true
     unfolding wellMessage wellFormed allOf
     message-well =
-        rw (
-          message-items,
-          good-well (messageItems m) message-good,
-          of-record,
-          of-closer,
-          of-providers,
-          held-well (length (encode m)) h (m .held) (rw of-record at (short 3)),
-          peers-well (length (encode m)) h (m .closer) c₁ (rw of-closer at (short 8)),
-          peers-well (length (encode m)) h (m .providers) c₂ (rw of-providers at (short 9)),
-        )
+        rw (message-items, good-well (messageItems m) message-good, of-record, of-closer, of-providers,
+        held-well (length (encode m)) h (m .held) (rw of-record at (short 3)),
+        peers-well (length (encode m)) h (m .closer) c₁ (rw of-closer at (short 8)),
+        peers-well (length (encode m)) h (m .providers) c₂ (rw of-providers at (short 9)))
 
     message-back : messageOf (encode m) ≡ m
     unfolding messageOf
     message-back =
-        rw (
-          message-items,
-          message-kind,
-          of-key,
-          of-record,
-          of-closer,
-          of-providers,
-          single-same 2 refl (m .key),
-          held-back (length (encode m)) h (m .held) (rw of-record at (short 3)),
-          peers-back (length (encode m)) h (m .closer) c₁ (rw of-closer at (short 8)),
-          peers-back (length (encode m)) h (m .providers) c₂ (rw of-providers at (short 9)),
-        )
+        rw (message-items, message-kind, of-key, of-record, of-closer, of-providers, single-same 2 refl (m .key),
+        held-back (length (encode m)) h (m .held) (rw of-record at (short 3)),
+        peers-back (length (encode m)) h (m .closer) c₁ (rw of-closer at (short 8)),
+        peers-back (length (encode m)) h (m .providers) c₂ (rw of-providers at (short 9)))
 
     pub decode-encode : decode (encode m) ≡ some m
     unfolding decode

@@ -97,8 +97,8 @@ unfoldable pub messageItems : Message → List Item
 messageItems m =
     num 1 (m .kind)
     ∷ (single 2 (m .key)
-    ++ (heldItems (m .held)
-    ++ (repeated 8 (map encodePeer (m .closer)) ++ repeated 9 (map encodePeer (m .providers)))))
+      ++ (heldItems (m .held)
+        ++ (repeated 8 (map encodePeer (m .closer)) ++ repeated 9 (map encodePeer (m .providers)))))
 
 unfoldable pub encode : Message → List ℕ
 encode m = written (messageItems m)

@@ -9,6 +9,7 @@ ghost use Rattle.message.specs.Message.{encodePeer, encodeRecord, frame}
 ghost use Rattle.message.specs.Writable.{peerFits, recordFits, recordPiece, peerPiece, recordWith, peerWith};
 ghost use Rattle.message.specs.View.{heldAt, readingOf, idAt, connectionAt, heardAt, idsOf};
 ghost use Rattle.message.specs.Inner.{withRecord, withPeer, withBytes, withField, gathered, nthBytes, nthOver, addressBytes, Fitting4};
+
 use refusal::Refusal;
 use wire::Field;
 use wire::Found;
@@ -26,32 +27,20 @@ pub const MOST_HEARD: usize = 21;
 
 // A key, a record's value, a peer's id and an address have at most this many bytes.
 pub const MOST_KEY: usize = 128;
-
 pub const MOST_VALUE: usize = 2048;
-
 pub const MOST_ID: usize = 64;
-
 pub const MOST_ADDRESS: usize = 128;
 
 // The numbers of the fields.
 const KIND: u64 = 1;
-
 const KEY: u64 = 2;
-
 const RECORD: u64 = 3;
-
 const CLOSER: u64 = 8;
-
 const PROVIDER: u64 = 9;
-
 const RECORD_KEY: u64 = 1;
-
 const RECORD_VALUE: u64 = 2;
-
 const PEER_ID: u64 = 1;
-
 const PEER_ADDRESS: u64 = 2;
-
 const PEER_CONNECTION: u64 = 3;
 
 // A record of a message: whether there is one, and where its key and value are in the body.
@@ -406,15 +395,7 @@ fn addresses_len(n: usize, a: &[u8], b: &[u8], c: &[u8], d: &[u8]) -> usize
     address_len(0, n, a) + address_len(1, n, b) + address_len(2, n, c) + address_len(3, n, d)
 }
 
-fn peer_body_len(
-    id: &[u8],
-    n: usize,
-    a: &[u8],
-    b: &[u8],
-    c: &[u8],
-    d: &[u8],
-    connection: u8,
-) -> usize
+fn peer_body_len(id: &[u8], n: usize, a: &[u8], b: &[u8], c: &[u8], d: &[u8], connection: u8) -> usize
     requires { ⌜ peerFits (peerWith (now id) n (now a) (now b) (now c) (now d) connection) ≡ true ⌝ }
     ensures { λ r. ⌜ r ≡ length (encodePeer (peerWith (now (id .entry)) n (now (a .entry)) (now (b .entry)) (now (c .entry)) (now (d .entry)) connection)) ⌝ }
 {
@@ -422,16 +403,7 @@ fn peer_body_len(
 }
 
 // How many bytes `put_peer` writes.
-pub fn peer_len(
-    field: u8,
-    id: &[u8],
-    n: usize,
-    a: &[u8],
-    b: &[u8],
-    c: &[u8],
-    d: &[u8],
-    connection: u8,
-) -> usize
+pub fn peer_len(field: u8, id: &[u8], n: usize, a: &[u8], b: &[u8], c: &[u8], d: &[u8], connection: u8) -> usize
     ensures { λ r. ⌜ r ≡ length (peerPiece field (peerWith (now (id .entry)) n (now (a .entry)) (now (b .entry)) (now (c .entry)) (now (d .entry)) connection)) ⌝ }
 {
     if peer_fits(id, n, a, b, c, d, connection) {
@@ -450,15 +422,7 @@ fn put_address(buf: &mut [u8], at: usize, k: usize, n: usize, src: &[u8]) -> usi
     wire::put_bytes(buf, at, 2, src)
 }
 
-fn put_addresses(
-    buf: &mut [u8],
-    at: usize,
-    n: usize,
-    a: &[u8],
-    b: &[u8],
-    c: &[u8],
-    d: &[u8],
-) -> usize
+fn put_addresses(buf: &mut [u8], at: usize, n: usize, a: &[u8], b: &[u8], c: &[u8], d: &[u8]) -> usize
     ensures { λ r. ⌜ Put (now (buf .entry)) at (addressBytes n (now (a .entry)) (now (b .entry)) (now (c .entry)) (now (d .entry))) (now (buf .exit)) r ⌝ }
 {
     let q = put_address(buf, at, 0, n, a);
@@ -468,18 +432,7 @@ fn put_addresses(
 }
 
 // Writes a peer with the first n of four addresses as an entry of a message; nothing where it is over its limits.
-pub fn put_peer(
-    buf: &mut [u8],
-    at: usize,
-    field: u8,
-    id: &[u8],
-    n: usize,
-    a: &[u8],
-    b: &[u8],
-    c: &[u8],
-    d: &[u8],
-    connection: u8,
-) -> usize
+pub fn put_peer(buf: &mut [u8], at: usize, field: u8, id: &[u8], n: usize, a: &[u8], b: &[u8], c: &[u8], d: &[u8], connection: u8) -> usize
     ensures { λ r. ⌜ Put (now (buf .entry)) at (peerPiece field (peerWith (now (id .entry)) n (now (a .entry)) (now (b .entry)) (now (c .entry)) (now (d .entry)) connection)) (now (buf .exit)) r ⌝ }
 {
     if peer_fits(id, n, a, b, c, d, connection) {
