@@ -1,5 +1,5 @@
 -- Any sequence of calls on a lookup, and what happens on the way.
-use Prim.Native.Nat.{ℕ, _+_, _<_}
+use Prim.Native.Nat.{ℕ, suc, _+_, _≤_, _<_}
 use mathlib.Core.Path.{_≡_}
 use mathlib.Core.Logic.{_⊎_}
 use mathlib.Core.Bool.{Bool, true, false, cond, _&&_}
@@ -10,9 +10,10 @@ use Rattle.octets.specs.Octets.{Bytes, same}
 use Rattle.sha256.specs.Sha256.{sha256}
 use Rattle.contacts.specs.Form.{inForm as inFormTable}
 use Rattle.message.specs.declared.Fields.{Fields}
-use Rattle.lookup_marks.specs.Marks.{idle, answered}
+use Rattle.lookup_marks.specs.Marks.{answered, isOver, sentOf, twentyOf, ranksOf}
+use Rattle.lookup_marks.specs.declared.Ranks.{Ranks}
 use Rattle.lookup.specs.Lists.{anyIn}
-use Rattle.lookup.specs.Lookup.{candidatesOf, liesAt, known, idFits, keyFits, limitFits, nobody, begun, heardIds, nextOf, replyOf, failureOf}
+use Rattle.lookup.specs.Lookup.{room, candidatesOf, marksOf, liesAt, idFits, keyFits, limitFits, nobody, heardIds, nextOf, replyOf, failureOf}
 use Rattle.lookup.specs.declared.Candidate.{Candidate}
 use Rattle.lookup.specs.declared.Lookup.{Lookup}
 use Rattle.lookup.specs.declared.Step.{Step}
@@ -74,17 +75,46 @@ RepliedBy p goNext = ⊥
 RepliedBy p (goReply own ours id body v) = (v .kind ≡ 4) × (sha256 id ≡ p)
 RepliedBy p (goFail own ours id) = ⊥
 
--- ---- hearing: a peer with this id stands among the first 21 of the list
+-- ---- hearing
+-- an answer that is no refusal
+abbrev pub Accepted : Answer → Type 0
+Accepted (Refused r) = ⊥
+Accepted (Ask i) = Unit {0}
+Accepted (Complete n) = Unit {0}
+Accepted (CutShort n) = Unit {0}
+Accepted Wait = Unit {0}
+Accepted Going = Unit {0}
+
+-- the id stands in a list of ids
 unfoldable pub Among : List ℕ → List (List ℕ) → Type 0
 Among id [] = ⊥
 Among id (x ∷ l) = (x ≡ id) ⊎ Among id l
 
--- everybody named in a list of ids, but bad ids and ourselves, is a candidate, or the lookup is marked
-pub record Heeded (ours : List ℕ) (ids : List (List ℕ)) (l : Lookup) : Type 0 where
-  pub heeded : (id : List ℕ) → Among id ids → idFits id ≡ true → same (sha256 id) ours ≡ false
-      → (known (sha256 id) (candidatesOf l) ≡ true) ⊎ (l .turned ≡ true)
+-- during the calls a peer is heard of: an accepted FIND_NODE reply names it in the first 21 entries, by a good id that isn't ours
+pub data HeardOf (id : List ℕ) : List Call → Lookup → Type 0 where
+  now : (own ours from body : List ℕ) (v : Fields) (cs : List Call) (l : Lookup) → v .kind ≡ 4 → Accepted (replyOf l own ours from body v .answer)
+      → Among id (heardIds body) → idFits id ≡ true → same (sha256 id) ours ≡ false → HeardOf id (goReply own ours from body v ∷ cs) l
+  later : (c : Call) (cs : List Call) (l : Lookup) → HeardOf id cs (step c l .lookup) → HeardOf id (c ∷ cs) l
 
--- ---- ranks that rise strictly, each below n
+-- ---- the end
+-- ranks that rise strictly from r on, each below n
 unfoldable pub Rising : ℕ → ℕ → List ℕ → Type 0
 Rising r n [] = Unit {0}
-Rising r n (x ∷ l) = (r < x + 1) × (x < n) × Rising (x + 1) n l
+Rising r n (x ∷ l) = (r ≤ x) × (x < n) × Rising (suc x) n l
+
+-- what comes with an answer of over: the test holds; the count is that of the candidates no longer idle, at most 256; and those found are the 20
+-- nearest that have not failed, nearest first
+pub record Ended (l : Lookup) (found : Ranks) (n : ℕ) : Type 0 where
+  pub over : isOver (marksOf l) ≡ true
+  pub sent : n ≡ sentOf (marksOf l)
+  pub few : n ≤ room
+  pub ranks : found ≡ ranksOf (twentyOf (marksOf l))
+  pub order : Rising 0 (length (candidatesOf l)) (twentyOf (marksOf l))
+
+abbrev pub EndsWell : Lookup → Ranks → Answer → Type 0
+EndsWell l f (Complete n) = Ended l f n × (l .turned ≡ false)
+EndsWell l f (CutShort n) = Ended l f n × (l .turned ≡ true)
+EndsWell l f (Refused r) = Unit {0}
+EndsWell l f (Ask i) = Unit {0}
+EndsWell l f Wait = Unit {0}
+EndsWell l f Going = Unit {0}
