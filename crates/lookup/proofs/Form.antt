@@ -1,5 +1,5 @@
 -- Laws of a lookup's form, test by test. Assumes nothing.
-use Prim.Native.Nat.{ℕ, suc, _+_, _≤_, _<_}
+use Prim.Native.Nat.{ℕ, _+_, _≤_, _<_}
 use mathlib.Core.Path.{_≡_, refl, sym, ap, _∙_}
 use mathlib.Core.Bool.{Bool, true, false, not, _&&_}
 use mathlib.Core.List.{List, [], _∷_}
@@ -8,7 +8,7 @@ use lib.Dec.{leb}
 use lib.ListN.{length, getD, take, drop}
 use borrow.Author.Tests.{le-leb, lt-leb, leb-true, not-true, not-false}
 use Rattle.octets.specs.Search.{allOf}
-use Rattle.octets.proofs.Bools.{and-on, and-off, all-on, all-off, all-none, all-head, all-rest}
+use Rattle.octets.proofs.Bools.{and-on, and-off, all-on, all-off, all-head, all-rest}
 use Rattle.place.specs.Place.{nearerTo}
 use Rattle.lookup_marks.specs.Marks.{failed}
 use Rattle.lookup.specs.Lookup.{room, idMost, keyMost, limitMost, candidatesOf, wellMade, follow, nearestFirst, inForm}

@@ -2,3 +2,5 @@ pub mod Lists
 pub mod Scans
 pub mod Form
 pub mod Steps
+pub mod Hearing
+pub mod Starting

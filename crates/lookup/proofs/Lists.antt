@@ -1,7 +1,7 @@
 -- Laws of `firstIn`, `anyIn` and `map`, and of a loop over the first n elements of a list. Assumes nothing. -- for octets
-use Prim.Native.Nat.{ℕ, zero, suc, _+_, _-_, _≤_, _<_}
-use mathlib.Core.Path.{_≡_, refl, sym, ap, ap₂, _∙_}
-use mathlib.Core.Bool.{Bool, true, false, cond, _||_}
+use Prim.Native.Nat.{ℕ, zero, suc, _+_, _≤_, _<_}
+use mathlib.Core.Path.{_≡_, refl, sym, ap, _∙_}
+use mathlib.Core.Bool.{Bool, true, false, cond}
 use mathlib.Core.List.{List, [], _∷_, _++_, map}
 use native.Mathlib.Omega.{arith}
 use native.Mathlib.Numerals.{add-one}
@@ -47,14 +47,14 @@ module _ {A : Type 0} where
         → i + firstIn p (drop i (take n xs)) ≡ W → i ≡ W
     seek-hit n xs i d b W hn h q t e =
         let y : firstIn p (drop i (take n xs)) ≡ 0 =
-            ap (firstIn p) (one-on n xs i d h hn) ∙ first-here (getD xs i d) (drop (i + 1) (take n xs)) (sym q ∙ t) in
+        ap (firstIn p) (one-on n xs i d h hn) ∙ first-here (getD xs i d) (drop (i + 1) (take n xs)) (sym q ∙ t) in
         omega arith
 
     pub seek-miss : (n : ℕ) (xs : List A) (i : ℕ) (d : A) (b : Bool) (W : ℕ) → n ≤ length xs → i < n → b ≡ p (getD xs i d) → b ≡ false
         → i + firstIn p (drop i (take n xs)) ≡ W → i + 1 + firstIn p (drop (i + 1) (take n xs)) ≡ W
     seek-miss n xs i d b W hn h q t e =
         let y : firstIn p (drop i (take n xs)) ≡ suc (firstIn p (drop (i + 1) (take n xs))) =
-            ap (firstIn p) (one-on n xs i d h hn) ∙ first-past (getD xs i d) (drop (i + 1) (take n xs)) (sym q ∙ t) in
+        ap (firstIn p) (one-on n xs i d h hn) ∙ first-past (getD xs i d) (drop (i + 1) (take n xs)) (sym q ∙ t) in
         omega arith
 
     pub seek-end : (n : ℕ) (xs : List A) (i : ℕ) (W : ℕ) → n ≤ i → i ≤ n → i + firstIn p (drop i (take n xs)) ≡ W → n ≡ W
@@ -109,9 +109,9 @@ module _ {A : Type 0} (f : A → ℕ) where
   pub map-one : (xs : List A) (ys : List ℕ) (i : ℕ) (d : A) → i < length xs → Mapping xs ys i → Mapping xs (set ys i (f (getD xs i d))) (i + 1)
   map-one xs ys i d h m =
       let a : take (i + 1) (set ys i (f (getD xs i d))) ≡ take i ys ++ (f (getD xs i d) ∷ []) =
-          ap (λ (k : ℕ). take k (set ys i (f (getD xs i d)))) (add-one i) ∙ take-suc-set ys i (f (getD xs i d)) (omega (arith, m .long)) in
+      ap (λ (k : ℕ). take k (set ys i (f (getD xs i d)))) (add-one i) ∙ take-suc-set ys i (f (getD xs i d)) (omega (arith, m .long)) in
       let b : map f (take (i + 1) xs) ≡ map f (take i xs) ++ (f (getD xs i d) ∷ []) =
-          ap (λ (k : ℕ). map f (take k xs)) (add-one i) ∙ ap (map f) (take-suc xs i d h) ∙ map-snoc (take i xs) (getD xs i d) in
+      ap (λ (k : ℕ). map f (take k xs)) (add-one i) ∙ ap (map f) (take-suc xs i d h) ∙ map-snoc (take i xs) (getD xs i d) in
       record {
         within = omega arith;
         long = length-set ys i (f (getD xs i d)) ∙ m .long;

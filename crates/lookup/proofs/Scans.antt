@@ -7,7 +7,6 @@ use native.Mathlib.Omega.{arith}
 use native.Mathlib.Numerals.{add-one}
 use lib.ListN.{length, getD, take, drop, set, length-drop, length-append, take-append-drop, List·getD-append}
 use lib.Seq.{getD-take, length-take-le, take-suc, append-snoc, set-at, take-take}
-use Rattle.octets.proofs.Bools.{cond-ind}
 use Rattle.place.specs.Place.{nearerTo}
 use Rattle.lookup.specs.Lists.{firstIn}
 use Rattle.lookup.specs.Inner.{beyond, rankOf}
@@ -62,7 +61,7 @@ module _ (n : ℕ) (l : Lookup) (hn : n < 256) (hl : length (l .candidates) ≡ 
 
   pub shift-end : (k : Lookup) (j r : ℕ) (a : Candidate) → j ≤ r → r ≤ j → j ≤ n → k ≡ withCandidates l (l .count) (gap n j (l .candidates))
       → withCandidates k (n + 1) (set (k .candidates) r a)
-        ≡ withCandidates l (n + 1) (take r (l .candidates) ++ (a ∷ (drop r (take n (l .candidates)) ++ drop (n + 1) (l .candidates))))
+      ≡ withCandidates l (n + 1) (take r (l .candidates) ++ (a ∷ (drop r (take n (l .candidates)) ++ drop (n + 1) (l .candidates))))
   shift-end k j r a h g i e =
       let q : j ≡ r = omega arith in
       ap (λ (x : Lookup). withCandidates x (n + 1) (set (x .candidates) r a)) (rw q at e)
@@ -77,26 +76,26 @@ enter-at t c (d ∷ cs) = go (nearerTo t (d .place) (c .place)) (enter-at t c cs
   where
     go : (b : Bool) → take (rankOf t (c .place) cs) cs ++ (c ∷ drop (rankOf t (c .place) cs) cs) ≡ enter t c cs
         → take (cond (not b) 0 (suc (rankOf t (c .place) cs))) (d ∷ cs) ++ (c ∷ drop (cond (not b) 0 (suc (rankOf t (c .place) cs))) (d ∷ cs))
-          ≡ cond b (d ∷ enter t c cs) (c ∷ d ∷ cs)
+        ≡ cond b (d ∷ enter t c cs) (c ∷ d ∷ cs)
     go true ih = ap (λ (l : List Candidate). d ∷ l) ih
     go false ih = refl
 
 pub put-enter : (l : Lookup) (c : Candidate) (r : ℕ) → l .count < 256 → length (l .candidates) ≡ 256
     → r ≡ rankOf (l .target) (c .place) (candidatesOf l)
     → withCandidates l (l .count + 1) (take r (l .candidates) ++ (c ∷ (drop r (candidatesOf l) ++ drop (l .count + 1) (l .candidates))))
-      ≡ put l (enter (l .target) c (candidatesOf l))
+    ≡ put l (enter (l .target) c (candidatesOf l))
 put-enter l c r h hl e =
     let m : length (candidatesOf l) ≡ l .count = length-take-le (l .count) (l .candidates) (omega arith) in
     let hr : r ≤ l .count = omega (arith, first-le (beyond (l .target) (c .place)) (candidatesOf l)) in
     let q : take r (candidatesOf l) ++ (c ∷ drop r (candidatesOf l)) ≡ enter (l .target) c (candidatesOf l) =
-        ap (λ (k : ℕ). take k (candidatesOf l) ++ (c ∷ drop k (candidatesOf l))) e ∙ enter-at (l .target) c (candidatesOf l) in
+    ap (λ (k : ℕ). take k (candidatesOf l) ++ (c ∷ drop k (candidatesOf l))) e ∙ enter-at (l .target) c (candidatesOf l) in
     let w : length (take r (candidatesOf l) ++ (c ∷ drop r (candidatesOf l))) ≡ l .count + 1 =
-        length-append (take r (candidatesOf l)) (c ∷ drop r (candidatesOf l))
-        ∙ omega (arith, length-take-le r (candidatesOf l) (omega arith), length-drop r (candidatesOf l)) in
+    length-append (take r (candidatesOf l)) (c ∷ drop r (candidatesOf l))
+    ∙ omega (arith, length-take-le r (candidatesOf l) (omega arith), length-drop r (candidatesOf l)) in
     let z : take r (l .candidates) ++ (c ∷ (drop r (candidatesOf l) ++ drop (l .count + 1) (l .candidates)))
-        ≡ (take r (candidatesOf l) ++ (c ∷ drop r (candidatesOf l))) ++ drop (l .count + 1) (l .candidates) =
-        ap (λ (xs : List Candidate). xs ++ (c ∷ (drop r (candidatesOf l) ++ drop (l .count + 1) (l .candidates)))) (sym (take-take r (l .count) (l .candidates) hr))
-        ∙ sym (append-assoc (take r (candidatesOf l)) (c ∷ drop r (candidatesOf l)) (drop (l .count + 1) (l .candidates))) in
+    ≡ (take r (candidatesOf l) ++ (c ∷ drop r (candidatesOf l))) ++ drop (l .count + 1) (l .candidates) =
+    ap (λ (xs : List Candidate). xs ++ (c ∷ (drop r (candidatesOf l) ++ drop (l .count + 1) (l .candidates)))) (sym (take-take r (l .count) (l .candidates) hr))
+    ∙ sym (append-assoc (take r (candidatesOf l)) (c ∷ drop r (candidatesOf l)) (drop (l .count + 1) (l .candidates))) in
     ap (λ (xs : List Candidate). withCandidates l (l .count + 1) xs) z
     ∙ ap (λ (k : ℕ). withCandidates l k ((take r (candidatesOf l) ++ (c ∷ drop r (candidatesOf l))) ++ drop k (l .candidates))) (sym w)
     ∙ ap (λ (xs : List Candidate). put l xs) q

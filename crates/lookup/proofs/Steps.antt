@@ -1,32 +1,31 @@
 -- Laws of the steps: each answer, from the tests that lead there. Assumes nothing.
 use Prim.Native.Nat.{ℕ, _+_, _≤_, _<_}
-use mathlib.Core.Path.{_≡_, refl, sym, ap, ap₂, _∙_, subst}
-use mathlib.Core.Bool.{Bool, true, false, cond, not, _&&_, _||_}
-use mathlib.Core.List.{List, [], _∷_, _++_, map}
+use mathlib.Core.Path.{_≡_, sym, ap, ap₂, _∙_, subst}
+use mathlib.Core.Bool.{Bool, true, false, not}
+use mathlib.Core.List.{List, _∷_, _++_, map}
 use native.Mathlib.Omega.{arith}
 use lib.Dec.{leb, ltb, eqb}
 use lib.ListN.{length, take, drop, replicate, length-map}
 use lib.Seq.{sets, length-take-le}
-use borrow.Author.Tests.{eq-eqb, ne-eqb, lt-ltb, le-ltb, le-leb, lt-leb, not-true, not-false, leb-true, leb-false}
+use borrow.Author.Tests.{eq-eqb, ne-eqb, lt-ltb, le-ltb, le-leb, lt-leb, not-false, leb-true, leb-false}
 use Rattle.octets.specs.Octets.{same}
-use Rattle.octets.proofs.Bools.{cond-yes, cond-no, cond-ind, and-on, and-off, and-r, or-l, or-off, or-r, not-yes, not-no, not-both, either}
+use Rattle.octets.proofs.Bools.{cond-yes, cond-no, cond-ind, and-on, and-off, and-r, or-l, or-off, or-r}
 use Rattle.sha256.specs.Sha256.{sha256}
 use Rattle.refusal.specs.declared.Refusal.{Refusal}
 use Rattle.refusal.specs.declared.Refusal.the-variants.{OutOfForm, BadPeer, NotInFlight, LookupOver}
-use Rattle.lookup_marks.specs.Marks.{idle, flying, answered, failed, twentyOf, isOver, idleOf, flightsOf, sentOf, ranksOf}
+use Rattle.lookup_marks.specs.Marks.{idle, flying, failed, twentyOf, isOver, idleOf, flightsOf, sentOf, ranksOf}
 use Rattle.lookup_marks.specs.declared.Ranks.{Ranks}
-use Rattle.lookup.specs.Lists.{firstIn, anyIn}
 use Rattle.lookup.specs.Inner.{rankOf}
-use Rattle.lookup.specs.Lookup.{room, idMost, candidatesOf, markOf, marksOf, inForm, withCandidates, turnAway, put, mark, gives, refuses, ends, settled, nextOf, idFits, badPeer, flies, flyerOf, whomOf, reported, failureOf, fresh, known, liesAt, enter, meet, hear}
+use Rattle.lookup.specs.Lookup.{room, idMost, candidatesOf, markOf, marksOf, inForm, withCandidates, turnAway, put, mark, gives, refuses, ends, settled, nextOf, idFits, badPeer, flies, flyerOf, whomOf, reported, failureOf, fresh, known, enter, meet, hear}
 use Rattle.lookup.specs.declared.Candidate.{Candidate}
 use Rattle.lookup.specs.declared.Lookup.{Lookup}
 use Rattle.lookup.specs.declared.Step.{Step}
 use Rattle.lookup.specs.declared.Answer.{Answer}
-use Rattle.lookup.specs.declared.Answer.the-variants.{Refused, Complete, CutShort, Wait, Ask, Going}
+use Rattle.lookup.specs.declared.Answer.the-variants.{Complete, CutShort, Wait, Ask, Going}
 use Rattle.lookup.specs.declared.Whom.{Whom}
 use Rattle.lookup.specs.declared.Whom.the-variants.{Nobody, At}
 use Rattle.lookup.proofs.Lists.{map-take}
-use Rattle.lookup.proofs.Form.{Formed, formed}
+use Rattle.lookup.proofs.Form.{formed}
 use Rattle.lookup.proofs.Scans.{put-enter}
 
 -- ---- marks
@@ -115,7 +114,7 @@ module _ (l : Lookup) (b : Bool) (eb : b ≡ inForm l) (r : Step) where
             ∙ sym (cond-no (not (inForm l)) (refuses l OutOfForm) _ in-form ∙ cond-no (isOver (marksOf l)) (ends l) _ (sym over ∙ t)
             ∙ cond-no (leb (l .limit) (flightsOf (marksOf l))) (gives l Wait) _ (full false (lt-leb (l .limit) f g))
             ∙ cond-yes (ltb (idleOf (marksOf l)) (l .count)) (gives (mark (idleOf (marksOf l)) flying l) (Ask (idleOf (marksOf l)))) (gives l Wait)
-              (ap (λ (j : ℕ). ltb j (l .count)) (sym nearest) ∙ lt-ltb i (l .count) z))
+            (ap (λ (j : ℕ). ltb j (l .count)) (sym nearest) ∙ lt-ltb i (l .count) z))
 
         pub next-wait : l .count ≤ i → r ≡ gives l Wait → r ≡ nextOf l
         unfolding nextOf
@@ -123,7 +122,7 @@ module _ (l : Lookup) (b : Bool) (eb : b ≡ inForm l) (r : Step) where
             e ∙ sym (cond-no (not (inForm l)) (refuses l OutOfForm) _ in-form ∙ cond-no (isOver (marksOf l)) (ends l) _ (sym over ∙ t)
             ∙ cond-no (leb (l .limit) (flightsOf (marksOf l))) (gives l Wait) _ (full false (lt-leb (l .limit) f g))
             ∙ cond-no (ltb (idleOf (marksOf l)) (l .count)) (gives (mark (idleOf (marksOf l)) flying l) (Ask (idleOf (marksOf l)))) (gives l Wait)
-              (ap (λ (j : ℕ). ltb j (l .count)) (sym nearest) ∙ le-ltb i (l .count) z))
+            (ap (λ (j : ℕ). ltb j (l .count)) (sym nearest) ∙ le-ltb i (l .count) z))
 
 -- ---- ids and peers
 module _ (id : List ℕ) where
@@ -217,10 +216,10 @@ within : (l : Lookup) (own ours id : List ℕ) → Within l (whomOf l own ours i
 unfolding whomOf
 within l own ours id =
     cond-ind (Within l) (not (inForm l)) _ _ (λ e. tt)
-      (λ f. cond-ind (Within l) (badPeer own ours id) _ _ (λ e. tt)
-      (λ b. cond-ind (Within l) (isOver (marksOf l)) _ _ (λ e. tt)
-      (λ o. cond-ind (Within l) (leb (l .count) (flyerOf (sha256 id) (candidatesOf l))) _ _ (λ e. tt)
-      (λ e. (leb-false (l .count) (flyerOf (sha256 id) (candidatesOf l)) e, formed l (not-false (inForm l) f) .fits)))))
+    (λ f. cond-ind (Within l) (badPeer own ours id) _ _ (λ e. tt)
+    (λ b. cond-ind (Within l) (isOver (marksOf l)) _ _ (λ e. tt)
+    (λ o. cond-ind (Within l) (leb (l .count) (flyerOf (sha256 id) (candidatesOf l))) _ _ (λ e. tt)
+    (λ e. (leb-false (l .count) (flyerOf (sha256 id) (candidatesOf l)) e, formed l (not-false (inForm l) f) .fits)))))
 
 pub found-within : (l : Lookup) (own ours id : List ℕ) (w : Whom) (i : ℕ) → w ≡ whomOf l own ours id → w ≡ At i → (i < l .count) × (l .count ≤ room)
 found-within l own ours id w i e q = subst (Within l) (sym e ∙ q) (within l own ours id)

@@ -1,3 +1,4 @@
 pub mod Lists
+pub mod View
 pub mod Lookup
 pub mod Inner

@@ -1,5 +1,5 @@
 -- The closest-peer lookup: document 01, 'Lookup'. A lookup is a value; each step takes it in and hands the next one back.
-use Prim.Native.Nat.{ℕ, zero, suc}
+use Prim.Native.Nat.{ℕ, zero, suc, _-_}
 use mathlib.Core.Bool.{Bool, true, false, cond, not, _&&_, _||_}
 use mathlib.Core.List.{List, [], _∷_, _++_, map}
 use lib.ListN.{length, take, drop, replicate}
@@ -10,10 +10,20 @@ use Rattle.octets.specs.Search.{allOf}
 use Rattle.place.specs.Place.{nearerTo}
 use Rattle.sha256.specs.Sha256.{sha256}
 use Rattle.refusal.specs.declared.Refusal.{Refusal}
-use Rattle.refusal.specs.declared.Refusal.the-variants.{OutOfForm, BadPeer, NotInFlight, LookupOver}
+use Rattle.refusal.specs.declared.Refusal.the-variants.{OutOfForm, BreaksRules, BadPeer, NotInFlight, LookupOver, BadConcurrency}
 use Rattle.lookup_marks.specs.Marks.{idle, flying, answered, failed, twentyOf, isOver, idleOf, flightsOf, sentOf, ranksOf}
 use Rattle.lookup_marks.specs.declared.Ranks.{Ranks}
+use Rattle.contacts.specs.Table.{slot, place}
+use Rattle.contacts.specs.Form.{inForm as inFormTable}
+use Rattle.contacts.specs.Contact.{entryId}
+use Rattle.contacts.specs.Near.{nearestSlots}
+use Rattle.message.specs.Message.{Peer, messageOf}
+use Rattle.message.specs.View.{readingOf}
+use Rattle.message.specs.declared.Fields.{Fields}
+use Rattle.message.specs.declared.Reading.{Reading}
+use Rattle.message.specs.declared.Reading.the-variants.{Whole, Refused as Unread}
 use Rattle.lookup.specs.Lists.{firstIn, anyIn}
+use Rattle.lookup.specs.View.{sameFields}
 use Rattle.lookup.specs.declared.Candidate.{Candidate}
 use Rattle.lookup.specs.declared.Lookup.{Lookup}
 use Rattle.lookup.specs.declared.Step.{Step}
@@ -81,28 +91,28 @@ inForm l =
 -- ---- what changes, and that all else stays
 abbrev pub withCandidates : Lookup → ℕ → List Candidate → Lookup
 withCandidates l n cs =
-    record
-      { candidates = cs
-      ; key = l .key
-      ; target = l .target
-      ; count = n
-      ; size = l .size
-      ; limit = l .limit
-      ; turned = l .turned
-      }
+    record {
+      candidates = cs;
+      key = l .key;
+      target = l .target;
+      count = n;
+      size = l .size;
+      limit = l .limit;
+      turned = l .turned;
+    }
 
 -- someone was turned away
 abbrev pub turnAway : Lookup → Lookup
 turnAway l =
-    record
-      { candidates = l .candidates
-      ; key = l .key
-      ; target = l .target
-      ; count = l .count
-      ; size = l .size
-      ; limit = l .limit
-      ; turned = true
-      }
+    record {
+      candidates = l .candidates;
+      key = l .key;
+      target = l .target;
+      count = l .count;
+      size = l .size;
+      limit = l .limit;
+      turned = true;
+    }
 
 -- the candidates cs stand in the lookup; what the array holds past them stays
 abbrev pub put : Lookup → List Candidate → Lookup
@@ -130,11 +140,11 @@ refuses l r = gives l (Refused r)
 -- "Over means complete, or cut short if marked, with the answered ones of those 20 in order and the number of requests sent"
 abbrev pub ends : Lookup → Step
 ends l =
-    record
-      { lookup = l
-      ; found = ranksOf (twentyOf (marksOf l))
-      ; answer = cond (l .turned) (CutShort (sentOf (marksOf l))) (Complete (sentOf (marksOf l)))
-      }
+    record {
+      lookup = l;
+      found = ranksOf (twentyOf (marksOf l));
+      answer = cond (l .turned) (CutShort (sentOf (marksOf l))) (Complete (sentOf (marksOf l)));
+    }
 
 -- "The test for over is made after every start, reply and failure"
 unfoldable pub settled : Lookup → Step
@@ -185,9 +195,13 @@ unfoldable pub failureOf : Lookup → List ℕ → List ℕ → List ℕ → Ste
 failureOf l own ours id = reported l (whomOf l own ours id) (λ i. mark i failed l)
 
 -- ---- hearing of a peer
--- a candidate as it comes in: idle, its id with zeros after it
+-- a byte string at the start of n bytes, zeros after it
+abbrev pub padded : ℕ → List ℕ → List ℕ
+padded n s = sets (replicate n 0) 0 s
+
+-- a candidate as it comes in: idle
 abbrev pub fresh : List ℕ → Candidate
-fresh id = record { id = sets (replicate idMost 0) 0 id; place = sha256 id; mark = idle; len = length id }
+fresh id = record { id = padded idMost id; place = sha256 id; mark = idle; len = length id }
 
 -- some candidate lies at p
 abbrev pub liesAt : List ℕ → Candidate → Bool
@@ -216,3 +230,82 @@ hear ours id l = cond (not (idFits id)) l (cond (same (sha256 id) ours) l (meet 
 unfoldable pub hearAll : List ℕ → List (List ℕ) → Lookup → Lookup
 hearAll ours [] l = l
 hearAll ours (id ∷ ids) l = hearAll ours ids (hear ours id l)
+
+-- ---- reply
+-- "a view handed in is what the reader gives for the body it points into"
+abbrev pub isReading : Reading → Fields → Bool
+isReading (Whole m) v = sameFields m v
+isReading (Unread r) v = false
+
+unfoldable pub isView : List ℕ → Fields → Bool
+isView body v = isReading (readingOf body) v
+
+-- FIND_NODE
+abbrev pub findNode : ℕ
+findNode = 4
+
+-- the ids of "the first 21 closerPeers entries"
+unfoldable pub heardIds : List ℕ → List (List ℕ)
+heardIds body = map (λ (p : Peer). p .id) (take heardMost (messageOf body .closer))
+
+-- "A FIND_NODE reply marks its sender answered, then takes the first 21 closerPeers entries .. Any other type .. marks the peer failed for good."
+unfoldable pub heardFrom : List ℕ → List ℕ → ℕ → Lookup → ℕ → Lookup
+heardFrom ours body kind l i = cond (eqb kind findNode) (hearAll ours (heardIds body) (mark i answered l)) (mark i failed l)
+
+unfoldable pub replyOf : Lookup → List ℕ → List ℕ → List ℕ → List ℕ → Fields → Step
+replyOf l own ours id body v =
+    cond (not (isView body v)) (refuses l OutOfForm) (reported l (whomOf l own ours id) (heardFrom ours body (v .kind) l))
+
+-- ---- start
+-- no candidate, and no lookup: "A refused start hands back an empty one with limit 0, so later steps give 0."
+abbrev pub nobody : Candidate
+nobody = record { id = replicate idMost 0; place = replicate 32 0; mark = idle; len = 0 }
+
+abbrev pub noLookup : Lookup
+noLookup =
+    record {
+      candidates = replicate room nobody;
+      key = replicate keyMost 0;
+      target = replicate 32 0;
+      count = 0;
+      size = 0;
+      limit = 0;
+      turned = false;
+    }
+
+-- slot i of the table of contacts as an idle candidate
+abbrev pub contactAt : List ℕ → ℕ → Candidate
+contactAt t i =
+    record { id = padded idMost (entryId (slot t i)); place = padded 32 (place (slot t i)); mark = idle; len = length (entryId (slot t i)) }
+
+-- "the 20 nearest contacts as idle candidates"
+unfoldable pub firstOnes : List ℕ → List ℕ → List Candidate
+firstOnes t target = map (contactAt t) (nearestSlots t target)
+
+-- a lookup as it starts
+abbrev pub begun : List ℕ → List ℕ → ℕ → Lookup
+begun t key limit =
+    record {
+      candidates = firstOnes t (sha256 key) ++ replicate (room - length (firstOnes t (sha256 key))) nobody;
+      key = padded keyMost key;
+      target = sha256 key;
+      count = length (firstOnes t (sha256 key));
+      size = length key;
+      limit = limit;
+      turned = false;
+    }
+
+abbrev pub keyFits : List ℕ → Bool
+keyFits key = leb 1 (length key) && leb (length key) keyMost
+
+abbrev pub limitFits : ℕ → Bool
+limitFits n = leb 1 n && leb n limitMost
+
+-- "key of 1 to 128 bytes (else 8), concurrency (else 20)"; 0 where the contacts are out of form, and 12 for a box whose own id is no peer id
+unfoldable pub startOf : List ℕ → List ℕ → List ℕ → List ℕ → ℕ → Step
+startOf t own ours key limit =
+    cond (not (inFormTable t ours)) (refuses noLookup OutOfForm)
+    (cond (not (keyFits key)) (refuses noLookup BreaksRules)
+    (cond (not (idFits own)) (refuses noLookup BadPeer)
+    (cond (not (limitFits limit)) (refuses noLookup BadConcurrency)
+    (settled (begun t key limit)))))

@@ -6,11 +6,15 @@ ghost use Prim.Native.Nat.{_+_, _<_, _≤_};
 ghost use lib.ListN.{length, take, drop};
 ghost use Rattle.place.specs.Place.{nearerTo};
 ghost use Rattle.lookup_marks.specs.Marks.{failed};
+ghost use Rattle.lookup.specs.View.{sameSpan, sameBool, sameHeld, sameFields};
 ghost use Rattle.lookup.specs.Inner.{rankOf};
-ghost use Rattle.lookup.specs.Lookup.{markOf, marksOf, wellMade, nearestFirst, inForm, withCandidates, turnAway, markAt, mark, gives, refuses, ends, settled, nextOf, idFits, flies, flyerOf, whomOf, failureOf, fresh, liesAt, known, meet, hear};
-
-use refusal::Refusal;
+ghost use Rattle.lookup.specs.Lookup.{markOf, marksOf, wellMade, nearestFirst, inForm, withCandidates, turnAway, markAt, mark, gives, refuses, ends, settled, nextOf, idFits, flies, flyerOf, whomOf, failureOf, fresh, liesAt, known, meet, hear, hearAll, isView, heardIds, heardFrom, replyOf, nobody, noLookup, contactAt, begun, keyFits, limitFits, startOf};
 use lookup_marks::Ranks;
+use message::Fields;
+use message::Held;
+use message::Reading;
+use refusal::Refusal;
+use wire::Span;
 
 // Room for candidates, and the limits of a peer id, of a key and of the requests in flight.
 pub const ROOM: usize = 256;
@@ -20,6 +24,9 @@ pub const ID_MOST: usize = 64;
 pub const KEY_MOST: usize = 128;
 
 pub const LIMIT_MOST: usize = 10;
+
+// The type of the messages that a lookup asks with and hears.
+pub const FIND_NODE: u64 = 4;
 
 // A peer that was heard of: its mark is one of lookup_marks.
 pub struct Candidate {
@@ -221,6 +228,26 @@ fn id_fits(id: &[u8]) -> bool
     id.len() <= ID_MOST
 }
 
+// Whether a key has 1 to 128 bytes.
+fn key_fits(key: &[u8]) -> bool
+    ensures { λ r. ⌜ r ≡ keyFits (now (key .entry)) ⌝ }
+{
+    if key.len() < 1 {
+        return false;
+    }
+    key.len() <= KEY_MOST
+}
+
+// Whether so many requests may be in flight.
+fn limit_fits(limit: usize) -> bool
+    ensures { λ r. ⌜ r ≡ limitFits limit ⌝ }
+{
+    if limit < 1 {
+        return false;
+    }
+    limit <= LIMIT_MOST
+}
+
 // Whether the candidate lies at this place.
 fn lies_at(c: Candidate, place: [u8; 32]) -> bool
     ensures { λ r. ⌜ r ≡ liesAt place c ⌝ }
@@ -395,6 +422,183 @@ fn hear_of(l: Lookup, ours: [u8; 32], id: &[u8]) -> Lookup
     take_in(l, c)
 }
 
+// Whether two spans are one.
+fn same_span(a: Span, b: Span) -> bool
+    ensures { λ r. ⌜ r ≡ sameSpan a b ⌝ }
+{
+    if a.at != b.at {
+        return false;
+    }
+    a.end == b.end
+}
+
+// Whether two flags are one.
+fn same_flag(a: bool, b: bool) -> bool
+    ensures { λ r. ⌜ r ≡ sameBool a b ⌝ }
+{
+    if a {
+        return b;
+    }
+    !b
+}
+
+// Whether two places of a record are one.
+fn same_held(a: Held, b: Held) -> bool
+    ensures { λ r. ⌜ r ≡ sameHeld a b ⌝ }
+{
+    if !same_flag(a.there, b.there) {
+        return false;
+    }
+    let ak = a.key;
+    let bk = b.key;
+    if !same_span(ak, bk) {
+        return false;
+    }
+    let av = a.value;
+    let bv = b.value;
+    same_span(av, bv)
+}
+
+// Whether two views are one.
+fn same_fields(a: Fields, b: Fields) -> bool
+    ensures { λ r. ⌜ r ≡ sameFields a b ⌝ }
+{
+    if a.kind != b.kind {
+        return false;
+    }
+    let ak = a.key;
+    let bk = b.key;
+    if !same_span(ak, bk) {
+        return false;
+    }
+    let ah = a.held;
+    let bh = b.held;
+    same_held(ah, bh)
+}
+
+// Whether the view is what the reader gives for the body.
+fn is_view(body: &[u8], view: Fields) -> bool
+    ensures { λ r. ⌜ r ≡ isView (now (body .entry)) view ⌝ }
+{
+    let reading = message::read(body);
+    match reading {
+        Reading::Whole(m) => same_fields(m, view),
+        Reading::Refused(_) => false,
+    }
+}
+
+// The first 21 peers that a reply names are heard of, one after another.
+fn hear_all(l: Lookup, ours: [u8; 32], body: &[u8]) -> Lookup
+    requires { ⌜ l .count ≤ 256 ⌝ }
+    ensures { λ r. ⌜ r ≡ hearAll ours (heardIds (now (body .entry))) l ⌝ }
+{
+    let ids = message::closer_ids(body);
+    let at = ids.at;
+    let end = ids.end;
+    let n = ids.n;
+    let mut k = l;
+    let mut i: usize = 0;
+    while i < n {
+        let a = at[i];
+        let e = end[i];
+        k = hear_of(k, ours, &body[a..e]);
+        i += 1;
+    }
+    k
+}
+
+// What the lookup becomes by a message from the candidate of rank i.
+fn hear_from(l: Lookup, i: usize, ours: [u8; 32], body: &[u8], kind: u64) -> Lookup
+    requires { ⌜ (i < l .count) × (l .count ≤ 256) ⌝ }
+    ensures { λ r. ⌜ (r ≡ heardFrom ours (now (body .entry)) kind l i) × (r .count ≤ 256) ⌝ }
+{
+    if kind == FIND_NODE {
+        return hear_all(set_mark(l, i, lookup_marks::ANSWERED), ours, body);
+    }
+    set_mark(l, i, lookup_marks::FAILED)
+}
+
+// No candidate.
+fn no_candidate() -> Candidate
+    ensures { λ r. ⌜ r ≡ nobody ⌝ }
+{
+    let id = [0u8; 64];
+    let place = [0u8; 32];
+    Candidate {
+        id,
+        place,
+        mark: lookup_marks::IDLE,
+        len: 0,
+    }
+}
+
+// The lookup that a refused start hands back.
+fn no_lookup() -> Lookup
+    ensures { λ r. ⌜ r ≡ noLookup ⌝ }
+{
+    let none = no_candidate();
+    let candidates = [none; 256];
+    let key = [0u8; 128];
+    let target = [0u8; 32];
+    Lookup {
+        candidates,
+        key,
+        target,
+        count: 0,
+        size: 0,
+        limit: 0,
+        turned: false,
+    }
+}
+
+// Slot i of the table of contacts as a candidate.
+fn contact(table: &[u8], i: usize) -> Candidate
+    ensures { λ r. ⌜ r ≡ contactAt (now (table .entry)) i ⌝ }
+{
+    let id = contacts::id_of(table, i);
+    let len = id.len() as u8;
+    let mut kept = [0u8; 64];
+    octets::copy(&mut kept, 0, id);
+    let mut place = [0u8; 32];
+    octets::copy(&mut place, 0, contacts::place_of(table, i));
+    Candidate {
+        id: kept,
+        place,
+        mark: lookup_marks::IDLE,
+        len,
+    }
+}
+
+// A lookup with the nearest contacts as candidates.
+fn begin(table: &[u8], key: &[u8], limit: usize) -> Lookup
+    requires { ⌜ length (now key) ≤ 128 ⌝ }
+    ensures { λ r. ⌜ (r ≡ begun (now (table .entry)) (now (key .entry)) limit) × (r .count ≤ 256) ⌝ }
+{
+    let target = sha256::hash(key);
+    let near = contacts::nearest(table, &target);
+    let at = near.at;
+    let n = near.n;
+    let none = no_candidate();
+    let mut candidates = [none; 256];
+    let mut i: usize = 0;
+    while i < n {
+        let c = contact(table, at[i]);
+        candidates[i] = c;
+        i += 1;
+    }
+    let mut kept = [0u8; 128];
+    octets::copy(&mut kept, 0, key);
+    Lookup {
+        candidates,
+        key: kept,
+        target,
+        count: n,
+        size: key.len(),
+        limit,
+        turned: false,
+    }
+}
+
 impl Lookup {
     // The next step: over, wait, or whom to ask, who is then in flight.
     pub fn next(self) -> Step
@@ -430,5 +634,37 @@ impl Lookup {
             Whom::Nobody(r) => give(self, Answer::Refused(r)),
             Whom::At(i) => settle(set_mark(self, i, lookup_marks::FAILED)),
         }
+    }
+    // A message that the peer with this id sent: the view is the reader's, of the body.
+    pub fn reply(self, own: &[u8], ours: [u8; 32], id: &[u8], body: &[u8], view: Fields) -> Step
+        ensures { λ r. ⌜ r ≡ replyOf self (now (own .entry)) ours (now (id .entry)) (now (body .entry)) view ⌝ }
+    {
+        if !is_view(body, view) {
+            return give(self, Answer::Refused(Refusal::OutOfForm));
+        }
+        let w = about(self, own, ours, id);
+        match w {
+            Whom::Nobody(r) => give(self, Answer::Refused(r)),
+            Whom::At(i) => settle(hear_from(self, i, ours, body, view.kind)),
+        }
+    }
+
+    // A lookup of a key starts from the table of contacts.
+    pub fn start(table: &[u8], own: &[u8], ours: [u8; 32], key: &[u8], limit: usize) -> Step
+        ensures { λ r. ⌜ r ≡ startOf (now (table .entry)) (now (own .entry)) ours (now (key .entry)) limit ⌝ }
+    {
+        if !contacts::in_form(table, &ours) {
+            return give(no_lookup(), Answer::Refused(Refusal::OutOfForm));
+        }
+        if !key_fits(key) {
+            return give(no_lookup(), Answer::Refused(Refusal::BreaksRules));
+        }
+        if !id_fits(own) {
+            return give(no_lookup(), Answer::Refused(Refusal::BadPeer));
+        }
+        if !limit_fits(limit) {
+            return give(no_lookup(), Answer::Refused(Refusal::BadConcurrency));
+        }
+        settle(begin(table, key, limit))
     }
 }

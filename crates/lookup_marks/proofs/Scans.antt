@@ -1,7 +1,7 @@
 -- Laws of the scans over marks: one mark more, and the end. Assumes nothing.
 use Prim.Native.Nat.{ℕ, zero, suc, _+_, _-_, _≤_, _<_}
-use mathlib.Core.Path.{_≡_, refl, sym, ap, ap₂, _∙_, subst}
-use mathlib.Core.Bool.{Bool, true, false, cond, not}
+use mathlib.Core.Path.{_≡_, refl, sym, ap, ap₂, _∙_}
+use mathlib.Core.Bool.{Bool, true, false, not}
 use mathlib.Core.List.{List, [], _∷_, _++_}
 use native.Mathlib.Omega.{arith}
 use native.Mathlib.Numerals.{add-one}
@@ -10,7 +10,7 @@ use lib.ListN.{length, getD, take, drop, set, replicate, length-drop, drop-of-le
 use lib.Seq.{drop-cons, take-nil, take-all, take-suc, set-at, append-snoc, length-take-le}
 use Rattle.octets.specs.Search.{count, every}
 use Rattle.octets.proofs.Bools.{cond-yes, cond-no, and-on, and-off, not-yes, not-no}
-use Rattle.octets.proofs.Searching.{every-nil, count-zero, count-yes, count-no}
+use Rattle.octets.proofs.Searching.{every-nil, count-yes, count-no}
 use Rattle.lookup_marks.specs.Marks.{idle, flying, answered, failed, wanted, marked, live, twentyOf, isOver, pick, idleOf, flightsOf, sentOf, ranksOf}
 use Rattle.lookup_marks.specs.declared.Ranks.{Ranks}
 
@@ -198,7 +198,7 @@ module _ (ms at : List ℕ) (n i : ℕ) (f : Filling ms at n i) where
       let e : n ≡ length (twentyOf ms) = omega (arith, f .done) in
       let t : take n (twentyOf ms) ≡ twentyOf ms = take-all n (twentyOf ms) (omega arith) in
       let w : at ≡ twentyOf ms ++ replicate (wanted - length (twentyOf ms)) 0 =
-          f .written ∙ ap (λ (x : List ℕ). x ++ replicate (wanted - n) 0) t ∙ ap (λ (m : ℕ). twentyOf ms ++ replicate (wanted - m) 0) e in
+      f .written ∙ ap (λ (x : List ℕ). x ++ replicate (wanted - n) 0) t ∙ ap (λ (m : ℕ). twentyOf ms ++ replicate (wanted - m) 0) e in
       ap₂ made w e
 
   pub fill-full : n ≡ wanted → made at n ≡ ranksOf (twentyOf ms)

@@ -1,25 +1,12 @@
 -- `about`: each answer from the tests that lead there. Assumes nothing.
-use Prim.Native.Nat.{_≤_, _<_, _-_, _+_}
-use mathlib.Core.Path.{_≡_, refl, sym, ap, _∙_}
-use mathlib.Core.Bool.{not}
-use mathlib.Core.List.{List, map}
-use lib.ListN.{length, take, drop, replicate, length-map, length-replicate}
+use mathlib.Core.Path.{_≡_}
+use lib.ListN.{length, length-map}
 use native.Mathlib.Omega.{arith}
 use borrow.Author.Needs.{needs}
-use borrow.Author.Tests.{not-true, not-false}
 use Rattle.lookup.proofs.Steps.{room-of, marks-part, marks-count, bad-own, bad-id, bad-place, good-peer, whom-form, whom-bad, whom-over, whom-none, whom-at}
 use borrow.Author.Needs.{needs}
 use Rattle.lookup.proofs.about.Statement.{statement}
 use Rattle.lookup.proofs.about.Tie as tie
-use Rattle.lookup.proofs.about.Reads as reads
-use Rattle.lookup.proofs.about.Lts as lts
-use Rattle.lookup.proofs.flyer.Reads as flyer-reads
-use Rattle.lookup.proofs.id_fits.Reads as id-fits-reads
-use Rattle.lookup.proofs.in_form.Reads as in-form-reads
-use Rattle.lookup.proofs.marks_of.Reads as marks-of-reads
-use Rattle.lookup_marks.proofs.over.Reads as over-reads
-use Rattle.octets.proofs.same_bytes.Reads as same-bytes-reads
-use Rattle.sha256.proofs.hash.Reads as hash-reads
 
 long : (c : tie.Start) → length (c .args .l .candidates) ≡ 256
 long c = simp length-map at (c .good .0 .1 .1 .0 .1 .0 .1)

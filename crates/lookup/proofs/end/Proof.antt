@@ -1,20 +1,9 @@
 -- `end`: the twenty and the count, of the marks that were handed in. Assumes nothing.
-use Prim.Native.Nat.{_≤_, _<_, _-_, _+_}
-use mathlib.Core.Path.{_≡_, refl, sym, ap, _∙_}
-use mathlib.Core.Bool.{not}
-use mathlib.Core.List.{map}
-use lib.ListN.{length, take, drop, replicate, length-map, length-replicate}
-use native.Mathlib.Omega.{arith}
 use borrow.Author.Needs.{needs}
-use borrow.Author.Tests.{not-true, not-false}
 use Rattle.lookup.proofs.Steps.{end-cut, end-whole}
 use borrow.Author.Needs.{needs}
 use Rattle.lookup.proofs.end.Statement.{statement}
 use Rattle.lookup.proofs.end.Tie as tie
-use Rattle.lookup.proofs.end.Reads as reads
-use Rattle.lookup.proofs.end.Lts as lts
-use Rattle.lookup_marks.proofs.sent.Reads as sent-reads
-use Rattle.lookup_marks.proofs.twenty.Reads as twenty-reads
 
 twenty-requires : tie.Need-twenty-requires
 twenty-requires c κs = search needs

@@ -1,19 +1,9 @@
 -- `flies_at`: the mark, then the place. Assumes nothing.
-use Prim.Native.Nat.{_≤_, _<_, _-_, _+_}
-use mathlib.Core.Path.{_≡_, refl, sym, ap, _∙_}
-use mathlib.Core.Bool.{not}
-use mathlib.Core.List.{List, map}
-use lib.ListN.{length, take, drop, replicate, length-map, length-replicate}
-use native.Mathlib.Omega.{arith}
 use borrow.Author.Needs.{needs}
-use borrow.Author.Tests.{not-true, not-false}
 use Rattle.lookup.proofs.Steps.{flies-no, flies-same}
 use borrow.Author.Needs.{needs}
 use Rattle.lookup.proofs.flies_at.Statement.{statement}
 use Rattle.lookup.proofs.flies_at.Tie as tie
-use Rattle.lookup.proofs.flies_at.Reads as reads
-use Rattle.lookup.proofs.flies_at.Lts as lts
-use Rattle.lookup.proofs.lies_at.Reads as lies-at-reads
 
 returns : tie.Need-returns
 returns c = flies-no (c .before .before .args .place) (c .before .before .args .c) (c .if1 .taken)

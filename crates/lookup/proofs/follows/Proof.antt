@@ -1,20 +1,9 @@
 -- `follows`: well made, then farther. Assumes nothing.
-use Prim.Native.Nat.{_≤_, _<_, _-_, _+_}
-use mathlib.Core.Path.{_≡_, refl, sym, ap, _∙_}
-use mathlib.Core.Bool.{not}
-use mathlib.Core.List.{map}
-use lib.ListN.{length, take, drop, replicate, length-map, length-replicate}
-use native.Mathlib.Omega.{arith}
 use borrow.Author.Needs.{needs}
-use borrow.Author.Tests.{not-true, not-false}
 use Rattle.lookup.proofs.Form.{both-no, both-yes}
 use borrow.Author.Needs.{needs}
 use Rattle.lookup.proofs.follows.Statement.{statement}
 use Rattle.lookup.proofs.follows.Tie as tie
-use Rattle.lookup.proofs.follows.Reads as reads
-use Rattle.lookup.proofs.follows.Lts as lts
-use Rattle.lookup.proofs.well_made.Reads as well-made-reads
-use Rattle.place.proofs.nearer.Reads as nearer-reads
 
 well-made-requires : tie.Need-well-made-requires
 well-made-requires c κs = search needs

@@ -1,19 +1,9 @@
 -- `hear_of`: a bad id, ourselves, or a newcomer. Assumes nothing.
-use Prim.Native.Nat.{_≤_, _<_, _-_, _+_}
-use mathlib.Core.Path.{_≡_, refl, sym, ap, _∙_}
-use lib.ListN.{length, take, drop, length-map}
-use native.Mathlib.Omega.{arith}
 use borrow.Author.Needs.{needs}
 use Rattle.lookup.proofs.Steps.{fits-len, hear-bad, hear-ours, hear-new}
 use borrow.Author.Needs.{needs}
 use Rattle.lookup.proofs.hear_of.Statement.{statement}
 use Rattle.lookup.proofs.hear_of.Tie as tie
-use Rattle.lookup.proofs.hear_of.Reads as reads
-use Rattle.lookup.proofs.hear_of.Lts as lts
-use Rattle.lookup.proofs.id_fits.Reads as id-fits-reads
-use Rattle.lookup.proofs.newcomer.Reads as newcomer-reads
-use Rattle.lookup.proofs.take_in.Reads as take-in-reads
-use Rattle.octets.proofs.same_bytes.Reads as same-bytes-reads
 
 id-fits-requires : tie.Need-id-fits-requires
 id-fits-requires c κs = search needs

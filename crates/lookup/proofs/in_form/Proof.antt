@@ -1,19 +1,10 @@
 -- `in_form`: test by test. Assumes nothing.
-use Prim.Native.Nat.{_≤_, _<_, _-_, _+_}
-use mathlib.Core.Path.{_≡_, refl, sym, ap, _∙_}
-use mathlib.Core.Bool.{not}
-use mathlib.Core.List.{List, map}
-use lib.ListN.{length, take, drop, replicate, length-map, length-replicate}
-use native.Mathlib.Omega.{arith}
+use mathlib.Core.Path.{_∙_}
 use borrow.Author.Needs.{needs}
-use borrow.Author.Tests.{not-true, not-false}
 use Rattle.lookup.proofs.Form.{form-size-low, form-size-high, form-limit-low, form-limit-high, form-count, form-rest}
 use borrow.Author.Needs.{needs}
 use Rattle.lookup.proofs.in_form.Statement.{statement}
 use Rattle.lookup.proofs.in_form.Tie as tie
-use Rattle.lookup.proofs.in_form.Reads as reads
-use Rattle.lookup.proofs.in_form.Lts as lts
-use Rattle.lookup.proofs.in_order.Reads as in-order-reads
 
 returns : tie.Need-returns
 returns c = form-size-low (c .before .args .l) (c .if1 .taken)

@@ -1,20 +1,13 @@
 -- `in_order`: the candidates from i on follow the last one. Assumes nothing.
-use Prim.Native.Nat.{_≤_, _<_, _-_, _+_}
-use mathlib.Core.Path.{_≡_, refl, sym, ap, _∙_}
-use mathlib.Core.Bool.{not}
-use mathlib.Core.List.{map}
-use lib.ListN.{length, take, drop, replicate, length-map, length-replicate}
+use Prim.Native.Nat.{_≤_, _-_}
+use mathlib.Core.Path.{_≡_}
+use lib.ListN.{length, take, drop, length-map}
 use native.Mathlib.Omega.{arith}
 use borrow.Author.Needs.{needs}
-use borrow.Author.Tests.{not-true, not-false}
 use Rattle.lookup.specs.Lookup.{follow, nearestFirst}
 use Rattle.lookup.proofs.Form.{first-none, first-bad, first-good, follow-no, follow-yes, follow-end}
 use Rattle.lookup.proofs.in_order.Statement.{statement}
 use Rattle.lookup.proofs.in_order.Tie as tie
-use Rattle.lookup.proofs.in_order.Reads as reads
-use Rattle.lookup.proofs.in_order.Lts as lts
-use Rattle.lookup.proofs.follows.Reads as follows-reads
-use Rattle.lookup.proofs.well_made.Reads as well-made-reads
 
 abbrev Inv-loop : tie.InvT-loop
 Inv-loop n l target last₀ i₀ last i = (i ≤ n) × (follow target last (drop i (take n (l .candidates))) ≡ nearestFirst target (take n (l .candidates)))
@@ -24,7 +17,6 @@ abbrev μ-loop : tie.MeasureT-loop
 
 long : (c : tie.Start Inv-loop μ-loop) → length (c .args .t1 .candidates) ≡ 256
 long c = simp length-map at (c .good .0 .1 .1 .0 .1 .0 .1)
-
 
 returns : tie.Need-returns Inv-loop μ-loop
 returns c = first-none _ _ _ (c .if1 .taken)

@@ -1,18 +1,13 @@
 -- `insert`: the gap is at j. Assumes nothing.
-use Prim.Native.Nat.{_≤_, _<_, _-_, _+_}
-use mathlib.Core.Path.{_≡_, refl, sym, ap, _∙_}
-use mathlib.Core.Bool.{not}
-use mathlib.Core.List.{map}
-use lib.ListN.{length, take, drop, replicate, length-map, length-replicate}
+use Prim.Native.Nat.{_≤_, _-_}
+use mathlib.Core.Path.{_≡_}
+use lib.ListN.{length, length-map}
 use native.Mathlib.Omega.{arith}
 use borrow.Author.Needs.{needs}
-use borrow.Author.Tests.{not-true, not-false}
 use Rattle.lookup.specs.Lookup.{withCandidates}
 use Rattle.lookup.proofs.Scans.{gap, shift-start, shift-step, shift-end}
 use Rattle.lookup.proofs.insert.Statement.{statement}
 use Rattle.lookup.proofs.insert.Tie as tie
-use Rattle.lookup.proofs.insert.Reads as reads
-use Rattle.lookup.proofs.insert.Lts as lts
 
 abbrev Inv-loop : tie.InvT-loop
 Inv-loop n r c k₀ j₀ k j = (r ≤ j) × (j ≤ n) × (k ≡ withCandidates k₀ (k₀ .count) (gap n j (k₀ .candidates)))
@@ -22,7 +17,6 @@ abbrev μ-loop : tie.MeasureT-loop
 
 long : (c : tie.Start Inv-loop μ-loop) → length (c .args .l .candidates) ≡ 256
 long c = simp length-map at (c .good .0 .1 .1 .0 .1 .0 .1)
-
 
 loop-holds : tie.Need-loop-holds Inv-loop μ-loop
 loop-holds c = (omega arith, omega arith, shift-start (c .args .n) (c .args .l) (c .pre .0) (long c))

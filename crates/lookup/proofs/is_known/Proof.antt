@@ -1,20 +1,14 @@
 -- `is_known`: from i on. Assumes nothing.
-use Prim.Native.Nat.{_≤_, _<_, _-_, _+_}
-use mathlib.Core.Path.{_≡_, refl, sym, ap, _∙_}
-use mathlib.Core.Bool.{not}
-use mathlib.Core.List.{List, map}
-use lib.ListN.{length, take, drop, replicate, length-map, length-replicate}
+use Prim.Native.Nat.{_≤_, _-_}
+use mathlib.Core.Path.{_≡_, refl}
+use lib.ListN.{length, take, drop, length-map}
 use native.Mathlib.Omega.{arith}
 use borrow.Author.Needs.{needs}
-use borrow.Author.Tests.{not-true, not-false}
 use Rattle.lookup.specs.Lists.{anyIn}
 use Rattle.lookup.specs.Lookup.{liesAt}
 use Rattle.lookup.proofs.Lists.{find-hit, find-miss, find-end}
 use Rattle.lookup.proofs.is_known.Statement.{statement}
 use Rattle.lookup.proofs.is_known.Tie as tie
-use Rattle.lookup.proofs.is_known.Reads as reads
-use Rattle.lookup.proofs.is_known.Lts as lts
-use Rattle.lookup.proofs.lies_at.Reads as lies-at-reads
 
 abbrev Inv-loop : tie.InvT-loop
 Inv-loop n place l i₀ i = (i ≤ n) × (anyIn (liesAt place) (drop i (take n (l .candidates))) ≡ anyIn (liesAt place) (take n (l .candidates)))
@@ -24,7 +18,6 @@ abbrev μ-loop : tie.MeasureT-loop
 
 long : (c : tie.Start Inv-loop μ-loop) → length (c .args .t1 .candidates) ≡ 256
 long c = simp length-map at (c .good .0 .1 .1 .0 .1 .0 .1)
-
 
 loop-holds : tie.Need-loop-holds Inv-loop μ-loop
 loop-holds c = (omega arith, refl)

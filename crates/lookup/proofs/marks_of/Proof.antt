@@ -1,18 +1,13 @@
 -- `marks_of`: the first i marks stand there. Assumes nothing.
-use Prim.Native.Nat.{ℕ, _≤_, _<_, _-_, _+_}
-use mathlib.Core.Path.{_≡_, refl, sym, ap, _∙_}
-use mathlib.Core.Bool.{not}
-use mathlib.Core.List.{map}
-use lib.ListN.{length, take, drop, replicate, length-map, length-replicate}
+use Prim.Native.Nat.{ℕ, _-_}
+use mathlib.Core.Path.{_≡_, refl, sym, _∙_}
+use lib.ListN.{length, length-map, length-replicate}
 use native.Mathlib.Omega.{arith}
 use borrow.Author.Needs.{needs}
-use borrow.Author.Tests.{not-true, not-false}
 use Rattle.lookup.specs.Lookup.{markOf}
 use Rattle.lookup.proofs.Lists.{Mapping, map-one, map-all}
 use Rattle.lookup.proofs.marks_of.Statement.{statement}
 use Rattle.lookup.proofs.marks_of.Tie as tie
-use Rattle.lookup.proofs.marks_of.Reads as reads
-use Rattle.lookup.proofs.marks_of.Lts as lts
 
 abbrev Inv-loop : tie.InvT-loop
 Inv-loop l marks₀ i₀ marks i = Mapping markOf (l .candidates) marks i
@@ -22,7 +17,6 @@ abbrev μ-loop : tie.MeasureT-loop
 
 long : (c : tie.Start Inv-loop μ-loop) → length (c .args .t1 .candidates) ≡ 256
 long c = simp length-map at (c .good .0 .1 .1 .0 .1 .0 .1)
-
 
 loop-holds : tie.Need-loop-holds Inv-loop μ-loop
 loop-holds c = record { within = omega arith; long = length-replicate {A = ℕ} 256 0 ∙ sym (long c); done = refl }

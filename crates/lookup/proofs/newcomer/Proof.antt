@@ -1,20 +1,10 @@
 -- `newcomer`: hashed and copied. Assumes nothing.
-use Prim.Native.Nat.{_≤_, _<_, _-_, _+_}
-use mathlib.Core.Path.{_≡_, refl, sym, ap, _∙_}
-use mathlib.Core.Bool.{not}
-use mathlib.Core.List.{map}
-use lib.ListN.{length, take, drop, replicate, length-map, length-replicate}
-use native.Mathlib.Omega.{arith}
+use mathlib.Core.Path.{refl}
 use borrow.Author.Needs.{needs}
-use borrow.Author.Tests.{not-true, not-false}
 use Rattle.lookup.proofs.Steps.{fresh-is}
 use borrow.Author.Needs.{needs}
 use Rattle.lookup.proofs.newcomer.Statement.{statement}
 use Rattle.lookup.proofs.newcomer.Tie as tie
-use Rattle.lookup.proofs.newcomer.Reads as reads
-use Rattle.lookup.proofs.newcomer.Lts as lts
-use Rattle.octets.proofs.copy.Reads as copy-reads
-use Rattle.sha256.proofs.hash.Reads as hash-reads
 
 hash-requires : tie.Need-hash-requires
 hash-requires c κs = search needs

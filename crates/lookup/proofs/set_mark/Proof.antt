@@ -1,20 +1,13 @@
 -- `set_mark`: one element anew. Assumes nothing.
-use Prim.Native.Nat.{_≤_, _<_, _-_, _+_}
-use mathlib.Core.Path.{_≡_, refl, sym, ap, _∙_}
-use mathlib.Core.Bool.{not}
-use mathlib.Core.List.{List, map}
-use lib.ListN.{length, take, drop, replicate, length-map, length-replicate}
-use native.Mathlib.Omega.{arith}
+use mathlib.Core.Path.{ap}
+use mathlib.Core.List.{List}
 use borrow.Author.Needs.{needs}
-use borrow.Author.Tests.{not-true, not-false}
 use Rattle.lookup.specs.Lookup.{withCandidates}
 use Rattle.lookup.specs.declared.Candidate.{Candidate}
 use Rattle.lookup.proofs.Scans.{set-marked}
 use borrow.Author.Needs.{needs}
 use Rattle.lookup.proofs.set_mark.Statement.{statement}
 use Rattle.lookup.proofs.set_mark.Tie as tie
-use Rattle.lookup.proofs.set_mark.Reads as reads
-use Rattle.lookup.proofs.set_mark.Lts as lts
 
 mul-c : tie.Need-mul-c
 mul-c c = search needs

@@ -1,22 +1,12 @@
 -- `settle`: the marks side by side, then over or not. Assumes nothing.
-use Prim.Native.Nat.{_≤_, _<_, _-_, _+_}
-use mathlib.Core.Path.{_≡_, refl, sym, ap, _∙_}
+use mathlib.Core.Path.{_≡_}
 use mathlib.Core.Bool.{not}
-use mathlib.Core.List.{List, map}
-use lib.ListN.{length, take, drop, replicate, length-map, length-replicate}
-use native.Mathlib.Omega.{arith}
+use lib.ListN.{length, length-map}
 use borrow.Author.Needs.{needs}
-use borrow.Author.Tests.{not-true, not-false}
 use Rattle.lookup.proofs.Steps.{marks-part, marks-count, settle-over, settle-going}
 use borrow.Author.Needs.{needs}
 use Rattle.lookup.proofs.settle.Statement.{statement}
 use Rattle.lookup.proofs.settle.Tie as tie
-use Rattle.lookup.proofs.settle.Reads as reads
-use Rattle.lookup.proofs.settle.Lts as lts
-use Rattle.lookup.proofs.end.Reads as end-reads
-use Rattle.lookup.proofs.give.Reads as give-reads
-use Rattle.lookup.proofs.marks_of.Reads as marks-of-reads
-use Rattle.lookup_marks.proofs.over.Reads as over-reads
 
 long : (c : tie.Start) → length (c .args .l .candidates) ≡ 256
 long c = simp length-map at (c .good .0 .1 .1 .0 .1 .0 .1)

@@ -1,19 +1,12 @@
 -- `take_in`: known, new, or no room. Assumes nothing.
-use Prim.Native.Nat.{_≤_, _<_, _-_, _+_}
-use mathlib.Core.Path.{_≡_, refl, sym, ap, _∙_}
-use lib.ListN.{length, take, drop, length-map}
-use native.Mathlib.Omega.{arith}
+use mathlib.Core.Path.{_≡_}
+use lib.ListN.{length, length-map}
 use borrow.Author.Needs.{needs}
 use Rattle.lookup.proofs.Scans.{rank-fits}
 use Rattle.lookup.proofs.Steps.{meet-known, meet-new, meet-full}
 use borrow.Author.Needs.{needs}
 use Rattle.lookup.proofs.take_in.Statement.{statement}
 use Rattle.lookup.proofs.take_in.Tie as tie
-use Rattle.lookup.proofs.take_in.Reads as reads
-use Rattle.lookup.proofs.take_in.Lts as lts
-use Rattle.lookup.proofs.insert.Reads as insert-reads
-use Rattle.lookup.proofs.is_known.Reads as is-known-reads
-use Rattle.lookup.proofs.rank.Reads as rank-reads
 
 long : (c : tie.Start) → length (c .args .l .candidates) ≡ 256
 long c = simp length-map at (c .good .0 .1 .1 .0 .1 .0 .1)

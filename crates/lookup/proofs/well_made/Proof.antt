@@ -1,18 +1,9 @@
 -- `well_made`: test by test. Assumes nothing.
-use Prim.Native.Nat.{_≤_, _<_, _-_, _+_}
-use mathlib.Core.Path.{_≡_, refl, sym, ap, _∙_}
-use mathlib.Core.Bool.{not}
-use mathlib.Core.List.{map}
-use lib.ListN.{length, take, drop, replicate, length-map, length-replicate}
-use native.Mathlib.Omega.{arith}
 use borrow.Author.Needs.{needs}
-use borrow.Author.Tests.{not-true, not-false}
 use Rattle.lookup.proofs.Form.{made-mark, made-empty, made-len}
 use borrow.Author.Needs.{needs}
 use Rattle.lookup.proofs.well_made.Statement.{statement}
 use Rattle.lookup.proofs.well_made.Tie as tie
-use Rattle.lookup.proofs.well_made.Reads as reads
-use Rattle.lookup.proofs.well_made.Lts as lts
 
 returns : tie.Need-returns
 returns c = made-mark (c .before .before .args .c) (c .if1 .taken)

@@ -8,8 +8,6 @@ use Rattle.lookup_marks.specs.Marks.{idleOf}
 use Rattle.lookup_marks.proofs.Scans.{Pick, pick-start, pick-none, pick-end, pick-failed, pick-idle, pick-other}
 use Rattle.lookup_marks.proofs.idle.Statement.{statement}
 use Rattle.lookup_marks.proofs.idle.Tie as tie
-use Rattle.lookup_marks.proofs.idle.Reads as reads
-use Rattle.lookup_marks.proofs.idle.Lts as lts
 
 abbrev Inv-loop : tie.InvT-loop
 Inv-loop marks n left₀ i₀ left i = (i ≤ length marks) × (Pick marks left i ≡ idleOf marks)

@@ -10,8 +10,6 @@ use Rattle.lookup_marks.specs.Marks.{marked, flying}
 use Rattle.lookup_marks.proofs.Scans.{flights-end, flies, flies-not}
 use Rattle.lookup_marks.proofs.in_flight.Statement.{statement}
 use Rattle.lookup_marks.proofs.in_flight.Tie as tie
-use Rattle.lookup_marks.proofs.in_flight.Reads as reads
-use Rattle.lookup_marks.proofs.in_flight.Lts as lts
 
 abbrev Inv-loop : tie.InvT-loop
 Inv-loop marks n₀ i₀ n i = (i ≤ length marks) × (n ≡ count i (marked flying marks))

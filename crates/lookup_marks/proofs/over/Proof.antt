@@ -8,8 +8,6 @@ use Rattle.lookup_marks.specs.Marks.{isOver}
 use Rattle.lookup_marks.proofs.Scans.{Still, still-start, still-none, still-end, still-failed, still-answered, still-open}
 use Rattle.lookup_marks.proofs.over.Statement.{statement}
 use Rattle.lookup_marks.proofs.over.Tie as tie
-use Rattle.lookup_marks.proofs.over.Reads as reads
-use Rattle.lookup_marks.proofs.over.Lts as lts
 
 abbrev Inv-loop : tie.InvT-loop
 Inv-loop marks left₀ i₀ left i = (i ≤ length marks) × (Still marks left i ≡ isOver marks)

@@ -9,8 +9,6 @@ use Rattle.octets.proofs.Searching.{count-zero, count-le}
 use Rattle.lookup_marks.proofs.Scans.{asked, sent-end, sent-one, sent-none}
 use Rattle.lookup_marks.proofs.sent.Statement.{statement}
 use Rattle.lookup_marks.proofs.sent.Tie as tie
-use Rattle.lookup_marks.proofs.sent.Reads as reads
-use Rattle.lookup_marks.proofs.sent.Lts as lts
 
 abbrev Inv-loop : tie.InvT-loop
 Inv-loop marks n₀ i₀ n i = (i ≤ length marks) × (n ≡ count i (asked marks))

@@ -1,13 +1,10 @@
 -- `twenty`: the first n ranks stand in the array, the others are those from rank i on. Assumes nothing.
-use Prim.Native.Nat.{_≤_, _-_}
+use Prim.Native.Nat.{_-_}
 use lib.ListN.{length}
-use native.Mathlib.Omega.{arith}
 use borrow.Author.Needs.{needs}
 use Rattle.lookup_marks.proofs.Scans.{Filling, fill-start, fill-failed, fill-one, fill-full, fill-end}
 use Rattle.lookup_marks.proofs.twenty.Statement.{statement}
 use Rattle.lookup_marks.proofs.twenty.Tie as tie
-use Rattle.lookup_marks.proofs.twenty.Reads as reads
-use Rattle.lookup_marks.proofs.twenty.Lts as lts
 
 abbrev Inv-loop : tie.InvT-loop
 Inv-loop marks at₀ n₀ i₀ at n i = Filling marks at n i

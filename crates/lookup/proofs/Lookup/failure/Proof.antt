@@ -1,22 +1,10 @@
 -- `failure`: refused, or marked and settled. Assumes nothing.
-use Prim.Native.Nat.{_≤_, _<_, _-_, _+_}
-use mathlib.Core.Path.{_≡_, refl, sym, ap, _∙_}
-use mathlib.Core.Bool.{not}
-use mathlib.Core.List.{List, map}
-use lib.ListN.{length, take, drop, replicate, length-map, length-replicate}
 use native.Mathlib.Omega.{arith}
 use borrow.Author.Needs.{needs}
-use borrow.Author.Tests.{not-true, not-false}
 use Rattle.lookup.proofs.Steps.{found-within, marked-room, fail-refused, fail-at}
 use borrow.Author.Needs.{needs}
 use Rattle.lookup.proofs.Lookup.failure.Statement.{statement}
 use Rattle.lookup.proofs.Lookup.failure.Tie as tie
-use Rattle.lookup.proofs.Lookup.failure.Reads as reads
-use Rattle.lookup.proofs.Lookup.failure.Lts as lts
-use Rattle.lookup.proofs.about.Reads as about-reads
-use Rattle.lookup.proofs.give.Reads as give-reads
-use Rattle.lookup.proofs.set_mark.Reads as set-mark-reads
-use Rattle.lookup.proofs.settle.Reads as settle-reads
 
 about-requires : tie.Need-about-requires
 about-requires c κs = search needs

@@ -1,26 +1,12 @@
 -- `next`: each answer from the tests that lead there. Assumes nothing.
-use Prim.Native.Nat.{_≤_, _<_, _-_, _+_}
-use mathlib.Core.Path.{_≡_, refl, sym, ap, _∙_}
-use mathlib.Core.Bool.{not}
-use mathlib.Core.List.{List, map}
-use lib.ListN.{length, take, drop, replicate, length-map, length-replicate}
+use mathlib.Core.Path.{_≡_}
+use lib.ListN.{length, length-map}
 use native.Mathlib.Omega.{arith}
 use borrow.Author.Needs.{needs}
-use borrow.Author.Tests.{not-true, not-false}
 use Rattle.lookup.proofs.Steps.{room-of, marks-part, marks-count, next-bad, next-over, next-full, next-ask, next-wait}
 use borrow.Author.Needs.{needs}
 use Rattle.lookup.proofs.Lookup.next.Statement.{statement}
 use Rattle.lookup.proofs.Lookup.next.Tie as tie
-use Rattle.lookup.proofs.Lookup.next.Reads as reads
-use Rattle.lookup.proofs.Lookup.next.Lts as lts
-use Rattle.lookup.proofs.end.Reads as end-reads
-use Rattle.lookup.proofs.give.Reads as give-reads
-use Rattle.lookup.proofs.in_form.Reads as in-form-reads
-use Rattle.lookup.proofs.marks_of.Reads as marks-of-reads
-use Rattle.lookup.proofs.set_mark.Reads as set-mark-reads
-use Rattle.lookup_marks.proofs.idle.Reads as idle-reads
-use Rattle.lookup_marks.proofs.in_flight.Reads as in-flight-reads
-use Rattle.lookup_marks.proofs.over.Reads as over-reads
 
 long : (c : tie.Start) → length (c .args .self .candidates) ≡ 256
 long c = simp length-map at (c .good .0 .1 .1 .0 .1 .0 .1)
