@@ -252,3 +252,35 @@ piece-yes held rkey value e = rw e
 pub piece-no : (held : Bool) (rkey value : List ℕ) → held ≡ false → heldPiece held rkey value ≡ []
 unfolding heldPiece
 piece-no held rkey value e = rw e
+
+-- ---- the same, from the parts that a caller hands over
+module _ (kind : ℕ) (key : List ℕ) (held : Bool) (rkey value closer providers : List ℕ) where
+  abbrev N : Message
+  N = messageWith kind key held rkey value closer providers
+
+  pub body-kind : mostKind < kind → Over ≡ sizeOf N
+  body-kind h = over-kind N (unfold messageWith in h)
+
+  pub body-key : mostKey < length key → Over ≡ sizeOf N
+  body-key h = over-key N (unfold messageWith in h)
+
+  pub body-held : heldSize (held-of rkey value held) ≡ Over → Over ≡ sizeOf N
+  body-held h = over-held N (unfold messageWith in h)
+
+  pub body-closer : sized 8 0 (peersOf closer) ≡ Over → Over ≡ sizeOf N
+  body-closer h = over-closer N (unfold messageWith in h)
+
+  pub body-providers : sized 9 0 (peersOf providers) ≡ Over → Over ≡ sizeOf N
+  body-providers h = over-providers N (unfold messageWith in h)
+
+  pub body-whole : kind ≤ mostKind → length key ≤ mostKey → (k h a b : ℕ) → k ≡ length (written (single 2 key)) → heldSize (held-of rkey value held) ≡ Is h → sized 8 0 (peersOf closer) ≡ Is a → sized 9 0 (peersOf providers) ≡ Is b
+      → (z : Size) → z ≡ cond (leb (2 + k + h + a + b) mostBody) (Is (2 + k + h + a + b)) Over → z ≡ sizeOf N
+  body-whole hk hl k h a b ek eh ea eb z e =
+      body-is N (unfold messageWith in hk) (unfold messageWith in hl) k h a b (unfold messageWith in ek) (unfold messageWith in eh) (unfold messageWith in ea) (unfold messageWith in eb) z e
+
+pub six-pieces : (out : List ℕ) (n kind : ℕ) (key : List ℕ) (held : Bool) (rkey value closer providers o₁ o₂ o₃ o₄ o₅ o₆ : List ℕ) (r₁ r₂ r₃ r₄ r₅ r₆ : ℕ)
+    → Put out 0 (minimal n) o₁ r₁ → Put o₁ r₁ (written1 (num 1 kind)) o₂ r₂ → Put o₂ r₂ (written (single 2 key)) o₃ r₃ → Put o₃ r₃ (heldPiece held rkey value) o₄ r₄ → Put o₄ r₄ (pieces 8 (peersOf closer)) o₅ r₅ → Put o₅ r₅ (pieces 9 (peersOf providers)) o₆ r₆
+    → Put out 0 (minimal n ++ messagePieces kind key held rkey value closer providers) o₆ r₆
+unfolding messagePieces
+six-pieces out n kind key held rkey value closer providers o₁ o₂ o₃ o₄ o₅ o₆ r₁ r₂ r₃ r₄ r₅ r₆ p q s t u v =
+    six out (minimal n) (written1 (num 1 kind)) (written (single 2 key)) (heldPiece held rkey value) (pieces 8 (peersOf closer)) (pieces 9 (peersOf providers)) o₁ o₂ o₃ o₄ o₅ o₆ r₁ r₂ r₃ r₄ r₅ r₆ p q s t u v
