@@ -20,6 +20,7 @@ use Rattle.message.specs.Limits.{mostBody, mostAddresses}
 use Rattle.message.specs.Message.{Peer, encodePeer}
 use Rattle.message.specs.Writable.{peerFits, peerPiece, peerWith}
 use Rattle.message.proofs.Sizes.{fitting-peer}
+use Rattle.message.proofs.Pieces.{peer-piece}
 use Rattle.writer.specs.Writer.{two, addressesOf, peerSize, peerAt, peersOf}
 use Rattle.writer.specs.Inner.{countOf, entryBytes, sized, pieces}
 use Rattle.writer.specs.declared.Size.{Size}
@@ -77,17 +78,13 @@ module _ (s : List ℕ) (i : ℕ) (ei : i ≡ two s 0) (e : ℕ) (ee : e ≡ pee
       rw (ea, eb, ec, ed, q .1, four-of (addressesOf list) (q .0), ei, ee)
 
 -- ---- the size of a list
-piece-fits : (f : ℕ) (p : Peer) → peerFits p ≡ true → peerPiece f p ≡ written1 (bytes f (encodePeer p))
-unfolding peerPiece
-piece-fits f p e = rw e
-
 piece-no : (f : ℕ) (p : Peer) → peerFits p ≡ false → peerPiece f p ≡ []
 unfolding peerPiece
 piece-no f p e = rw e
 
 -- a piece that is written has a byte
 piece-some : (f : ℕ) (p : Peer) → peerFits p ≡ true → 0 < length (peerPiece f p)
-piece-some f p e = rw (piece-fits f p e) (unfold written1 tagged in omega (arith, length-append (minimal (f * 8 + 2) ++ minimal (length (encodePeer p))) (encodePeer p), length-append (minimal (f * 8 + 2)) (minimal (length (encodePeer p))), minimal-pos (f * 8 + 2)))
+piece-some f p e = rw (peer-piece f p e) (unfold written1 tagged in omega (arith, length-append (minimal (f * 8 + 2) ++ minimal (length (encodePeer p))) (encodePeer p), length-append (minimal (f * 8 + 2)) (minimal (length (encodePeer p))), minimal-pos (f * 8 + 2)))
 
 piece-none : (f : ℕ) (p : Peer) → length (peerPiece f p) ≡ 0 → peerFits p ≡ false
 piece-none f p e = ⊎-elim (λ t. absurd (bad (piece-some f p t))) (λ t. t) (either (peerFits p))
@@ -110,14 +107,14 @@ module _ (f sum : ℕ) (p : Peer) (l : List Peer) where
   too-much : peerFits p ≡ true → mostBody < sum + length (peerPiece f p) → Over ≡ sized f sum (p ∷ l)
   unfolding sized allOf
   too-much e h =
-      let q = piece-fits f p e in
+      let q = peer-piece f p e in
       let r : length (entryBytes f (p ∷ l)) ≡ length (peerPiece f p) + length (entryBytes f l) = rw (entry-bytes f p l, q) (length-append (written1 (bytes f (encodePeer p))) (entryBytes f l)) in
       rw (lt-leb (sum + length (entryBytes f (p ∷ l))) mostBody (omega arith), and-fails (every peerFits (p ∷ l)) false refl)
 
   one-more : peerFits p ≡ true → sized f (sum + length (peerPiece f p)) l ≡ sized f sum (p ∷ l)
   unfolding sized allOf every
   one-more e =
-      let q = piece-fits f p e in
+      let q = peer-piece f p e in
       let r : sum + length (entryBytes f (p ∷ l)) ≡ sum + length (peerPiece f p) + length (entryBytes f l) = rw (entry-bytes f p l, q) (omega (arith, length-append (written1 (bytes f (encodePeer p))) (entryBytes f l))) in
       rw (r, e)
 
@@ -194,7 +191,7 @@ module _ (f : ℕ) (s buf₀ : List ℕ) (from : ℕ) (buf : List ℕ) (to at : 
 pub pieces-are : (f : ℕ) (l : List Peer) → every peerFits l ≡ true → pieces f l ≡ entryBytes f l
 unfolding pieces
 pieces-are f [] e = unfold entryBytes repeated written in refl
-pieces-are f (p ∷ l) e = rw (piece-fits f p (every-head peerFits p l e), entry-bytes f p l) (ap (λ (x : List ℕ). written1 (bytes f (encodePeer p)) ++ x) (pieces-are f l (every-tail peerFits p l e)))
+pieces-are f (p ∷ l) e = rw (peer-piece f p (every-head peerFits p l e), entry-bytes f p l) (ap (λ (x : List ℕ). written1 (bytes f (encodePeer p)) ++ x) (pieces-are f l (every-tail peerFits p l e)))
 
 -- what a size says
 pub sized-is : (f : ℕ) (l : List Peer) (n : ℕ) → sized f 0 l ≡ Is n → (every peerFits l ≡ true) × (n ≡ length (entryBytes f l)) × (n ≤ mostBody)

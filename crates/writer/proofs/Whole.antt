@@ -19,6 +19,7 @@ use Rattle.wire.proofs.Putting.{put-on, put-is, put-end, put-start, number-leng
 use Rattle.message.specs.Limits.{mostBody, leastReply, mostKey, mostKind}
 use Rattle.message.specs.Message.{Peer, Record, Message, encodePeer, encodeRecord, heldItems, encode, frame}
 use Rattle.message.specs.Writable.{peerFits, recordFits, heldFits, recordPiece, recordWith, writable}
+use Rattle.message.proofs.Pieces.{record-piece}
 use Rattle.message.proofs.Sizes.{message-bytes, message-length, held-most}
 use Rattle.writer.specs.Writer.{peersOf, messageWith, answerOf, outAfter}
 use Rattle.writer.specs.Inner.{entryBytes, sized, pieces, heldSize, heldPiece, messagePieces, sizeOf}
@@ -47,10 +48,6 @@ record-bytes-none : (r : Record) → recordFits r ≡ false → recordPiece r �
 unfolding recordPiece
 record-bytes-none r e = rw e
 
-held-piece-is : (r : Record) → recordFits r ≡ true → recordPiece r ≡ written (heldItems (some r))
-unfolding recordPiece heldItems written
-held-piece-is r e = rw e (sym (append-nil (written1 (bytes 3 (encodeRecord r)))))
-
 module _ (rkey value : List ℕ) where
   abbrev R : Record
   R = recordWith rkey value
@@ -75,7 +72,7 @@ module _ (rkey value : List ℕ) where
 
     pub held-fit : (n ≡ 0 → ⊥) → Is n ≡ heldSize (held-of t)
     unfolding heldSize heldFits
-    held-fit nz = rw (e, yes, en) (ap (λ (x : List ℕ). Is (length x)) (held-piece-is R yes))
+    held-fit nz = rw (e, yes, en) (ap (λ (x : List ℕ). Is (length x)) (record-piece R yes))
       where
         yes : recordFits R ≡ true
         yes = ⊎-elim (λ q. q) (λ q. absurd (nz (en ∙ ap length (record-bytes-none R q)))) (either (recordFits R))
@@ -186,7 +183,7 @@ module _ (kind : ℕ) (key : List ℕ) (held : Bool) (rkey value closer provider
   held-bytes e = go held e
     where
       go : (t : Bool) → heldFits (held-of rkey value t) ≡ true → heldPiece t rkey value ≡ written (heldItems (held-of rkey value t))
-      go true q = held-piece-is (R rkey value) q
+      go true q = record-piece (R rkey value) q
       go false q = unfold heldItems written in refl
 
   pub pieces-whole : writable M ≡ true → messagePieces kind key held rkey value closer providers ≡ encode M
