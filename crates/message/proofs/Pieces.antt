@@ -1,21 +1,20 @@
 -- The pieces of a message that are written one by one: a record, and a peer with the first n of four addresses. Assumes nothing.
-use Prim.Native.Nat.{ℕ, zero, suc, _+_, _-_, _*_, _≤_, _<_}
-use mathlib.Core.Path.{_≡_, refl, sym, ap, ap₂, subst, _∙_}
-use mathlib.Core.List.{List, [], _∷_, _++_, map, append-assoc, append-nil}
+use Prim.Native.Nat.{ℕ, zero, suc, _+_, _*_, _≤_, _<_}
+use mathlib.Core.Path.{_≡_, refl, sym, ap, _∙_}
+use mathlib.Core.List.{List, [], _∷_, _++_, map}
 use mathlib.Core.Option.{some}
 use mathlib.Core.Logic.{⊎-elim}
-use mathlib.Core.Bool.{Bool, true, false, cond, not, _&&_, and-true}
+use mathlib.Core.Bool.{Bool, true, false, not, _&&_, and-true}
 use native.Mathlib.Omega.{arith}
-use native.Mathlib.Nat.{zero-lt-suc}
 use lib.ListN.{length, take, length-append, length-take}
 use lib.Seq.{take-nil}
 use lib.Dec.{leb, ltb}
 use borrow.Author.Tests.{leb-true, leb-false, le-leb, lt-leb, lt-ltb, le-ltb}
 use Rattle.octets.specs.Search.{every, allOf}
-use Rattle.octets.proofs.Bools.{either, and-fails, and-l, and-r, not-both, all-head, all-rest}
-use Rattle.wire.specs.Items.{Item, num, bytes, minimal, tagged, written1, written, single, repeated, Put}
-use Rattle.wire.proofs.Digits.{minimal-one, minimal-two, minimal-most}
-use Rattle.wire.proofs.Putting.{put-start, put-on, put-is, tagged-length, number-length, bytes-length, bytes-short, single-empty, single-full, written-append, written-one, repeated-append, repeated-snoc}
+use Rattle.octets.proofs.Bools.{either, and-l, and-r, not-both}
+use Rattle.wire.specs.Items.{num, bytes, minimal, tagged, written1, written, single, repeated, Put}
+use Rattle.wire.proofs.Digits.{minimal-one}
+use Rattle.wire.proofs.Putting.{put-on, number-length, bytes-short, single-empty, single-full, written-append, written-one, repeated-append, repeated-snoc}
 use Rattle.message.specs.Limits.{mostKey, mostValue, mostId, mostAddress, mostConnection}
 use Rattle.message.specs.Message.{Peer, Record, encodePeer, encodeRecord, heldItems, frame}
 use Rattle.message.specs.Writable.{addressFits, peerFits, recordFits, recordPiece, peerPiece, recordWith, peerWith}

@@ -2,12 +2,12 @@
 use Prim.Native.Nat.{ℕ}
 use mathlib.Core.Path.{_≡_, refl}
 use mathlib.Core.List.{List, [], _∷_}
-use mathlib.Core.Bool.{true, false}
+use mathlib.Core.Bool.{true}
 use mathlib.Core.Option.{none, some}
 use Rattle.octets.specs.Search.{every, allOf, lastOf}
-use Rattle.wire.specs.Wire.{before, varint, placed, varintAt, endAt, numberAt, fixedAt, bytesAt, contentAt, taggedAt, fieldAt, nextOf, more, fieldsFrom, fieldsAt, fields, fieldsIn, well, numbers, spanIf, spans, nowhere}
+use Rattle.wire.specs.Wire.{before, varint, placed, varintAt, endAt, numberAt, fixedAt, bytesAt, contentAt, taggedAt, fieldAt, nextOf, more, fieldsFrom, fieldsAt, fields, fieldsIn, well, numbers, spanIf, spans}
 use Rattle.wire.specs.Items.{item, items, values, parts, digits, minimal, tagged, written1, written, single, repeated}
-use Rattle.message.specs.Message.{Message, recordOf, connectionOf, peerOf, messageOf, wellFormed, wellMessage, decode, peerItems, encodePeer, recordItems, encodeRecord, heldItems, messageItems, encode, frame}
+use Rattle.message.specs.Message.{Message, recordOf, connectionOf, peerOf, messageOf, wellFormed, wellMessage, decode, heldItems, messageItems, encode, frame}
 use Rattle.message.specs.View.{noRecord, heldAt, fieldsOf, readingOf}
 use Rattle.message.specs.declared.Reading.the-variants.{Whole}
 

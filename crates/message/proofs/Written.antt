@@ -1,18 +1,16 @@
 -- What the reader gives for a body that was written: the positions at which the message's parts stand. Assumes nothing.
 use Prim.Native.Nat.{ℕ, _≤_}
-use mathlib.Core.Path.{_≡_, refl, sym, ap, _∙_}
+use mathlib.Core.Path.{_≡_, refl, ap, _∙_}
 use mathlib.Core.Bool.{Bool, true, false, cond}
 use mathlib.Core.Option.{none, some}
-use mathlib.Core.List.{List}
 use native.Mathlib.Omega.{arith}
 use lib.ListN.{length}
-use lib.Dec.{ltb}
 use borrow.Author.Tests.{le-ltb}
 use Rattle.message.specs.Limits.{mostBody, mostKind}
 use Rattle.message.specs.Message.{Message, messageOf, wellMessage, decode, encode}
 use Rattle.message.specs.View.{fieldsOf, readingOf, meant}
 use Rattle.message.specs.Writable.{writable}
-use Rattle.message.specs.declared.Reading.the-variants.{Whole, Refused}
+use Rattle.message.specs.declared.Reading.the-variants.{Whole}
 use Rattle.message.proofs.Meaning.{all-meant, kind-meant}
 use Rattle.message.proofs.RoundTrip.{fitting, round-trip}
 

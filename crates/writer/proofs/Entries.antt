@@ -1,18 +1,14 @@
 -- Lists that are read entry after entry. Assumes nothing.
 use Prim.Native.Nat.{ℕ, zero, suc, _+_, _-_, _*_, _≤_, _<_}
 use mathlib.Core.Path.{_≡_, refl, sym, ap, _∙_}
-use mathlib.Core.Logic.{⊎-elim}
 use mathlib.Core.List.{List, [], _∷_}
-use mathlib.Core.Bool.{Bool, true, false, cond}
+use mathlib.Core.Bool.{Bool, true, false}
 use native.Mathlib.Omega.{arith}
-use native.Mathlib.Numerals.{add-one}
-use lib.ListN.{length, getD, take, drop, length-drop}
+use lib.ListN.{length, getD, drop, length-drop}
 use lib.Seq.{drop-drop, take-all}
 use lib.Dec.{leb}
 use borrow.Author.Tests.{le-leb, lt-leb, leb-true, leb-false}
 use Rattle.octets.specs.Octets.{part}
-use Rattle.octets.proofs.Bools.{either}
-use Rattle.message.specs.Message.{Peer}
 use Rattle.writer.specs.Writer.{two, entriesFrom, entries, addressSize, addressAt, addressesOf, peerSize, peerAt, peersOf}
 use Rattle.writer.specs.Inner.{countOf}
 

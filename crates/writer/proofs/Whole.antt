@@ -1,23 +1,22 @@
 -- A whole message: its size from its parts, and its bytes from its pieces. Assumes nothing.
-use Prim.Native.Nat.{ℕ, zero, suc, _+_, _-_, _*_, _≤_, _<_}
-use mathlib.Core.Path.{_≡_, refl, sym, ap, ap₂, subst, _∙_}
+use Prim.Native.Nat.{ℕ, _+_, _*_, _≤_, _<_}
+use mathlib.Core.Path.{_≡_, refl, sym, ap, _∙_}
 use mathlib.Core.Logic.{_⊎_, inl, inr, ⊎-elim}
-use mathlib.Core.List.{List, [], _∷_, _++_, map, append-assoc, append-nil}
-use mathlib.Core.Bool.{Bool, true, false, cond, not, _&&_}
+use mathlib.Core.List.{List, [], _++_}
+use mathlib.Core.Bool.{Bool, true, false, cond}
 use mathlib.Core.Option.{Option, none, some}
 use native.Mathlib.Omega.{arith}
 use lib.ListN.{length, length-append}
-use lib.Seq.{sets}
-use lib.Dec.{leb, ltb}
-use borrow.Author.Tests.{le-leb, lt-leb, lt-ltb, le-ltb, leb-true, leb-false}
-use Rattle.octets.specs.Search.{every, allOf}
+use lib.Dec.{leb}
+use borrow.Author.Tests.{le-leb, lt-ltb, le-ltb, leb-true, leb-false}
+use Rattle.octets.specs.Search.{every}
 use Rattle.octets.proofs.Bools.{either, to-false, not-both, all-head, all-rest, all-one-more, all-none}
 use Rattle.refusal.specs.declared.Refusal.the-variants.{SmallBuffer, Unwritable}
-use Rattle.wire.specs.Items.{num, bytes, minimal, tagged, written1, written, single, repeated, past, Put}
+use Rattle.wire.specs.Items.{num, bytes, minimal, tagged, written1, written, single, Put}
 use Rattle.wire.proofs.Digits.{minimal-one, minimal-three, minimal-pos}
-use Rattle.wire.proofs.Putting.{put-on, put-is, put-end, put-start, number-length, bytes-length, bytes-short, single-empty, single-full}
+use Rattle.wire.proofs.Putting.{put-on, put-is, put-end, number-length, bytes-length, bytes-short, single-empty, single-full}
 use Rattle.message.specs.Limits.{mostBody, leastReply, mostKey, mostKind}
-use Rattle.message.specs.Message.{Peer, Record, Message, encodePeer, encodeRecord, heldItems, encode, frame}
+use Rattle.message.specs.Message.{Record, Message, encodeRecord, heldItems, encode, frame}
 use Rattle.message.specs.Writable.{peerFits, recordFits, heldFits, recordPiece, recordWith, writable}
 use Rattle.message.proofs.Pieces.{record-piece}
 use Rattle.message.proofs.Sizes.{message-bytes, message-length, held-most}
@@ -25,7 +24,6 @@ use Rattle.writer.specs.Writer.{peersOf, messageWith, answerOf, outAfter
 use Rattle.writer.specs.Inner.{entryBytes, sized, pieces, heldSize, heldPiece, messagePieces, sizeOf}
 use Rattle.writer.specs.declared.Size.{Size}
 use Rattle.writer.specs.declared.Size.the-variants.{Is, Over}
-use Rattle.writer.specs.declared.Written.{Written}
 use Rattle.writer.specs.declared.Written.the-variants.{Done, Refused}
 use Rattle.writer.proofs.Counting.{sized-is, sized-over, pieces-are}
 

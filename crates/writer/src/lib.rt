@@ -13,12 +13,13 @@ ghost use Rattle.message.specs.Message.{encode, frame};
 ghost use Rattle.message.specs.Writable.{peerPiece, recordWith, writable};
 ghost use Rattle.writer.specs.Writer.{two, addressSize, addressesOf, peerSize, peerAt, peersOf, messageWith, answerOf, outAfter};
 ghost use Rattle.writer.specs.Inner.{countOf, sized, pieces, heldSize, heldPiece, messagePieces, sizeOf};
-
 use refusal::Refusal;
 
 // A reply buffer has at least this many bytes: a body and its length prefix.
 pub const LEAST_REPLY: usize = 16387;
+
 const CLOSER: u8 = 8;
+
 const PROVIDER: u8 = 9;
 
 pub enum Written {
@@ -246,7 +247,15 @@ fn total(key: usize, held: usize, closer: usize, providers: usize) -> Size
 }
 
 // How many bytes the body of a message has, if it may be written.
-fn body_len(kind: u64, key: &[u8], held: bool, rkey: &[u8], value: &[u8], closer: &[u8], providers: &[u8]) -> Size
+fn body_len(
+    kind: u64,
+    key: &[u8],
+    held: bool,
+    rkey: &[u8],
+    value: &[u8],
+    closer: &[u8],
+    providers: &[u8],
+) -> Size
     ensures { λ r. ⌜ r ≡ sizeOf (messageWith kind (now (key .entry)) held (now (rkey .entry)) (now (value .entry)) (now (closer .entry)) (now (providers .entry))) ⌝ }
 {
     if message::MOST_KIND < kind {
@@ -277,7 +286,17 @@ fn put_held(buf: &mut [u8], at: usize, held: bool, rkey: &[u8], value: &[u8]) ->
 }
 
 // Writes a body of size bytes with its prefix.
-fn put_message(out: &mut [u8], size: usize, kind: u64, key: &[u8], held: bool, rkey: &[u8], value: &[u8], closer: &[u8], providers: &[u8]) -> usize
+fn put_message(
+    out: &mut [u8],
+    size: usize,
+    kind: u64,
+    key: &[u8],
+    held: bool,
+    rkey: &[u8],
+    value: &[u8],
+    closer: &[u8],
+    providers: &[u8],
+) -> usize
     ensures { λ r. ⌜ Put (now (out .entry)) 0 (minimal size ++ messagePieces kind (now (key .entry)) held (now (rkey .entry)) (now (value .entry)) (now (closer .entry)) (now (providers .entry))) (now (out .exit)) r ⌝ }
 {
     let a = wire::put_varint(out, 0, size as u64);
@@ -289,7 +308,16 @@ fn put_message(out: &mut [u8], size: usize, kind: u64, key: &[u8], held: bool, r
 }
 
 // Writes a message with its length prefix from the start of out on: its type, its key, its record if it has one, and its peers, given as byte strings.
-pub fn write(out: &mut [u8], kind: u64, key: &[u8], held: bool, rkey: &[u8], value: &[u8], closer: &[u8], providers: &[u8]) -> Written
+pub fn write(
+    out: &mut [u8],
+    kind: u64,
+    key: &[u8],
+    held: bool,
+    rkey: &[u8],
+    value: &[u8],
+    closer: &[u8],
+    providers: &[u8],
+) -> Written
     ensures { λ r. ⌜ (r ≡ answerOf (now (out .entry)) (messageWith kind (now (key .entry)) held (now (rkey .entry)) (now (value .entry)) (now (closer .entry)) (now (providers .entry)))) × (now (out .exit) ≡ outAfter (now (out .entry)) (messageWith kind (now (key .entry)) held (now (rkey .entry)) (now (value .entry)) (now (closer .entry)) (now (providers .entry)))) ⌝ }
 {
     if out.len() < LEAST_REPLY {

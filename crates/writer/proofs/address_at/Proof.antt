@@ -5,10 +5,6 @@ use borrow.Author.Needs.{needs}
 use Rattle.writer.proofs.Entries.{Seeking, seeking, seek-on, seek-end, seek-found}
 use Rattle.writer.proofs.address_at.Statement.{statement}
 use Rattle.writer.proofs.address_at.Tie as tie
-use Rattle.writer.proofs.address_at.Reads as reads
-use Rattle.writer.proofs.address_at.Lts as lts
-use Rattle.writer.proofs.address_size.Reads as address-size-reads
-use Rattle.writer.proofs.first_address.Reads as first-address-reads
 
 abbrev Inv-loop : tie.InvT-loop
 Inv-loop list k i₀ at₀ i at = Seeking list k i at

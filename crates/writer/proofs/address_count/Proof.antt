@@ -5,9 +5,6 @@ use borrow.Author.Needs.{needs}
 use Rattle.writer.proofs.Entries.{Counted, counted-start, counted-on, counted-end, counted-full}
 use Rattle.writer.proofs.address_count.Statement.{statement}
 use Rattle.writer.proofs.address_count.Tie as tie
-use Rattle.writer.proofs.address_count.Reads as reads
-use Rattle.writer.proofs.address_count.Lts as lts
-use Rattle.writer.proofs.address_size.Reads as address-size-reads
 
 abbrev Inv-loop : tie.InvT-loop
 Inv-loop list n₀ at₀ n at = Counted list n at

@@ -1,17 +1,10 @@
 -- `body_len`: each limit, then the sum.
 use mathlib.Core.Path.{sym, _∙_}
-use native.Mathlib.Omega.{arith}
 use Rattle.writer.proofs.Counting.{sized-is}
 use Rattle.writer.proofs.Whole.{body-kind, body-key, body-held, body-closer, body-providers, body-whole, held-says}
 use borrow.Author.Needs.{needs}
 use Rattle.writer.proofs.body_len.Statement.{statement}
 use Rattle.writer.proofs.body_len.Tie as tie
-use Rattle.writer.proofs.body_len.Reads as reads
-use Rattle.writer.proofs.body_len.Lts as lts
-use Rattle.writer.proofs.held_len.Reads as held-len-reads
-use Rattle.writer.proofs.key_len.Reads as key-len-reads
-use Rattle.writer.proofs.list_len.Reads as list-len-reads
-use Rattle.writer.proofs.total.Reads as total-reads
 
 returns : tie.Need-returns
 returns c = body-kind _ _ _ _ _ _ _ (c .if1 .taken)

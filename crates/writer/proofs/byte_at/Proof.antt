@@ -5,8 +5,6 @@ use lib.ListN.{List·getD-eq-default}
 use borrow.Author.Needs.{needs}
 use Rattle.writer.proofs.byte_at.Statement.{statement}
 use Rattle.writer.proofs.byte_at.Tie as tie
-use Rattle.writer.proofs.byte_at.Reads as reads
-use Rattle.writer.proofs.byte_at.Lts as lts
 
 returns : tie.Need-returns
 returns c = (sym (List·getD-eq-default (c .before .args .s .now) 0 (c .if1 .taken)), omega arith)

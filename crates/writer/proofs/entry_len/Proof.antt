@@ -9,13 +9,6 @@ use Rattle.writer.proofs.Counting.{entry-many, entry-few}
 use borrow.Author.Needs.{needs}
 use Rattle.writer.proofs.entry_len.Statement.{statement}
 use Rattle.writer.proofs.entry_len.Tie as tie
-use Rattle.writer.proofs.entry_len.Reads as reads
-use Rattle.writer.proofs.entry_len.Lts as lts
-use Rattle.message.proofs.peer_len.Reads as peer-len-reads
-use Rattle.writer.proofs.address_at.Reads as address-at-reads
-use Rattle.writer.proofs.address_count.Reads as address-count-reads
-use Rattle.writer.proofs.entry_size.Reads as entry-size-reads
-use Rattle.writer.proofs.two_at.Reads as two-at-reads
 
 two-at-requires : tie.Need-two-at-requires
 two-at-requires c κs = search needs

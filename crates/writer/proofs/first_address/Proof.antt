@@ -1,13 +1,9 @@
 -- `first_address`: after its two bytes of length.
 use native.Mathlib.Omega.{arith}
-use Rattle.writer.specs.Writer.{addressSize}
 use Rattle.writer.proofs.Entries.{first-none, first-is, address-two}
 use borrow.Author.Needs.{needs}
 use Rattle.writer.proofs.first_address.Statement.{statement}
 use Rattle.writer.proofs.first_address.Tie as tie
-use Rattle.writer.proofs.first_address.Reads as reads
-use Rattle.writer.proofs.first_address.Lts as lts
-use Rattle.writer.proofs.address_size.Reads as address-size-reads
 
 address-size-requires : tie.Need-address-size-requires
 address-size-requires c κs = search needs

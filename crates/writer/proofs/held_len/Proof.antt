@@ -3,9 +3,6 @@ use Rattle.writer.proofs.Whole.{held-no, held-unfit, held-fit}
 use borrow.Author.Needs.{needs}
 use Rattle.writer.proofs.held_len.Statement.{statement}
 use Rattle.writer.proofs.held_len.Tie as tie
-use Rattle.writer.proofs.held_len.Reads as reads
-use Rattle.writer.proofs.held_len.Lts as lts
-use Rattle.message.proofs.record_len.Reads as record-len-reads
 
 record-len-requires : tie.Need-record-len-requires
 record-len-requires c κs = search needs

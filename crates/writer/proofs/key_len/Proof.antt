@@ -1,13 +1,9 @@
 -- `key_len`: nothing for an empty key.
 use native.Mathlib.Omega.{arith}
-use Rattle.wire.proofs.Digits.{minimal-two}
 use Rattle.writer.proofs.Whole.{key-none, key-some}
 use borrow.Author.Needs.{needs}
 use Rattle.writer.proofs.key_len.Statement.{statement}
 use Rattle.writer.proofs.key_len.Tie as tie
-use Rattle.writer.proofs.key_len.Reads as reads
-use Rattle.writer.proofs.key_len.Lts as lts
-use Rattle.wire.proofs.varint_len.Reads as varint-len-reads
 
 returns : tie.Need-returns
 returns c = key-none _ (c .if1 .taken)

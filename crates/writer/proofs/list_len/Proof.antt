@@ -8,10 +8,6 @@ use Rattle.writer.proofs.Entries.{peer-five}
 use Rattle.writer.proofs.Counting.{Summing, summing, sum-end, sum-unfit, sum-over, sum-on}
 use Rattle.writer.proofs.list_len.Statement.{statement}
 use Rattle.writer.proofs.list_len.Tie as tie
-use Rattle.writer.proofs.list_len.Reads as reads
-use Rattle.writer.proofs.list_len.Lts as lts
-use Rattle.writer.proofs.entry_len.Reads as entry-len-reads
-use Rattle.writer.proofs.entry_size.Reads as entry-size-reads
 
 abbrev Inv-loop : tie.InvT-loop
 Inv-loop field s sum₀ at₀ sum at = Summing field s sum at

@@ -1,5 +1,5 @@
 -- `put_entry`: the peer at the start of a list, with its addresses one by one.
-use mathlib.Core.Path.{sym, ap, _∙_}
+use mathlib.Core.Path.{sym, ap}
 use native.Mathlib.Omega.{arith}
 use Rattle.wire.proofs.Putting.{put-start, put-is}
 use Rattle.message.specs.Writable.{peerPiece}
@@ -8,13 +8,6 @@ use Rattle.writer.proofs.Counting.{entry-many, entry-few}
 use borrow.Author.Needs.{needs}
 use Rattle.writer.proofs.put_entry.Statement.{statement}
 use Rattle.writer.proofs.put_entry.Tie as tie
-use Rattle.writer.proofs.put_entry.Reads as reads
-use Rattle.writer.proofs.put_entry.Lts as lts
-use Rattle.message.proofs.put_peer.Reads as put-peer-reads
-use Rattle.writer.proofs.address_at.Reads as address-at-reads
-use Rattle.writer.proofs.address_count.Reads as address-count-reads
-use Rattle.writer.proofs.entry_size.Reads as entry-size-reads
-use Rattle.writer.proofs.two_at.Reads as two-at-reads
 
 two-at-requires : tie.Need-two-at-requires
 two-at-requires c κs = search needs

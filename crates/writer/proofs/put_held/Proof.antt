@@ -5,9 +5,6 @@ use Rattle.writer.proofs.Whole.{piece-yes, piece-no}
 use borrow.Author.Needs.{needs}
 use Rattle.writer.proofs.put_held.Statement.{statement}
 use Rattle.writer.proofs.put_held.Tie as tie
-use Rattle.writer.proofs.put_held.Reads as reads
-use Rattle.writer.proofs.put_held.Lts as lts
-use Rattle.message.proofs.put_record.Reads as put-record-reads
 
 put-record-requires : tie.Need-put-record-requires
 put-record-requires c κs = search needs

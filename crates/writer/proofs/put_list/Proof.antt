@@ -9,10 +9,6 @@ use Rattle.writer.proofs.Entries.{peer-five}
 use Rattle.writer.proofs.Counting.{Putting, putting, put-end, put-next}
 use Rattle.writer.proofs.put_list.Statement.{statement}
 use Rattle.writer.proofs.put_list.Tie as tie
-use Rattle.writer.proofs.put_list.Reads as reads
-use Rattle.writer.proofs.put_list.Lts as lts
-use Rattle.writer.proofs.entry_size.Reads as entry-size-reads
-use Rattle.writer.proofs.put_entry.Reads as put-entry-reads
 
 abbrev Inv-loop : tie.InvT-loop
 Inv-loop buf₀ from field s to₀ at₀ buf to at = Putting field s buf₀ from buf to at

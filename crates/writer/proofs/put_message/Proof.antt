@@ -3,13 +3,6 @@ use Rattle.writer.proofs.Whole.{six-pieces}
 use borrow.Author.Needs.{needs}
 use Rattle.writer.proofs.put_message.Statement.{statement}
 use Rattle.writer.proofs.put_message.Tie as tie
-use Rattle.writer.proofs.put_message.Reads as reads
-use Rattle.writer.proofs.put_message.Lts as lts
-use Rattle.wire.proofs.put_number.Reads as put-number-reads
-use Rattle.wire.proofs.put_single.Reads as put-single-reads
-use Rattle.wire.proofs.put_varint.Reads as put-varint-reads
-use Rattle.writer.proofs.put_held.Reads as put-held-reads
-use Rattle.writer.proofs.put_list.Reads as put-list-reads
 
 put-varint-requires : tie.Need-put-varint-requires
 put-varint-requires c κs = search needs

@@ -3,8 +3,6 @@ use borrow.Author.Tests.{le-leb, lt-leb}
 use borrow.Author.Needs.{needs}
 use Rattle.writer.proofs.total.Statement.{statement}
 use Rattle.writer.proofs.total.Tie as tie
-use Rattle.writer.proofs.total.Reads as reads
-use Rattle.writer.proofs.total.Lts as lts
 
 add-n : tie.Need-add-n
 add-n c = search needs

@@ -4,9 +4,6 @@ use Rattle.writer.proofs.Entries.{two-is}
 use borrow.Author.Needs.{needs}
 use Rattle.writer.proofs.two_at.Statement.{statement}
 use Rattle.writer.proofs.two_at.Tie as tie
-use Rattle.writer.proofs.two_at.Reads as reads
-use Rattle.writer.proofs.two_at.Lts as lts
-use Rattle.writer.proofs.byte_at.Reads as byte-at-reads
 
 byte-at-requires : tie.Need-byte-at-requires
 byte-at-requires c κs = search needs

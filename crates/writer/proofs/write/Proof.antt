@@ -1,14 +1,9 @@
 -- `write`: 1, then 21, else the whole message.
 use mathlib.Core.Path.{sym, _∙_}
-use native.Mathlib.Omega.{arith}
 use Rattle.writer.proofs.Whole.{write-small, write-over, write-done}
 use borrow.Author.Needs.{needs}
 use Rattle.writer.proofs.write.Statement.{statement}
 use Rattle.writer.proofs.write.Tie as tie
-use Rattle.writer.proofs.write.Reads as reads
-use Rattle.writer.proofs.write.Lts as lts
-use Rattle.writer.proofs.body_len.Reads as body-len-reads
-use Rattle.writer.proofs.put_message.Reads as put-message-reads
 
 returns : tie.Need-returns
 returns c = write-small _ _ _ _ _ _ _ _ (c .if1 .taken)
