@@ -1,21 +1,20 @@
 -- The one pass over a body's fields comes to what the definitions say. Assumes nothing.
 use Prim.Native.Nat.{ℕ}
-use mathlib.Core.Path.{_≡_, refl, sym, ap, _∙_}
-use mathlib.Core.List.{List, [], _∷_, map}
-use mathlib.Core.Bool.{Bool, true, false, cond, _&&_, not}
+use mathlib.Core.Path.{_≡_, refl, sym, _∙_}
+use mathlib.Core.List.{List, _∷_}
+use mathlib.Core.Bool.{Bool, true, false}
 use lib.ListN.{length, take}
-use lib.Dec.{eqb, ltb}
+use lib.Dec.{eqb}
 use native.Mathlib.Omega.{arith}
 use Prim.Native.Nat.{_<_, _≤_}
 use borrow.Author.Tests.{eqb-true, lt-ltb, le-ltb}
 use Rattle.octets.specs.Search.{every, allOf, lastOf}
 use Rattle.octets.proofs.Bools.{and-fails}
 use Rattle.refusal.specs.declared.Refusal.the-variants.{TooLong, Malformed, UnknownType}
-use Rattle.wire.specs.Wire.{fieldAt, nextOf, fieldsAt, fields, fieldsIn, fine, well, numbers, spanIf, consFound, spans, nowhere}
+use Rattle.wire.specs.Wire.{fieldAt, nextOf, fieldsAt, fields, fieldsIn, fine, well, numbers, spanIf, spans, nowhere}
 use Rattle.wire.specs.declared.Span.{Span}
 use Rattle.wire.specs.declared.Field.{Field}
 use Rattle.wire.specs.declared.Field.the-variants.{End, Bad, Number, Bytes, Other}
-use Rattle.wire.specs.declared.Next.{Next}
 use Rattle.wire.specs.declared.Next.the-variants.{Done, Broken as Stuck, On}
 use Rattle.wire.proofs.Scan.{at-done, at-broken, at-on}
 use Rattle.message.specs.Limits.{mostBody, mostKind}

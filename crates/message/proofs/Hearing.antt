@@ -1,9 +1,9 @@
 -- The walk that finds the ids of the first entries of closerPeers. Assumes nothing.
-use Prim.Native.Nat.{ℕ, zero, suc, _+_, _-_, _≤_, _<_}
-use mathlib.Core.Path.{_≡_, refl, sym, ap, _∙_}
+use Prim.Native.Nat.{ℕ, suc, _+_, _≤_, _<_}
+use mathlib.Core.Path.{_≡_, refl, sym, _∙_}
 use mathlib.Core.List.{List, [], _∷_, _++_, map, append-assoc, append-nil}
 use native.Mathlib.Omega.{arith}
-use lib.ListN.{length, take, set, replicate, length-append, length-map}
+use lib.ListN.{length, set, replicate, length-append, length-map}
 use lib.Seq.{sets, take-at, take-all}
 use Rattle.wire.specs.Wire.{fields, fieldsAt, spans, firstOf}
 use Rattle.wire.specs.declared.Span.{Span}

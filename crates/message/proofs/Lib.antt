@@ -5,3 +5,5 @@ pub mod Views
 pub mod RoundTrip
 pub mod Sizes
 pub mod Pieces
+pub mod Written
+pub mod Vectors

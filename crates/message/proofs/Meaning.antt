@@ -1,19 +1,19 @@
 -- The parts at a view's positions are what the body says, and they lie inside it. Assumes nothing.
-use Prim.Native.Nat.{ℕ, _≤_, _<_}
-use mathlib.Core.Path.{_≡_, refl, sym, ap, ap₂, subst, _∙_}
+use Prim.Native.Nat.{ℕ, _≤_}
+use mathlib.Core.Path.{_≡_, refl, sym, ap, ap₂, _∙_}
 use mathlib.Core.List.{List, [], _∷_, map}
-use mathlib.Core.Bool.{Bool, true, false, cond, _&&_}
-use mathlib.Core.Option.{Option, none, some}
+use mathlib.Core.Bool.{Bool, _&&_}
+use mathlib.Core.Option.{none, some}
 use native.Mathlib.Omega.{arith}
-use lib.ListN.{length, take}
+use lib.ListN.{length}
 use Rattle.octets.specs.Octets.{part}
-use Rattle.octets.specs.Search.{every, allOf, lastOf}
-use Rattle.wire.specs.Wire.{fields, fieldsAt, fieldsIn, well, numbers, spans, nowhere}
-use Rattle.wire.specs.Items.{cut, items, isField, values, parts}
+use Rattle.octets.specs.Search.{every, lastOf}
+use Rattle.wire.specs.Wire.{fields, fieldsIn, spans, nowhere}
+use Rattle.wire.specs.Items.{cut, items, parts}
 use Rattle.wire.specs.declared.Span.{Span}
 use Rattle.wire.proofs.Reach.{Inside, AllInside, spans-inside}
 use Rattle.wire.proofs.Within.{items-well, items-values, items-parts, in-well, in-values, in-parts, in-inside}
-use Rattle.message.specs.Message.{Peer, Record, Message, recordOf, connectionOf, peerOf, messageOf, wellFormed, wellMessage}
+use Rattle.message.specs.Message.{recordOf, peerOf, messageOf, wellFormed, wellMessage}
 use Rattle.message.specs.View.{noRecord, heldAt, fieldsOf, idAt, addressesAt, connectionAt, closerAt, providersAt, heldMeant, peerMeant, meant}
 use Rattle.message.specs.Inner.{wellIn, wellFields}
 use Rattle.message.specs.declared.Held.{Held}

@@ -1,24 +1,25 @@
 -- The pieces of a message that are written one by one: a record, and a peer with the first n of four addresses. Assumes nothing.
-use Prim.Native.Nat.{ℕ, zero, suc, _+_, _-_, _*_, _≤_, _<_}
-use mathlib.Core.Path.{_≡_, refl, sym, ap, ap₂, subst, _∙_}
-use mathlib.Core.List.{List, [], _∷_, _++_, append-assoc, append-nil}
+use Prim.Native.Nat.{ℕ, zero, suc, _+_, _*_, _≤_, _<_}
+use mathlib.Core.Path.{_≡_, refl, sym, ap, _∙_}
+use mathlib.Core.List.{List, [], _∷_, _++_, map}
+use mathlib.Core.Option.{some}
 use mathlib.Core.Logic.{⊎-elim}
-use mathlib.Core.Bool.{Bool, true, false, cond, not, _&&_, and-true}
+use mathlib.Core.Bool.{Bool, true, false, not, _&&_, and-true}
 use native.Mathlib.Omega.{arith}
-use native.Mathlib.Nat.{zero-lt-suc}
 use lib.ListN.{length, take, length-append, length-take}
 use lib.Seq.{take-nil}
 use lib.Dec.{leb, ltb}
 use borrow.Author.Tests.{leb-true, leb-false, le-leb, lt-leb, lt-ltb, le-ltb}
 use Rattle.octets.specs.Search.{every, allOf}
-use Rattle.octets.proofs.Bools.{either, and-fails, and-l, and-r, not-both, all-head, all-rest}
-use Rattle.wire.specs.Items.{Item, num, bytes, minimal, tagged, written1, written, single, repeated, Put}
-use Rattle.wire.proofs.Digits.{minimal-one, minimal-two, minimal-most}
-use Rattle.wire.proofs.Putting.{put-start, put-on, put-is, tagged-length, number-length, bytes-length, bytes-short, single-empty, single-full, written-append, written-one, repeated-append}
+use Rattle.octets.proofs.Bools.{either, and-l, and-r, not-both}
+use Rattle.wire.specs.Items.{num, bytes, minimal, tagged, written1, written, single, repeated, Put}
+use Rattle.wire.proofs.Digits.{minimal-one}
+use Rattle.wire.proofs.Putting.{put-on, number-length, bytes-short, single-empty, single-full, written-append, written-one, repeated-append, repeated-snoc}
 use Rattle.message.specs.Limits.{mostKey, mostValue, mostId, mostAddress, mostConnection}
-use Rattle.message.specs.Message.{Peer, Record, encodePeer, encodeRecord}
+use Rattle.message.specs.Message.{Peer, Record, encodePeer, encodeRecord, heldItems, frame}
 use Rattle.message.specs.Writable.{addressFits, peerFits, recordFits, recordPiece, peerPiece, recordWith, peerWith}
 use Rattle.message.specs.Inner.{nth, nthBytes, nthOver, addressBytes, Fitting4}
+use Rattle.message.proofs.Hearing.{map-append}
 use Rattle.message.proofs.Sizes.{peer-bytes, record-bytes, fitting-record, fitting-peer, record-most, peer-most}
 
 -- ---- sizes of a field
@@ -290,3 +291,23 @@ module _ (id : List ℕ) (n : ℕ) (a b c d : List ℕ) (connection : ℕ) where
   pub peer-none : peerFits P ≡ false → (f : ℕ) → peerPiece f P ≡ []
   unfolding peerPiece
   peer-none e f = rw e
+
+-- ---- pieces that fit make a message
+pub record-piece : (r : Record) → recordFits r ≡ true → recordPiece r ≡ written (heldItems (some r))
+unfolding recordPiece heldItems
+record-piece r e = rw e (sym (written-one (bytes 3 (encodeRecord r))))
+
+pub peer-piece : (f : ℕ) (p : Peer) → peerFits p ≡ true → peerPiece f p ≡ written1 (bytes f (encodePeer p))
+unfolding peerPiece
+peer-piece f p e = rw e
+
+-- one entry more
+pub entries-more : (f : ℕ) (l : List Peer) (p : Peer) → peerFits p ≡ true
+    → written (repeated f (map encodePeer (l ++ (p ∷ [])))) ≡ written (repeated f (map encodePeer l)) ++ peerPiece f p
+entries-more f l p e = rw (map-append encodePeer l (p ∷ []), peer-piece f p e) (repeated-snoc f (map encodePeer l) (encodePeer p))
+
+-- a body after its length prefix
+pub frame-put : (out : List ℕ) (n : ℕ) (body out₁ : List ℕ) (r₁ : ℕ) (out₂ : List ℕ) (r₂ : ℕ) → n ≡ length body → Put out 0 (minimal n) out₁ r₁ → Put out₁ r₁ body out₂ r₂
+    → Put out 0 (frame body) out₂ r₂
+unfolding frame
+frame-put out n body out₁ r₁ out₂ r₂ e p q = rw e at (put-on out 0 (minimal n) out₁ r₁ body out₂ r₂ p q)

@@ -1,18 +1,18 @@
 -- What is written is read back, as the same message. Assumes nothing.
 use Prim.Native.Nat.{ℕ, _≤_, _<_, _^_}
-use mathlib.Core.Path.{_≡_, refl, sym, ap, _∙_}
+use mathlib.Core.Path.{_≡_, refl, _∙_}
 use mathlib.Core.List.{List, [], _∷_, _++_, map, append-nil}
-use mathlib.Core.Bool.{Bool, true, false, cond}
+use mathlib.Core.Bool.{true, false}
 use mathlib.Core.Option.{Option, none, some}
 use native.Mathlib.Omega.{arith}
 use lib.ListN.{length}
-use lib.Dec.{eqb, leb}
+use lib.Dec.{eqb}
 use borrow.Author.Tests.{le-leb, leb-true}
 use Rattle.octets.specs.Search.{every, allOf, lastOf}
 use Rattle.octets.proofs.Bools.{all-head, all-rest}
 use Rattle.octets.proofs.Searching.{every-head, every-tail}
-use Rattle.wire.specs.Items.{Item, num, bytes, items, isField, values, parts, written, single, repeated}
-use Rattle.wire.proofs.RoundTrip.{Good, AllGood, read-back, good-append, good-well, values-append, parts-append, Short, parts-short, single-good, repeated-good, values-single, values-repeated, single-other, single-same, repeated-other, repeated-same}
+use Rattle.wire.specs.Items.{Item, num, items, values, parts, written, single, repeated}
+use Rattle.wire.proofs.RoundTrip.{AllGood, read-back, good-append, good-well, values-append, parts-append, Short, parts-short, single-good, repeated-good, values-single, values-repeated, single-other, single-same, repeated-other, repeated-same}
 use Rattle.message.specs.Limits.{mostBody, mostKind, mostConnection}
 use Rattle.message.specs.Message.{Peer, Record, Message, recordOf, connectionOf, peerOf, messageOf, wellFormed, wellMessage, decode, peerItems, encodePeer, recordItems, encodeRecord, heldItems, messageItems, encode}
 use Rattle.message.specs.Writable.{peerFits, writable}

@@ -1,21 +1,20 @@
 -- The largest sizes of document 01: a peer is at most 595 bytes with tag and length, the largest GET_VALUE reply body 14,087. Assumes nothing.
-use Prim.Native.Nat.{ℕ, zero, suc, _+_, _*_, _≤_, _<_}
-use mathlib.Core.Path.{_≡_, refl, sym, ap, _∙_}
+use Prim.Native.Nat.{ℕ, _+_, _*_, _≤_, _<_}
+use mathlib.Core.Path.{_≡_, ap}
 use mathlib.Core.List.{List, [], _∷_, _++_, map, append-nil}
 use mathlib.Core.Logic.{⊎-elim}
-use mathlib.Core.Bool.{Bool, true, false, cond}
+use mathlib.Core.Bool.{true}
 use mathlib.Core.Option.{Option, none, some}
 use native.Mathlib.Omega.{arith}
 use lib.ListN.{length, length-append}
-use lib.Dec.{leb, eqb}
 use borrow.Author.Tests.{leb-true}
-use Rattle.octets.specs.Search.{every, allOf}
-use Rattle.octets.proofs.Bools.{either, all-head, all-rest, eq-or-ne}
+use Rattle.octets.specs.Search.{every}
+use Rattle.octets.proofs.Bools.{all-head, all-rest, eq-or-ne}
 use Rattle.octets.proofs.Searching.{every-head, every-tail}
-use Rattle.wire.specs.Items.{Item, num, bytes, minimal, tagged, written1, written, single, repeated}
+use Rattle.wire.specs.Items.{Item, num, bytes, written1, written, single, repeated}
 use Rattle.wire.proofs.Digits.{minimal-one, minimal-two}
 use Rattle.wire.proofs.Putting.{number-length, bytes-length, single-empty, single-full, written-append, written-one}
-use Rattle.message.specs.Limits.{mostBody, mostKey, mostValue, mostId, mostAddress, mostAddresses, mostKind, mostConnection}
+use Rattle.message.specs.Limits.{mostKey, mostValue, mostId, mostAddresses, mostKind, mostConnection}
 use Rattle.message.specs.Message.{Peer, Record, Message, peerItems, encodePeer, recordItems, encodeRecord, heldItems, messageItems, encode}
 use Rattle.message.specs.Writable.{addressFits, peerFits, recordFits, heldFits}
 

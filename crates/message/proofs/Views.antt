@@ -1,10 +1,10 @@
 -- The theorems of the reader: it gives the message that the definitions give, at positions inside the body, and refuses with 5 just what is malformed.
 -- Assumes nothing.
 use Prim.Native.Nat.{ℕ, zero, suc, _≤_, _<_}
-use mathlib.Core.Path.{_≡_, refl, sym, ap, subst, _∙_}
+use mathlib.Core.Path.{_≡_, refl, subst}
 use mathlib.Core.List.{List, [], _∷_, map}
 use mathlib.Core.Bool.{Bool, true, false, cond, not}
-use mathlib.Core.Option.{Option, none, some}
+use mathlib.Core.Option.{none, some}
 use native.Mathlib.Omega.{arith}
 use lib.ListN.{length, take}
 use lib.Dec.{ltb}
@@ -13,15 +13,14 @@ use Rattle.refusal.specs.declared.Refusal.the-variants.{TooLong, Malformed, Unk
 use Rattle.wire.specs.Wire.{fields, fieldsAt, fieldsIn, spans, firstOf, walk}
 use Rattle.wire.specs.Items.{cut}
 use Rattle.wire.specs.declared.Span.{Span}
-use Rattle.wire.proofs.Reach.{Inside, AllInside}
 use Rattle.wire.proofs.Scan.{walked}
 use Rattle.message.specs.Limits.{mostBody, mostKind, mostHeard}
-use Rattle.message.specs.Message.{Peer, Message, peerOf, messageOf, wellMessage, decode}
+use Rattle.message.specs.Message.{Peer, messageOf, wellMessage, decode}
 use Rattle.message.specs.View.{fieldsOf, readingOf, idAt, closerAt, providersAt, addressesAt, heardAt, peerMeant, meant}
 use Rattle.message.specs.declared.Fields.{Fields}
 use Rattle.message.specs.declared.Reading.{Reading}
 use Rattle.message.specs.declared.Reading.the-variants.{Whole, Refused}
-use Rattle.message.proofs.Meaning.{all-meant, inside, closer-meant, peer-meant, peers-meant, FieldsIn, fields-inside, kind-meant}
+use Rattle.message.proofs.Meaning.{all-meant, inside, closer-meant, FieldsIn, fields-inside, kind-meant}
 
 -- for octets
 map-take : {A B : Type 0} (g : A → B) (k : ℕ) (l : List A) → take k (map g l) ≡ map g (take k l)

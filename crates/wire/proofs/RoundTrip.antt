@@ -1,22 +1,19 @@
 -- The fields that are written are the fields that are read. Assumes nothing.
 use Prim.Native.Nat.{ℕ, zero, suc, _+_, _-_, _*_, _/_, _%_, _^_, _≤_, _<_}
-use mathlib.Core.Path.{_≡_, refl, sym, ap, subst, _∙_}
+use mathlib.Core.Path.{_≡_, refl, sym, ap, _∙_}
 use mathlib.Core.List.{List, [], _∷_, _++_, map, append-assoc, append-nil}
 use mathlib.Core.Bool.{Bool, true, false, cond}
 use native.Mathlib.Omega.{arith}
-use lib.ListN.{length, take, drop, length-append}
+use lib.ListN.{length, drop, length-append}
 use lib.Seq.{drop-at, take-at}
 use lib.Dec.{ltb, eqb}
 use borrow.Author.Tests.{lt-ltb, le-ltb, ltb-true, ltb-false, ne-eqb}
 use Rattle.octets.specs.Octets.{part}
 use Rattle.octets.specs.Search.{every, lastOf}
 use Rattle.wire.specs.Wire.{before, varint, placed, varintAt, numberAt, bytesAt, contentAt, fieldAt, nextOf, fieldsAt, fields}
-use Rattle.wire.specs.Items.{Item, num, bytes, skipped, bad, cut, item, items, isField, consNum, values, consBytes, parts, digits, minimal, tagged, written1, written, single, repeated}
-use Rattle.wire.specs.declared.Varint.{Varint}
-use Rattle.wire.specs.declared.Varint.the-variants.{Value, Bad}
-use Rattle.wire.specs.declared.Field.{Field}
-use Rattle.wire.specs.declared.Field.the-variants.{End, Bad as Malformed, Number, Bytes, Other}
-use Rattle.wire.specs.declared.Next.the-variants.{Done, Broken, On}
+use Rattle.wire.specs.Items.{Item, num, bytes, skipped, bad, item, items, isField, values, parts, digits, minimal, tagged, written1, written, single, repeated}
+use Rattle.wire.specs.declared.Varint.the-variants.{Value}
+use Rattle.wire.specs.declared.Field.the-variants.{Number, Bytes}
 use Rattle.wire.proofs.Reading.{field-end, field-good, end-in}
 use Rattle.wire.proofs.Scan.{at-done, at-on}
 use Rattle.wire.proofs.Digits.{digits-last, digits-more, fewer, digits-short, minimal-pos}

@@ -7,7 +7,7 @@ use native.Mathlib.Omega.{arith}
 use lib.ListN.{length}
 use lib.Dec.{eqb}
 use Rattle.octets.specs.Search.{every, lastOf}
-use Rattle.wire.specs.Wire.{fieldAt, nextOf, more, fieldsFrom, fieldsAt, fine, well, numbers, consNumber, spanIf, consFound, spans, nowhere, firstOf, walk, onFound}
+use Rattle.wire.specs.Wire.{fieldAt, nextOf, more, fieldsFrom, fieldsAt, fine, well, numbers, spanIf, spans, nowhere, firstOf, walk}
 use Rattle.wire.specs.declared.Span.{Span}
 use Rattle.wire.specs.declared.Field.{Field}
 use Rattle.wire.specs.declared.Field.the-variants.{End, Bad as Malformed, Number, Bytes, Other}

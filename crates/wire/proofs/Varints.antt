@@ -1,9 +1,8 @@
 -- Laws of varints by position, and of the loop that reads one. Assumes nothing.
 use Prim.Native.Nat.{ℕ, zero, suc, _+_, _-_, _*_, _^_, _≤_, _<_}
-use mathlib.Core.Path.{_≡_, refl, sym, ap, _∙_}
-use mathlib.Core.Logic.{⊎-elim}
+use mathlib.Core.Path.{_≡_, refl, ap, _∙_}
 use mathlib.Core.List.{List, []}
-use mathlib.Core.Bool.{Bool, true, false, cond}
+use mathlib.Core.Bool.{Bool, true, false}
 use native.Mathlib.Omega.{arith}
 use native.Mathlib.Nat.{pow-suc, pow-le-pow-right, mul-add, mul-comm, mul-assoc}
 use native.Mathlib.Numerals.{add-one}
@@ -12,7 +11,6 @@ use lib.Seq.{drop-cons}
 use lib.Arith.{digits-lt}
 use lib.Dec.{ltb, lit<}
 use borrow.Author.Tests.{lt-ltb, le-ltb, ltb-true, ltb-false}
-use Rattle.octets.proofs.Bools.{either}
 use Rattle.wire.specs.Wire.{before, varint, placed, varintAt}
 use Rattle.wire.specs.Inner.{resumed, tenthAt}
 use Rattle.wire.specs.declared.Varint.{Varint}

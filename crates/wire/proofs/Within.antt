@@ -1,11 +1,11 @@
 -- The fields of a part of a string, read in place: they are the fields of that part by itself, with their positions moved. Assumes nothing.
 use Prim.Native.Nat.{ℕ, zero, suc, _+_, _-_, _/_, _%_, _^_, _≤_, _<_}
-use mathlib.Core.Path.{_≡_, refl, sym, ap, _∙_}
+use mathlib.Core.Path.{_≡_, refl, sym, _∙_}
 use mathlib.Core.List.{List, [], _∷_, map}
 use mathlib.Core.Bool.{Bool, true, false, cond}
 use mathlib.Core.Logic.{⊎-elim}
 use native.Mathlib.Omega.{arith}
-use lib.ListN.{length, take, drop, length-drop, length-take}
+use lib.ListN.{length, take, drop, length-drop}
 use lib.Seq.{drop-drop, take-nil, length-take-le}
 use lib.Dec.{leb, ltb, eqb}
 use borrow.Author.Tests.{le-leb, lt-leb, leb-true, leb-false, ltb-true, ltb-false, lt-ltb, le-ltb}
@@ -13,8 +13,8 @@ use Rattle.octets.specs.Octets.{part}
 use Rattle.octets.specs.Search.{every}
 use Rattle.octets.proofs.Bools.{either, cond-ap}
 use Rattle.octets.proofs.Parts.{part-part, part-length}
-use Rattle.wire.specs.Wire.{varint, placed, varintAt, onVarint, endAt, onEnding, numberAt, fixedAt, bytesAt, contentAt, taggedAt, fieldAt, nextOf, more, fieldsFrom, fieldsAt, fields, fieldsIn, fine, well, consNumber, numbers, spanIf, consFound, spans}
-use Rattle.wire.specs.Items.{Item, num, bytes, skipped, bad, cut, item, items, isField, consNum, values, consBytes, parts}
+use Rattle.wire.specs.Wire.{varint, placed, varintAt, onVarint, endAt, onEnding, numberAt, fixedAt, bytesAt, contentAt, taggedAt, fieldAt, nextOf, more, fieldsFrom, fieldsAt, fields, fieldsIn, well, numbers, spanIf, consFound, spans}
+use Rattle.wire.specs.Items.{bytes, bad, cut, item, items, isField, values, parts}
 use Rattle.wire.specs.declared.Span.{Span}
 use Rattle.wire.specs.declared.Varint.{Varint}
 use Rattle.wire.specs.declared.Varint.the-variants.{Value, Bad}
@@ -22,11 +22,8 @@ use Rattle.wire.specs.declared.Ending.{Ending}
 use Rattle.wire.specs.declared.Ending.the-variants.{Ends, Past}
 use Rattle.wire.specs.declared.Field.{Field}
 use Rattle.wire.specs.declared.Field.the-variants.{End, Bad as Malformed, Number, Bytes, Other}
-use Rattle.wire.specs.declared.Next.{Next}
-use Rattle.wire.specs.declared.Next.the-variants.{Done, Broken, On}
-use Rattle.wire.specs.declared.Found.{Found}
 use Rattle.wire.specs.declared.Found.the-variants.{At, Nothing}
-use Rattle.wire.proofs.Reach.{Inside, AllInside, spans-inside}
+use Rattle.wire.proofs.Reach.{AllInside, spans-inside}
 use Rattle.wire.proofs.Scan.{fuel-free}
 
 -- ---- moved by a

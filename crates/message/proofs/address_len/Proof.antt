@@ -3,9 +3,6 @@ use native.Mathlib.Omega.{arith}
 use Rattle.message.proofs.Pieces.{over-short, nth-size, nth-size-none}
 use Rattle.message.proofs.address_len.Statement.{statement}
 use Rattle.message.proofs.address_len.Tie as tie
-use Rattle.message.proofs.address_len.Reads as reads
-use Rattle.message.proofs.address_len.Lts as lts
-use Rattle.message.proofs.field_len.Reads as field-len-reads
 
 returns : tie.Need-returns
 returns c = nth-size-none _ _ _ (c .if1 .taken)

@@ -3,8 +3,6 @@ use native.Mathlib.Omega.{arith}
 use Rattle.message.proofs.Pieces.{over-none, over-some}
 use Rattle.message.proofs.address_over.Statement.{statement}
 use Rattle.message.proofs.address_over.Tie as tie
-use Rattle.message.proofs.address_over.Reads as reads
-use Rattle.message.proofs.address_over.Lts as lts
 
 returns : tie.Need-returns
 returns c = over-none _ _ _ (c .if1 .taken)

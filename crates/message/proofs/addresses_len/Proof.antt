@@ -3,9 +3,6 @@ use Rattle.message.proofs.Pieces.{four-sum}
 use borrow.Author.Needs.{needs}
 use Rattle.message.proofs.addresses_len.Statement.{statement}
 use Rattle.message.proofs.addresses_len.Tie as tie
-use Rattle.message.proofs.addresses_len.Reads as reads
-use Rattle.message.proofs.addresses_len.Lts as lts
-use Rattle.message.proofs.address_len.Reads as address-len-reads
 
 address-len-requires : tie.Need-address-len-requires
 address-len-requires c κs = search needs

@@ -5,10 +5,6 @@ use borrow.Author.Needs.{needs}
 use Rattle.message.proofs.Hearing.{Walking, walking, walk-on, walk-end, walk-full}
 use Rattle.message.proofs.closer_ids.Statement.{statement}
 use Rattle.message.proofs.closer_ids.Tie as tie
-use Rattle.message.proofs.closer_ids.Reads as reads
-use Rattle.message.proofs.closer_ids.Lts as lts
-use Rattle.message.proofs.closer_peer.Reads as closer-peer-reads
-use Rattle.message.proofs.peer_id.Reads as peer-id-reads
 
 abbrev Inv-loop : tie.InvT-loop
 Inv-loop body starts₀ ends₀ n₀ from₀ starts ends n from = Walking body starts ends n from

@@ -1,14 +1,11 @@
 -- `field_len`: a tag, a length, and the bytes.
 use Prim.Native.Nat.{_+_, _*_}
 use native.Mathlib.Omega.{arith}
-use Rattle.wire.proofs.Digits.{minimal-most, minimal-three}
+use Rattle.wire.proofs.Digits.{minimal-three}
 use Rattle.message.proofs.Pieces.{field-sum}
 use borrow.Author.Needs.{needs}
 use Rattle.message.proofs.field_len.Statement.{statement}
 use Rattle.message.proofs.field_len.Tie as tie
-use Rattle.message.proofs.field_len.Reads as reads
-use Rattle.message.proofs.field_len.Lts as lts
-use Rattle.wire.proofs.varint_len.Reads as varint-len-reads
 
 mul-varint-len : tie.Need-mul-varint-len
 mul-varint-len c = search needs

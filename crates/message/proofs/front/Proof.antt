@@ -5,8 +5,6 @@ use native.Mathlib.Omega.{arith}
 use borrow.Author.Needs.{needs}
 use Rattle.message.proofs.front.Statement.{statement}
 use Rattle.message.proofs.front.Tie as tie
-use Rattle.message.proofs.front.Reads as reads
-use Rattle.message.proofs.front.Lts as lts
 
 returns : tie.Need-returns
 returns c = sym (take-all _ _ (c .if1 .taken))

@@ -9,11 +9,6 @@ use Rattle.message.specs.Inner.{finished, gathered}
 use Rattle.message.proofs.Gathering.{gather-start, gather-done, gather-stuck, gather-on, gather-broken}
 use Rattle.message.proofs.gather.Statement.{statement}
 use Rattle.message.proofs.gather.Tie as tie
-use Rattle.message.proofs.gather.Reads as reads
-use Rattle.message.proofs.gather.Lts as lts
-use Rattle.message.proofs.with_field.Reads as with-field-reads
-use Rattle.wire.proofs.after.Reads as after-reads
-use Rattle.wire.proofs.read_field.Reads as read-field-reads
 
 abbrev Inv-loop : tie.InvT-loop
 Inv-loop s m₀ at₀ m at = finished s m (fieldsAt s at) ≡ gathered s

@@ -3,10 +3,6 @@ use mathlib.Core.Path.{_∙_}
 use borrow.Author.Needs.{needs}
 use Rattle.message.proofs.peer_address.Statement.{statement}
 use Rattle.message.proofs.peer_address.Tie as tie
-use Rattle.message.proofs.peer_address.Reads as reads
-use Rattle.message.proofs.peer_address.Lts as lts
-use Rattle.message.proofs.front.Reads as front-reads
-use Rattle.wire.proofs.next_bytes.Reads as next-bytes-reads
 
 front-requires : tie.Need-front-requires
 front-requires c κs = search needs

@@ -4,10 +4,6 @@ use Rattle.message.proofs.Pieces.{id-short, four-fit, peer-sum}
 use borrow.Author.Needs.{needs}
 use Rattle.message.proofs.peer_body_len.Statement.{statement}
 use Rattle.message.proofs.peer_body_len.Tie as tie
-use Rattle.message.proofs.peer_body_len.Reads as reads
-use Rattle.message.proofs.peer_body_len.Lts as lts
-use Rattle.message.proofs.addresses_len.Reads as addresses-len-reads
-use Rattle.message.proofs.single_len.Reads as single-len-reads
 
 single-len-requires : tie.Need-single-len-requires
 single-len-requires c κs = (omega arith, omega (arith, id-short _ _ _ _ _ _ _ (c .before .before .before .before .before .pre)))

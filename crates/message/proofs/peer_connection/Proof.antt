@@ -1,5 +1,4 @@
 -- `peer_connection` reads the peer in place, and judges the number.
-use mathlib.Core.Path.{sym, _∙_}
 use borrow.Author.Tests.{le-leb, lt-leb}
 use Rattle.wire.specs.Wire.{fieldsIn}
 use Rattle.message.specs.View.{connectionAt}
@@ -7,10 +6,6 @@ use Rattle.message.specs.Message.{connectionOf}
 use borrow.Author.Needs.{needs}
 use Rattle.message.proofs.peer_connection.Statement.{statement}
 use Rattle.message.proofs.peer_connection.Tie as tie
-use Rattle.message.proofs.peer_connection.Reads as reads
-use Rattle.message.proofs.peer_connection.Lts as lts
-use Rattle.message.proofs.front.Reads as front-reads
-use Rattle.wire.proofs.last_number.Reads as last-number-reads
 
 front-requires : tie.Need-front-requires
 front-requires c κs = search needs

@@ -4,9 +4,6 @@ use Rattle.message.proofs.Pieces.{fits-no-id, fits-no-0, fits-no-1, fit
 use borrow.Author.Needs.{needs}
 use Rattle.message.proofs.peer_fits.Statement.{statement}
 use Rattle.message.proofs.peer_fits.Tie as tie
-use Rattle.message.proofs.peer_fits.Reads as reads
-use Rattle.message.proofs.peer_fits.Lts as lts
-use Rattle.message.proofs.address_over.Reads as address-over-reads
 
 returns : tie.Need-returns
 returns c = fits-no-id _ _ _ _ _ _ _ (c .if1 .taken)

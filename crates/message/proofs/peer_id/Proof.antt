@@ -5,10 +5,6 @@ use Rattle.message.specs.View.{idAt}
 use borrow.Author.Needs.{needs}
 use Rattle.message.proofs.peer_id.Statement.{statement}
 use Rattle.message.proofs.peer_id.Tie as tie
-use Rattle.message.proofs.peer_id.Reads as reads
-use Rattle.message.proofs.peer_id.Lts as lts
-use Rattle.message.proofs.front.Reads as front-reads
-use Rattle.wire.proofs.last_bytes.Reads as last-bytes-reads
 
 front-requires : tie.Need-front-requires
 front-requires c κs = search needs

@@ -6,11 +6,6 @@ use Rattle.message.proofs.Pieces.{peer-short, peer-size, peer-none}
 use borrow.Author.Needs.{needs}
 use Rattle.message.proofs.peer_len.Statement.{statement}
 use Rattle.message.proofs.peer_len.Tie as tie
-use Rattle.message.proofs.peer_len.Reads as reads
-use Rattle.message.proofs.peer_len.Lts as lts
-use Rattle.message.proofs.field_len.Reads as field-len-reads
-use Rattle.message.proofs.peer_body_len.Reads as peer-body-len-reads
-use Rattle.message.proofs.peer_fits.Reads as peer-fits-reads
 
 peer-fits-requires : tie.Need-peer-fits-requires
 peer-fits-requires c κs = search needs

@@ -6,9 +6,6 @@ use Rattle.message.proofs.Pieces.{nth-none, nth-some}
 use borrow.Author.Needs.{needs}
 use Rattle.message.proofs.put_address.Statement.{statement}
 use Rattle.message.proofs.put_address.Tie as tie
-use Rattle.message.proofs.put_address.Reads as reads
-use Rattle.message.proofs.put_address.Lts as lts
-use Rattle.wire.proofs.put_bytes.Reads as put-bytes-reads
 
 returns : tie.Need-returns
 returns c = put-is _ _ _ _ _ _ (sym (nth-none _ _ _ (c .if1 .taken))) (put-start _ _)

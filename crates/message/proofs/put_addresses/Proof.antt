@@ -3,9 +3,6 @@ use Rattle.message.proofs.Pieces.{four-put}
 use borrow.Author.Needs.{needs}
 use Rattle.message.proofs.put_addresses.Statement.{statement}
 use Rattle.message.proofs.put_addresses.Tie as tie
-use Rattle.message.proofs.put_addresses.Reads as reads
-use Rattle.message.proofs.put_addresses.Lts as lts
-use Rattle.message.proofs.put_address.Reads as put-address-reads
 
 put-address-requires : tie.Need-put-address-requires
 put-address-requires c κs = search needs

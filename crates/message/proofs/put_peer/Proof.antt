@@ -5,14 +5,6 @@ use Rattle.message.proofs.Pieces.{peer-put, peer-none}
 use borrow.Author.Needs.{needs}
 use Rattle.message.proofs.put_peer.Statement.{statement}
 use Rattle.message.proofs.put_peer.Tie as tie
-use Rattle.message.proofs.put_peer.Reads as reads
-use Rattle.message.proofs.put_peer.Lts as lts
-use Rattle.message.proofs.peer_body_len.Reads as peer-body-len-reads
-use Rattle.message.proofs.peer_fits.Reads as peer-fits-reads
-use Rattle.message.proofs.put_addresses.Reads as put-addresses-reads
-use Rattle.wire.proofs.put_head.Reads as put-head-reads
-use Rattle.wire.proofs.put_number.Reads as put-number-reads
-use Rattle.wire.proofs.put_single.Reads as put-single-reads
 
 peer-fits-requires : tie.Need-peer-fits-requires
 peer-fits-requires c κs = search needs

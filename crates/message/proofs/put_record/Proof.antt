@@ -5,12 +5,6 @@ use Rattle.message.proofs.Pieces.{record-put, record-none}
 use borrow.Author.Needs.{needs}
 use Rattle.message.proofs.put_record.Statement.{statement}
 use Rattle.message.proofs.put_record.Tie as tie
-use Rattle.message.proofs.put_record.Reads as reads
-use Rattle.message.proofs.put_record.Lts as lts
-use Rattle.message.proofs.record_body_len.Reads as record-body-len-reads
-use Rattle.message.proofs.record_fits.Reads as record-fits-reads
-use Rattle.wire.proofs.put_head.Reads as put-head-reads
-use Rattle.wire.proofs.put_single.Reads as put-single-reads
 
 record-fits-requires : tie.Need-record-fits-requires
 record-fits-requires c κs = search needs

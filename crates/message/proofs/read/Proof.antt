@@ -5,9 +5,6 @@ use Rattle.message.proofs.Gathering.{read-long, read-broken, read-unkno
 use borrow.Author.Needs.{needs}
 use Rattle.message.proofs.read.Statement.{statement}
 use Rattle.message.proofs.read.Tie as tie
-use Rattle.message.proofs.read.Reads as reads
-use Rattle.message.proofs.read.Lts as lts
-use Rattle.message.proofs.gather.Reads as gather-reads
 
 returns : tie.Need-returns
 returns c = read-long _ (omega arith)

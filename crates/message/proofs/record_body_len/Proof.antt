@@ -3,9 +3,6 @@ use native.Mathlib.Omega.{arith}
 use Rattle.message.proofs.Pieces.{record-key-short, record-value-short, record-sum}
 use Rattle.message.proofs.record_body_len.Statement.{statement}
 use Rattle.message.proofs.record_body_len.Tie as tie
-use Rattle.message.proofs.record_body_len.Reads as reads
-use Rattle.message.proofs.record_body_len.Lts as lts
-use Rattle.message.proofs.single_len.Reads as single-len-reads
 
 single-len-requires : tie.Need-single-len-requires
 single-len-requires c κs = (omega arith, omega (arith, record-key-short _ _ (c .before .before .pre)))

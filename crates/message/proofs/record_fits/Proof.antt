@@ -2,8 +2,6 @@
 use Rattle.message.proofs.Pieces.{record-no-key, record-by-value}
 use Rattle.message.proofs.record_fits.Statement.{statement}
 use Rattle.message.proofs.record_fits.Tie as tie
-use Rattle.message.proofs.record_fits.Reads as reads
-use Rattle.message.proofs.record_fits.Lts as lts
 
 returns : tie.Need-returns
 returns c = record-no-key _ _ (c .if1 .taken)

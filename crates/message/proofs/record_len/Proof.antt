@@ -6,11 +6,6 @@ use Rattle.message.proofs.Pieces.{record-short, record-size, record-non
 use borrow.Author.Needs.{needs}
 use Rattle.message.proofs.record_len.Statement.{statement}
 use Rattle.message.proofs.record_len.Tie as tie
-use Rattle.message.proofs.record_len.Reads as reads
-use Rattle.message.proofs.record_len.Lts as lts
-use Rattle.message.proofs.field_len.Reads as field-len-reads
-use Rattle.message.proofs.record_body_len.Reads as record-body-len-reads
-use Rattle.message.proofs.record_fits.Reads as record-fits-reads
 
 record-fits-requires : tie.Need-record-fits-requires
 record-fits-requires c κs = search needs

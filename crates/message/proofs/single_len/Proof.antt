@@ -1,12 +1,8 @@
 -- `single_len`: nothing for an empty field.
-use native.Mathlib.Omega.{arith}
 use Rattle.message.proofs.Pieces.{single-none, single-size}
 use borrow.Author.Needs.{needs}
 use Rattle.message.proofs.single_len.Statement.{statement}
 use Rattle.message.proofs.single_len.Tie as tie
-use Rattle.message.proofs.single_len.Reads as reads
-use Rattle.message.proofs.single_len.Lts as lts
-use Rattle.message.proofs.field_len.Reads as field-len-reads
 
 returns : tie.Need-returns
 returns c = single-none _ _ (c .if1 .taken)

@@ -5,10 +5,6 @@ use Rattle.message.specs.Inner.{withBytes}
 use borrow.Author.Needs.{needs}
 use Rattle.message.proofs.with_bytes.Statement.{statement}
 use Rattle.message.proofs.with_bytes.Tie as tie
-use Rattle.message.proofs.with_bytes.Reads as reads
-use Rattle.message.proofs.with_bytes.Lts as lts
-use Rattle.message.proofs.with_peer.Reads as with-peer-reads
-use Rattle.message.proofs.with_record.Reads as with-record-reads
 
 returns : tie.Need-returns
 returns c = unfold withBytes in rw (eq-eqb _ _ (c .before .if1 .taken))

@@ -5,9 +5,6 @@ use Rattle.message.specs.Inner.{withField}
 use borrow.Author.Needs.{needs}
 use Rattle.message.proofs.with_field.Statement.{statement}
 use Rattle.message.proofs.with_field.Tie as tie
-use Rattle.message.proofs.with_field.Reads as reads
-use Rattle.message.proofs.with_field.Lts as lts
-use Rattle.message.proofs.with_bytes.Reads as with-bytes-reads
 
 enum-known-f : tie.Need-enum-known-f
 enum-known-f c = search needs

@@ -3,10 +3,6 @@ use Rattle.message.proofs.Gathering.{peer-sound, peer-broken}
 use borrow.Author.Needs.{needs}
 use Rattle.message.proofs.with_peer.Statement.{statement}
 use Rattle.message.proofs.with_peer.Tie as tie
-use Rattle.message.proofs.with_peer.Reads as reads
-use Rattle.message.proofs.with_peer.Lts as lts
-use Rattle.message.proofs.front.Reads as front-reads
-use Rattle.wire.proofs.well_formed.Reads as well-formed-reads
 
 front-requires : tie.Need-front-requires
 front-requires c κs = search needs

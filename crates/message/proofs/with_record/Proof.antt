@@ -3,11 +3,6 @@ use Rattle.message.proofs.Gathering.{record-sound, record-broken}
 use borrow.Author.Needs.{needs}
 use Rattle.message.proofs.with_record.Statement.{statement}
 use Rattle.message.proofs.with_record.Tie as tie
-use Rattle.message.proofs.with_record.Reads as reads
-use Rattle.message.proofs.with_record.Lts as lts
-use Rattle.message.proofs.front.Reads as front-reads
-use Rattle.wire.proofs.last_bytes.Reads as last-bytes-reads
-use Rattle.wire.proofs.well_formed.Reads as well-formed-reads
 
 front-requires : tie.Need-front-requires
 front-requires c κs = search needs

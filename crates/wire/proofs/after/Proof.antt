@@ -3,8 +3,6 @@ use Rattle.wire.specs.Wire.{nextOf}
 use borrow.Author.Needs.{needs}
 use Rattle.wire.proofs.after.Statement.{statement}
 use Rattle.wire.proofs.after.Tie as tie
-use Rattle.wire.proofs.after.Reads as reads
-use Rattle.wire.proofs.after.Lts as lts
 
 enum-told : tie.Need-enum-told
 enum-told c = search needs

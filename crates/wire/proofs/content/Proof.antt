@@ -5,11 +5,6 @@ use Rattle.wire.proofs.Reading.{content-none, content-0, content-1, con
 use borrow.Author.Needs.{needs}
 use Rattle.wire.proofs.content.Statement.{statement}
 use Rattle.wire.proofs.content.Tie as tie
-use Rattle.wire.proofs.content.Reads as reads
-use Rattle.wire.proofs.content.Lts as lts
-use Rattle.wire.proofs.bytes_field.Reads as bytes-field-reads
-use Rattle.wire.proofs.fixed_field.Reads as fixed-field-reads
-use Rattle.wire.proofs.number_field.Reads as number-field-reads
 
 returns : tie.Need-returns
 returns c = content-none _ _ _ _ (c .if1 .taken)

@@ -4,9 +4,6 @@ use Rattle.wire.specs.Wire.{fixedAt}
 use borrow.Author.Needs.{needs}
 use Rattle.wire.proofs.fixed_field.Statement.{statement}
 use Rattle.wire.proofs.fixed_field.Tie as tie
-use Rattle.wire.proofs.fixed_field.Reads as reads
-use Rattle.wire.proofs.fixed_field.Lts as lts
-use Rattle.wire.proofs.part_end.Reads as part-end-reads
 
 part-end-requires : tie.Need-part-end-requires
 part-end-requires c κs = search needs

@@ -8,9 +8,6 @@ use Rattle.wire.specs.Wire.{fieldsAt, spans, nowhere}
 use Rattle.wire.proofs.Scan.{last-on, last-done, last-less}
 use Rattle.wire.proofs.last_bytes.Statement.{statement}
 use Rattle.wire.proofs.last_bytes.Tie as tie
-use Rattle.wire.proofs.last_bytes.Reads as reads
-use Rattle.wire.proofs.last_bytes.Lts as lts
-use Rattle.wire.proofs.next_bytes.Reads as next-bytes-reads
 
 abbrev Inv-loop : tie.InvT-loop
 Inv-loop s from number last₀ at₀ last at = lastOf last (spans number (fieldsAt s at)) ≡ lastOf nowhere (spans number (fieldsAt s from))

@@ -8,11 +8,6 @@ use Rattle.wire.specs.Wire.{fieldsAt, numbers}
 use Rattle.wire.proofs.Scan.{next-is, nearer, number-done, number-broken, number-on}
 use Rattle.wire.proofs.last_number.Statement.{statement}
 use Rattle.wire.proofs.last_number.Tie as tie
-use Rattle.wire.proofs.last_number.Reads as reads
-use Rattle.wire.proofs.last_number.Lts as lts
-use Rattle.wire.proofs.after.Reads as after-reads
-use Rattle.wire.proofs.read_field.Reads as read-field-reads
-use Rattle.wire.proofs.value_or.Reads as value-or-reads
 
 abbrev Inv-loop : tie.InvT-loop
 Inv-loop s from number last₀ at₀ last at = lastOf last (numbers number (fieldsAt s at)) ≡ lastOf 0 (numbers number (fieldsAt s from))

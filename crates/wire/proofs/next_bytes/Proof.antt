@@ -7,11 +7,6 @@ use Rattle.wire.specs.Wire.{fieldsAt, spans, firstOf}
 use Rattle.wire.proofs.Scan.{next-is, found-is, nearer, none-done, none-broken, found, further}
 use Rattle.wire.proofs.next_bytes.Statement.{statement}
 use Rattle.wire.proofs.next_bytes.Tie as tie
-use Rattle.wire.proofs.next_bytes.Reads as reads
-use Rattle.wire.proofs.next_bytes.Lts as lts
-use Rattle.wire.proofs.after.Reads as after-reads
-use Rattle.wire.proofs.read_field.Reads as read-field-reads
-use Rattle.wire.proofs.span_if.Reads as span-if-reads
 
 abbrev Inv-loop : tie.InvT-loop
 Inv-loop s from number at₀ at = firstOf (spans number (fieldsAt s at)) ≡ firstOf (spans number (fieldsAt s from))

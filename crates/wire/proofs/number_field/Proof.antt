@@ -4,9 +4,6 @@ use Rattle.wire.specs.Wire.{numberAt}
 use borrow.Author.Needs.{needs}
 use Rattle.wire.proofs.number_field.Statement.{statement}
 use Rattle.wire.proofs.number_field.Tie as tie
-use Rattle.wire.proofs.number_field.Reads as reads
-use Rattle.wire.proofs.number_field.Lts as lts
-use Rattle.wire.proofs.read_varint.Reads as read-varint-reads
 
 read-varint-requires : tie.Need-read-varint-requires
 read-varint-requires c κs = search needs

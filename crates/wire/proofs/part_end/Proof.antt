@@ -4,8 +4,6 @@ use Rattle.wire.proofs.Reading.{end-in, end-past}
 use borrow.Author.Needs.{needs}
 use Rattle.wire.proofs.part_end.Statement.{statement}
 use Rattle.wire.proofs.part_end.Tie as tie
-use Rattle.wire.proofs.part_end.Reads as reads
-use Rattle.wire.proofs.part_end.Lts as lts
 
 returns : tie.Need-returns
 returns c = end-past _ _ _ (omega arith)

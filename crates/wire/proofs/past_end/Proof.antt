@@ -4,8 +4,6 @@ use Rattle.wire.proofs.Digits.{past-fits, past-full, past-over}
 use borrow.Author.Needs.{needs}
 use Rattle.wire.proofs.past_end.Statement.{statement}
 use Rattle.wire.proofs.past_end.Tie as tie
-use Rattle.wire.proofs.past_end.Reads as reads
-use Rattle.wire.proofs.past_end.Lts as lts
 
 returns : tie.Need-returns
 returns c = past-over _ _ _ (omega arith)

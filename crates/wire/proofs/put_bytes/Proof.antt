@@ -3,10 +3,6 @@ use Rattle.wire.proofs.Putting.{put-bytes}
 use borrow.Author.Needs.{needs}
 use Rattle.wire.proofs.put_bytes.Statement.{statement}
 use Rattle.wire.proofs.put_bytes.Tie as tie
-use Rattle.wire.proofs.put_bytes.Reads as reads
-use Rattle.wire.proofs.put_bytes.Lts as lts
-use Rattle.wire.proofs.put_head.Reads as put-head-reads
-use Rattle.wire.proofs.put_raw.Reads as put-raw-reads
 
 put-head-requires : tie.Need-put-head-requires
 put-head-requires c κs = search needs

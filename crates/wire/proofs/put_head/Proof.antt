@@ -3,9 +3,6 @@ use Rattle.wire.proofs.Putting.{put-tag}
 use borrow.Author.Needs.{needs}
 use Rattle.wire.proofs.put_head.Statement.{statement}
 use Rattle.wire.proofs.put_head.Tie as tie
-use Rattle.wire.proofs.put_head.Reads as reads
-use Rattle.wire.proofs.put_head.Lts as lts
-use Rattle.wire.proofs.put_varint.Reads as put-varint-reads
 
 mul-put-varint : tie.Need-mul-put-varint
 mul-put-varint c = search needs

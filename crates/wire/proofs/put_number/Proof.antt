@@ -1,13 +1,9 @@
 -- `put_number`: a tag, then the number.
 use mathlib.Core.Path.{refl}
-use native.Mathlib.Omega.{arith}
 use Rattle.wire.proofs.Putting.{put-number}
 use borrow.Author.Needs.{needs}
 use Rattle.wire.proofs.put_number.Statement.{statement}
 use Rattle.wire.proofs.put_number.Tie as tie
-use Rattle.wire.proofs.put_number.Reads as reads
-use Rattle.wire.proofs.put_number.Lts as lts
-use Rattle.wire.proofs.put_varint.Reads as put-varint-reads
 
 mul-put-varint : tie.Need-mul-put-varint
 mul-put-varint c = search needs

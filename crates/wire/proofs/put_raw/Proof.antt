@@ -4,10 +4,6 @@ use Rattle.wire.proofs.Putting.{put-raw}
 use borrow.Author.Needs.{needs}
 use Rattle.wire.proofs.put_raw.Statement.{statement}
 use Rattle.wire.proofs.put_raw.Tie as tie
-use Rattle.wire.proofs.put_raw.Reads as reads
-use Rattle.wire.proofs.put_raw.Lts as lts
-use Rattle.octets.proofs.copy.Reads as copy-reads
-use Rattle.wire.proofs.past_end.Reads as past-end-reads
 
 copy-requires : tie.Need-copy-requires
 copy-requires c κs = search needs

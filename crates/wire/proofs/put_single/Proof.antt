@@ -4,9 +4,6 @@ use Rattle.wire.proofs.Putting.{put-start, put-is, single-empty, single
 use borrow.Author.Needs.{needs}
 use Rattle.wire.proofs.put_single.Statement.{statement}
 use Rattle.wire.proofs.put_single.Tie as tie
-use Rattle.wire.proofs.put_single.Reads as reads
-use Rattle.wire.proofs.put_single.Lts as lts
-use Rattle.wire.proofs.put_bytes.Reads as put-bytes-reads
 
 returns : tie.Need-returns
 returns c = put-is _ _ _ _ _ _ (sym (single-empty _ _ (c .if1 .taken))) (put-start _ _)

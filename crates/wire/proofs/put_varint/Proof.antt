@@ -4,9 +4,6 @@ use lib.ListN.{length-set}
 use Rattle.wire.proofs.Digits.{Writing, writing, write-full, write-on, write-last}
 use Rattle.wire.proofs.put_varint.Statement.{statement}
 use Rattle.wire.proofs.put_varint.Tie as tie
-use Rattle.wire.proofs.put_varint.Reads as reads
-use Rattle.wire.proofs.put_varint.Lts as lts
-use Rattle.wire.proofs.low.Reads as low-reads
 
 abbrev Inv-loop : tie.InvT-loop
 Inv-loop buf₀ at v i₀ rest₀ buf i rest = Writing buf₀ at v buf i rest

@@ -5,10 +5,6 @@ use Rattle.wire.proofs.Reading.{field-end, field-bad, field-big, field-
 use borrow.Author.Needs.{needs}
 use Rattle.wire.proofs.read_field.Statement.{statement}
 use Rattle.wire.proofs.read_field.Tie as tie
-use Rattle.wire.proofs.read_field.Reads as reads
-use Rattle.wire.proofs.read_field.Lts as lts
-use Rattle.wire.proofs.content.Reads as content-reads
-use Rattle.wire.proofs.read_varint.Reads as read-varint-reads
 
 returns : tie.Need-returns
 returns c = field-end _ _ (c .if1 .taken)

@@ -6,10 +6,6 @@ use mathlib.Core.Path.{_∙_}
 use Rattle.wire.proofs.Varints.{Going, going-start, going-past, going-stop, going-more, going-last, digit-fits, place-fits, acc-fits}
 use Rattle.wire.proofs.read_varint.Statement.{statement}
 use Rattle.wire.proofs.read_varint.Tie as tie
-use Rattle.wire.proofs.read_varint.Reads as reads
-use Rattle.wire.proofs.read_varint.Lts as lts
-use Rattle.wire.proofs.tenth.Reads as tenth-reads
-use Rattle.wire.proofs.wide.Reads as wide-reads
 
 abbrev Inv-loop : tie.InvT-loop
 Inv-loop s at acc₀ place₀ i₀ left₀ acc place i left = Going s at acc place i left

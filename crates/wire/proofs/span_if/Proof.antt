@@ -4,8 +4,6 @@ use Rattle.wire.specs.Wire.{spanIf}
 use borrow.Author.Needs.{needs}
 use Rattle.wire.proofs.span_if.Statement.{statement}
 use Rattle.wire.proofs.span_if.Tie as tie
-use Rattle.wire.proofs.span_if.Reads as reads
-use Rattle.wire.proofs.span_if.Lts as lts
 
 enum-known-f : tie.Need-enum-known-f
 enum-known-f c = search needs

@@ -4,9 +4,6 @@ use Rattle.wire.proofs.Varints.{tenth-none, tenth-one, tenth-big}
 use borrow.Author.Needs.{needs}
 use Rattle.wire.proofs.tenth.Statement.{statement}
 use Rattle.wire.proofs.tenth.Tie as tie
-use Rattle.wire.proofs.tenth.Reads as reads
-use Rattle.wire.proofs.tenth.Lts as lts
-use Rattle.wire.proofs.wide.Reads as wide-reads
 
 returns : tie.Need-returns
 returns c = tenth-none _ _ _ (omega arith)

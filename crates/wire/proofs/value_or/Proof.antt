@@ -5,8 +5,6 @@ use Rattle.wire.specs.Wire.{numbers}
 use borrow.Author.Needs.{needs}
 use Rattle.wire.proofs.value_or.Statement.{statement}
 use Rattle.wire.proofs.value_or.Tie as tie
-use Rattle.wire.proofs.value_or.Reads as reads
-use Rattle.wire.proofs.value_or.Lts as lts
 
 enum-known-f : tie.Need-enum-known-f
 enum-known-f c = search needs

@@ -3,8 +3,6 @@ use native.Mathlib.Omega.{arith}
 use Rattle.wire.proofs.Digits.{Counting, counting, counted, count-on}
 use Rattle.wire.proofs.varint_len.Statement.{statement}
 use Rattle.wire.proofs.varint_len.Tie as tie
-use Rattle.wire.proofs.varint_len.Reads as reads
-use Rattle.wire.proofs.varint_len.Lts as lts
 
 abbrev Inv-loop : tie.InvT-loop
 Inv-loop v n₀ rest₀ n rest = Counting v n rest

@@ -7,10 +7,6 @@ use Rattle.wire.specs.Wire.{fieldsAt, well}
 use Rattle.wire.proofs.Scan.{next-is, nearer, well-done, well-broken, well-on}
 use Rattle.wire.proofs.well_formed.Statement.{statement}
 use Rattle.wire.proofs.well_formed.Tie as tie
-use Rattle.wire.proofs.well_formed.Reads as reads
-use Rattle.wire.proofs.well_formed.Lts as lts
-use Rattle.wire.proofs.after.Reads as after-reads
-use Rattle.wire.proofs.read_field.Reads as read-field-reads
 
 abbrev Inv-loop : tie.InvT-loop
 Inv-loop s from at₀ at = well (fieldsAt s at) ≡ well (fieldsAt s from)
