@@ -79,7 +79,7 @@ pub slot-short : (t : List ℕ) (i : ℕ) → length t / 616 ≤ i → drop (i *
 unfolding slot
 slot-short t i h = sym (take-all (i * 616 + 616 - i * 616) (drop (i * 616) t) (simp length-drop (omega arith)))
 
--- ---- a cut: from a to the end, and n bytes or as many as there are
+-- ---- a cut: from a to the end, and n bytes or as many as there are; for octets
 pub cut-end : (s : List ℕ) (a : ℕ) → take (length s - a) (drop a s) ≡ drop a s
 cut-end s a = take-all (length s - a) (drop a s) (simp length-drop (omega arith))
 
@@ -94,7 +94,7 @@ cut-few s a n h = sym (take-all n (drop a s) (simp length-drop (omega arith)))
 pub cut-whole : (s : List ℕ) (a n : ℕ) → take (a + n - a) (drop a s) ≡ take n (drop a s)
 cut-whole s a n = let e : a + n - a ≡ n = omega arith in ap (λ (k : ℕ). take k (drop a s)) e
 
--- ---- a part cut at a limit
+-- ---- a part cut at a limit; `take-part` is for octets
 pub take-part : (s : List ℕ) (a n m : ℕ) → take m (part s a (a + n)) ≡ take (min n m) (drop a s)
 take-part s a n m = let e : a + n - a ≡ n = omega arith in ap (λ (k : ℕ). take m (take k (drop a s))) e ∙ both m n (drop a s)
   where

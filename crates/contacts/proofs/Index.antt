@@ -104,6 +104,7 @@ unfolding keyOf
 key-prev s v o k p q e = omega arith
 
 -- ---- the index, a slot at a time
+-- for octets
 pub zeros : (n k : ℕ) → _≡_ {A = ℕ} (getD (replicate n 0) k 0) 0
 zeros zero k = refl
 zeros (suc n) zero = refl
