@@ -1,16 +1,58 @@
 -- What stands in a peer: the id and the addresses that it was made of, and the lengths of its arrays. Assumes nothing.
 use Prim.Native.Nat.{ℕ, zero, suc, _+_, _<_, _≤_, min}
 use mathlib.Core.Path.{_≡_, refl, sym, ap, ap₂, _∙_}
-use mathlib.Core.Bool.{true}
+use mathlib.Core.Logic.{⊎-elim}
+use mathlib.Core.Bool.{true, false, not, _||_}
 use mathlib.Core.List.{List, [], _∷_, _++_}
 use native.Mathlib.Omega.{arith}
+use lib.Dec.{leb}
+use borrow.Author.Tests.{le-leb, lt-leb, leb-true}
+use Rattle.octets.specs.Octets.{same}
+use Rattle.octets.proofs.Bools.{and-l, and-r, and-on, and-off, or-l, or-r, or-off, not-both, either}
+use Rattle.octets.proofs.Strings.{same-yes}
+use Rattle.place.specs.Place.{placeOf}
 use lib.ListN.{length, getD, take}
 use lib.Seq.{take-suc, take-all}
 use Rattle.peer.specs.declared.Peer.{Peer}
 use Rattle.peer.specs.Addresses.{usableSize, keptOf, padded, rooms, sizes}
-use Rattle.peer.specs.Peers.{peerOf, idIn, addressIn, addressesTo, addressesIn}
+use Rattle.peer.specs.Peers.{idFits, badPeer, peerOf, idIn, addressIn, addressesTo, addressesIn}
 use Rattle.peer.proofs.Rooms.{length-padded, length-rooms, length-sizes, padded-front, room-part, size-in}
 use Rattle.peer.proofs.Lists.{kept-usable, kept-few, every-at, size-most}
+
+-- ---- an id of 1 to 64 bytes, as the code finds it out
+pub fits-none : (id : List ℕ) → length id ≡ 0 → false ≡ idFits id
+unfolding idFits
+fits-none id e = sym (and-off (leb 1 (length id)) _ (lt-leb 1 (length id) (omega arith)))
+
+pub fits-some : (id : List ℕ) → (length id ≡ 0 → ⊥) → leb (length id) 64 ≡ idFits id
+unfolding idFits
+fits-some id e = sym (and-on (leb 1 (length id)) _ (le-leb 1 (length id) (omega arith)))
+
+pub fits-least : (id : List ℕ) → idFits id ≡ true → 1 ≤ length id
+unfolding idFits
+fits-least id h = leb-true 1 (length id) (and-l (leb 1 (length id)) _ h)
+
+pub fits-most : (id : List ℕ) → idFits id ≡ true → length id ≤ 64
+unfolding idFits
+fits-most id h = leb-true (length id) 64 (and-r (leb 1 (length id)) _ h)
+
+-- a peer that isn't bad
+pub not-bad-id : (ours id : List ℕ) → badPeer ours id ≡ false → idFits id ≡ true
+unfolding badPeer
+not-bad-id ours id h = ⊎-elim (λ e. e) (λ e. absurd (not-both (not (idFits id) || same (placeOf id) ours) (or-l (not (idFits id)) _ (ap not e)) h)) (either (idFits id))
+
+pub not-bad-place : (ours id : List ℕ) → badPeer ours id ≡ false → placeOf id ≡ ours → ⊥
+unfolding badPeer
+not-bad-place ours id h e = not-both (not (idFits id) || same (placeOf id) ours) (or-r (not (idFits id)) _ (same-yes (placeOf id) ours e)) h
+
+-- as the code finds it out: by the id first, then by the place
+pub bad-by-id : (ours id : List ℕ) → idFits id ≡ false → badPeer ours id ≡ true
+unfolding badPeer
+bad-by-id ours id h = or-l (not (idFits id)) _ (ap not h)
+
+pub bad-by-place : (ours id : List ℕ) → idFits id ≡ true → badPeer ours id ≡ same (placeOf id) ours
+unfolding badPeer
+bad-by-place ours id h = or-off (not (idFits id)) _ (ap not h)
 
 -- how the arrays are made, in the shape that the code leaves them
 pub made : (id place addresses name addrs lens : List ℕ) (size count : ℕ)

@@ -3,7 +3,7 @@ ghost use mathlib.Core.Path.{_≡_};
 ghost use Prim.Native.Nat.{ℕ, _+_, _<_, _≤_, min};
 ghost use lib.ListN.{length, drop, replicate};
 ghost use Rattle.peer.specs.Addresses.{sizeOf, endOf, usableSize, keptOf, rooms, sizes};
-ghost use Rattle.peer.specs.Peers.{peerOf};
+ghost use Rattle.peer.specs.Peers.{idFits, peerOf};
 
 // The most bytes of an id and of an address, and the most addresses.
 pub const ID: usize = 64;
@@ -85,6 +85,17 @@ fn keep(addrs: &mut [u8], lens: &mut [u8], list: &[u8]) -> u8
         count += 1;
     }
     count as u8
+}
+
+// Whether an id has 1 to 64 bytes.
+pub fn id_fits(id: &[u8]) -> bool
+    ensures { λ r. ⌜ r ≡ idFits (now (id .entry)) ⌝ }
+{
+    let n = id.len();
+    if n == 0 {
+        return false;
+    }
+    n <= ID
 }
 
 // The length of an id, cut to 64.

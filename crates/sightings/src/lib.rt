@@ -294,7 +294,7 @@ pub fn seen(table: &mut [u8], ours: &[u8], p: Peer) -> Sighting
 }
 
 // The bucket is full, the contact at the place head is still its head, and the newcomer is of that bucket and not held.
-fn still_fits(table: &[u8], ours: &[u8], head: &[u8], p: &[u8]) -> bool
+pub fn still_fits(table: &[u8], ours: &[u8], head: &[u8], p: &[u8]) -> bool
     ensures { λ r. ⌜ r ≡ fits (now (table .entry)) (now (ours .entry)) (now (head .entry)) (now (p .entry)) ⌝ }
 {
     let n = contacts::slots(table);

@@ -1,0 +1,91 @@
+-- Seen, settle and remove as a host calls them: document 01, 'Refusal numbers' and 'Distance and contacts'. Each is an answer, and what the
+-- answer does to the table: a refusal does nothing.
+use Prim.Native.Nat.{ℕ}
+use mathlib.Core.Bool.{Bool, not, cond}
+use mathlib.Core.List.{List, [], _∷_}
+use Rattle.place.specs.Place.{placeOf}
+use Rattle.refusal.specs.declared.Refusal.{Refusal}
+use Rattle.refusal.specs.declared.Refusal.the-variants.{OutOfForm, BadPeer, NoContactSlot, NoLongerFits, Client}
+use Rattle.refusal.specs.Refusal.{numberOf}
+use Rattle.contacts.specs.Form.{inForm}
+use Rattle.peer.specs.declared.Peer.{Peer}
+use Rattle.peer.specs.Peers.{badPeer, peerOf}
+use Rattle.sightings.specs.declared.Sighting.{Sighting}
+use Rattle.sightings.specs.declared.Sighting.the-variants as sighting
+use Rattle.sightings.specs.Order.{heldAt, moveToTail, moveAndRenew, dropped, joinAt, join}
+use Rattle.sightings.specs.Sightings.{held, sightingOf, fits}
+use Rattle.contact_calls.specs.declared.SeenOutcome.{SeenOutcome}
+use Rattle.contact_calls.specs.declared.SeenOutcome.the-variants as seen
+use Rattle.contact_calls.specs.declared.SettleOutcome.{SettleOutcome}
+use Rattle.contact_calls.specs.declared.SettleOutcome.the-variants as settle
+use Rattle.contact_calls.specs.declared.RemoveOutcome.{RemoveOutcome}
+use Rattle.contact_calls.specs.declared.RemoveOutcome.the-variants as remove
+
+-- ---- seen: 0, 12, 18, then held, 13, 14 ("18 before 13 and 14, and a peer already held is never 13 or 14")
+abbrev pub outcomeOf : Sighting → SeenOutcome
+outcomeOf (sighting.Moved i) = seen.Moved i
+outcomeOf (sighting.Joined i) = seen.Joined i
+outcomeOf (sighting.Full h) = seen.Probe h
+outcomeOf sighting.NoSlot = seen.Refused NoContactSlot
+
+unfoldable pub seenCall : List ℕ → List ℕ → List ℕ → Bool → SeenOutcome
+seenCall t ours id client =
+    cond (not (inForm t ours)) (seen.Refused OutOfForm)
+    (cond (badPeer ours id) (seen.Refused BadPeer)
+    (cond client (seen.Refused Client) (outcomeOf (sightingOf t ours (placeOf id)))))
+
+unfoldable pub afterSeen : List ℕ → List ℕ → Peer → SeenOutcome → List ℕ
+afterSeen t ours p (seen.Moved i) = moveAndRenew t ours i p
+afterSeen t ours p (seen.Joined i) = joinAt t ours i p
+afterSeen t ours p (seen.Probe h) = t
+afterSeen t ours p (seen.Refused r) = t
+
+unfoldable pub seenCallTable : List ℕ → List ℕ → List ℕ → Bool → List ℕ → List ℕ
+seenCallTable t ours id client addresses = afterSeen t ours (peerOf id (placeOf id) addresses) (seenCall t ours id client)
+
+-- ---- settle: 0, 12 for either id, 15, 18
+unfoldable pub settleCall : List ℕ → List ℕ → List ℕ → List ℕ → Bool → Bool → SettleOutcome
+settleCall t ours head id client answered =
+    cond (not (inForm t ours)) (settle.Refused OutOfForm)
+    (cond (badPeer ours head) (settle.Refused BadPeer)
+    (cond (badPeer ours id) (settle.Refused BadPeer)
+    (cond (not (fits t ours (placeOf head) (placeOf id))) (settle.Refused NoLongerFits)
+    (cond client (settle.Refused Client) (cond answered settle.Kept settle.Swapped)))))
+
+unfoldable pub afterSettle : List ℕ → List ℕ → List ℕ → Peer → SettleOutcome → List ℕ
+afterSettle t ours head p settle.Kept = moveToTail t ours (heldAt t head)
+afterSettle t ours head p settle.Swapped = join (dropped t ours (heldAt t head)) ours p
+afterSettle t ours head p (settle.Refused r) = t
+
+unfoldable pub settleCallTable : List ℕ → List ℕ → List ℕ → List ℕ → Bool → List ℕ → Bool → List ℕ
+settleCallTable t ours head id client addresses answered =
+    afterSettle t ours (placeOf head) (peerOf id (placeOf id) addresses) (settleCall t ours head id client answered)
+
+-- ---- remove: 0, 12, 15
+unfoldable pub removeCall : List ℕ → List ℕ → List ℕ → RemoveOutcome
+removeCall t ours id =
+    cond (not (inForm t ours)) (remove.Refused OutOfForm)
+    (cond (badPeer ours id) (remove.Refused BadPeer) (cond (not (held t (placeOf id))) (remove.Refused NoLongerFits) remove.Gone))
+
+unfoldable pub afterRemove : List ℕ → List ℕ → List ℕ → RemoveOutcome → List ℕ
+afterRemove t ours p remove.Gone = dropped t ours (heldAt t p)
+afterRemove t ours p (remove.Refused r) = t
+
+unfoldable pub removeCallTable : List ℕ → List ℕ → List ℕ → List ℕ
+removeCallTable t ours id = afterRemove t ours (placeOf id) (removeCall t ours id)
+
+-- ---- the number that each answer refuses with; none where it doesn't. 13 names the head by its slot
+unfoldable pub seenNumber : SeenOutcome → List ℕ
+seenNumber (seen.Moved i) = []
+seenNumber (seen.Joined i) = []
+seenNumber (seen.Probe h) = 13 ∷ []
+seenNumber (seen.Refused r) = numberOf r ∷ []
+
+unfoldable pub settleNumber : SettleOutcome → List ℕ
+settleNumber settle.Kept = []
+settleNumber settle.Swapped = []
+settleNumber (settle.Refused r) = numberOf r ∷ []
+
+unfoldable pub removeNumber : RemoveOutcome → List ℕ
+removeNumber remove.Gone = []
+removeNumber (remove.Refused r) = numberOf r ∷ []
