@@ -561,10 +561,11 @@ fn contact(table: &[u8], i: usize) -> Candidate
     octets::copy(&mut kept, 0, id);
     let mut place = [0u8; 32];
     octets::copy(&mut place, 0, contacts::place_of(table, i));
+    let mark = lookup_marks::IDLE;
     Candidate {
         id: kept,
         place,
-        mark: lookup_marks::IDLE,
+        mark,
         len,
     }
 }
