@@ -41,12 +41,12 @@ module _ (q : Candidate → Bool) (no : (id : List ℕ) → q (fresh id) ≡ fal
   unfolding hear meet
   hear-any ours id l =
       cond-ind P (not (idFits id)) l _ (λ e h. h)
-        (λ f. cond-ind P (same (sha256 id) ours) l _ (λ e h. h)
-        (λ o. cond-ind P (known (sha256 id) (candidatesOf l)) l _ (λ e h. h)
-        (λ k. cond-ind P (ltb (l .count) room) (put l (enter (l .target) (fresh id) (candidatesOf l))) (turnAway l)
-          (λ e h. ⊎-elim (λ b. absurd (not-both (q (fresh id)) b (no id))) (λ b. b)
-            (any-enter q (l .target) (fresh id) (candidatesOf l) (sym (ap (anyIn q) (put-candidates l (enter (l .target) (fresh id) (candidatesOf l)))) ∙ h)))
-          (λ e h. h))))
+      (λ f. cond-ind P (same (sha256 id) ours) l _ (λ e h. h)
+      (λ o. cond-ind P (known (sha256 id) (candidatesOf l)) l _ (λ e h. h)
+      (λ k. cond-ind P (ltb (l .count) room) (put l (enter (l .target) (fresh id) (candidatesOf l))) (turnAway l)
+      (λ e h. ⊎-elim (λ b. absurd (not-both (q (fresh id)) b (no id))) (λ b. b)
+      (any-enter q (l .target) (fresh id) (candidatesOf l) (sym (ap (anyIn q) (put-candidates l (enter (l .target) (fresh id) (candidatesOf l)))) ∙ h)))
+      (λ e h. h))))
     where
       P : Lookup → Type 0
       P k = anyIn q (candidatesOf k) ≡ true → anyIn q (candidatesOf l) ≡ true
@@ -73,8 +73,8 @@ only-reply c l p s h = go (moved c l (s .long))
     go (fails i hs e q) = ⊎-elim (λ b. inl b) (λ b. absurd (not-both false b refl)) (set i failed (after (mark i failed l) e))
     go (answers own ours id body v i ec k hs at e q) =
         ⊎-elim (λ b. inl b)
-          (λ b. inr (subst (RepliedBy p) (sym ec) (k, sym at ∙ same-eq (getD (candidatesOf l) i nobody .place) p b)))
-          (set i answered (all-any (answeredAt p) (λ id. refl) ours (heardIds body) (mark i answered l) (after _ e)))
+        (λ b. inr (subst (RepliedBy p) (sym ec) (k, sym at ∙ same-eq (getD (candidatesOf l) i nobody .place) p b)))
+        (set i answered (all-any (answeredAt p) (λ id. refl) ours (heardIds body) (mark i answered l) (after _ e)))
 
 idle-none : (t p : List ℕ) (ls : List ℕ) → anyIn (answeredAt p) (map (contactAt t) ls) ≡ false
 unfolding anyIn
@@ -93,11 +93,11 @@ hear-kept : (p ours id : List ℕ) (l : Lookup) → Kept p l → Kept p (hear ou
 unfolding hear meet
 hear-kept p ours id l k =
     cond-ind (Kept p) (not (idFits id)) l _ (λ e. k)
-      (λ f. cond-ind (Kept p) (same (sha256 id) ours) l _ (λ e. k)
-      (λ o. cond-ind (Kept p) (known (sha256 id) (candidatesOf l)) l _ (λ e. k)
-      (λ u. cond-ind (Kept p) (ltb (l .count) room) (put l (enter (l .target) (fresh id) (candidatesOf l))) (turnAway l)
-        (λ e. ⊎-elim (λ b. inl (ap (anyIn (liesAt p)) (put-candidates l (enter (l .target) (fresh id) (candidatesOf l))) ∙ any-entered (liesAt p) (l .target) (fresh id) (candidatesOf l) (inr b))) (λ b. inr b) k)
-        (λ e. inr refl))))
+    (λ f. cond-ind (Kept p) (same (sha256 id) ours) l _ (λ e. k)
+    (λ o. cond-ind (Kept p) (known (sha256 id) (candidatesOf l)) l _ (λ e. k)
+    (λ u. cond-ind (Kept p) (ltb (l .count) room) (put l (enter (l .target) (fresh id) (candidatesOf l))) (turnAway l)
+    (λ e. ⊎-elim (λ b. inl (ap (anyIn (liesAt p)) (put-candidates l (enter (l .target) (fresh id) (candidatesOf l))) ∙ any-entered (liesAt p) (l .target) (fresh id) (candidatesOf l) (inr b))) (λ b. inr b) k)
+    (λ e. inr refl))))
 
 all-kept : (p ours : List ℕ) (ids : List (List ℕ)) (l : Lookup) → Kept p l → Kept p (hearAll ours ids l)
 unfolding hearAll
@@ -130,19 +130,19 @@ hear-new : (ours id : List ℕ) (l : Lookup) → idFits id ≡ true → same (sh
 unfolding hear meet
 hear-new ours id l f o =
     cond-ind (Kept (sha256 id)) (not (idFits id)) l _ (λ e. absurd (not-both (not (idFits id)) e (not-yes (idFits id) f)))
-      (λ g. cond-ind (Kept (sha256 id)) (same (sha256 id) ours) l _ (λ e. absurd (not-both (same (sha256 id) ours) e o))
-      (λ g. cond-ind (Kept (sha256 id)) (known (sha256 id) (candidatesOf l)) l _ (λ e. inl e)
-      (λ u. cond-ind (Kept (sha256 id)) (ltb (l .count) room) (put l (enter (l .target) (fresh id) (candidatesOf l))) (turnAway l)
-        (λ e. inl (ap (anyIn (liesAt (sha256 id))) (put-candidates l (enter (l .target) (fresh id) (candidatesOf l))) ∙ any-entered (liesAt (sha256 id)) (l .target) (fresh id) (candidatesOf l) (inl (same-place id))))
-        (λ e. inr refl))))
+    (λ g. cond-ind (Kept (sha256 id)) (same (sha256 id) ours) l _ (λ e. absurd (not-both (same (sha256 id) ours) e o))
+    (λ g. cond-ind (Kept (sha256 id)) (known (sha256 id) (candidatesOf l)) l _ (λ e. inl e)
+    (λ u. cond-ind (Kept (sha256 id)) (ltb (l .count) room) (put l (enter (l .target) (fresh id) (candidatesOf l))) (turnAway l)
+    (λ e. inl (ap (anyIn (liesAt (sha256 id))) (put-candidates l (enter (l .target) (fresh id) (candidatesOf l))) ∙ any-entered (liesAt (sha256 id)) (l .target) (fresh id) (candidatesOf l) (inl (same-place id))))
+    (λ e. inr refl))))
 
 all-new : (ours id : List ℕ) (ids : List (List ℕ)) (l : Lookup) → Among id ids → idFits id ≡ true → same (sha256 id) ours ≡ false → Kept (sha256 id) (hearAll ours ids l)
 unfolding hearAll Among
 all-new ours id [] l a f o = absurd a
 all-new ours id (x ∷ ids) l a f o =
     ⊎-elim
-      (λ e. all-kept (sha256 id) ours ids (hear ours x l) (subst (λ (y : List ℕ). Kept (sha256 id) (hear ours y l)) (sym e) (hear-new ours id l f o)))
-      (λ b. all-new ours id ids (hear ours x l) b f o) a
+    (λ e. all-kept (sha256 id) ours ids (hear ours x l) (subst (λ (y : List ℕ). Kept (sha256 id) (hear ours y l)) (sym e) (hear-new ours id l f o)))
+    (λ b. all-new ours id ids (hear ours x l) b f o) a
 
 from-found : (ours body : List ℕ) (kind : ℕ) (l : Lookup) (i : ℕ) → kind ≡ findNode → heardFrom ours body kind l i ≡ hearAll ours (heardIds body) (mark i answered l)
 unfolding heardFrom
@@ -153,13 +153,13 @@ reply-new : (own ours from body : List ℕ) (v : Fields) (l : Lookup) (id : List
 unfolding replyOf
 reply-new own ours from body v l id kd acc a f o =
     cond-ind (λ (s : Step). Accepted (s .answer) → Kept (sha256 id) (s .lookup)) (not (isView body v)) (refuses l OutOfForm) (reported l (whomOf l own ours from) (heardFrom ours body (v .kind) l))
-      (λ e x. absurd x) (λ e. go (whomOf l own ours from)) acc
+    (λ e x. absurd x) (λ e. go (whomOf l own ours from)) acc
   where
     go : (w : Whom) → Accepted (reported l w (heardFrom ours body (v .kind) l) .answer) → Kept (sha256 id) (reported l w (heardFrom ours body (v .kind) l) .lookup)
     go (Nobody r) x = absurd x
     go (At i) x =
         subst (Kept (sha256 id)) (sym (settled-lookup (heardFrom ours body (v .kind) l i) ∙ from-found ours body (v .kind) l i kd))
-          (all-new ours id (heardIds body) (mark i answered l) a f o)
+        (all-new ours id (heardIds body) (mark i answered l) a f o)
 
 pub heard-kept : (id : List ℕ) (cs : List Call) (l : Lookup) → Sound l → HeardOf id cs l → (known (sha256 id) (candidatesOf (run cs l)) ≡ true) ⊎ (run cs l .turned ≡ true)
 unfolding run step
@@ -223,9 +223,9 @@ next-well : (l : Lookup) → l .count ≤ room → Well (nextOf l)
 unfolding nextOf
 next-well l h =
     cond-ind Well (not (inForm l)) _ _ (λ e. tt)
-      (λ f. cond-ind Well (isOver (marksOf l)) _ _ (λ e. ends-well l h e)
-      (λ o. cond-ind Well (leb (l .limit) (flightsOf (marksOf l))) _ _ (λ e. tt)
-      (λ g. cond-ind Well (ltb (idleOf (marksOf l)) (l .count)) _ _ (λ e. tt) (λ e. tt))))
+    (λ f. cond-ind Well (isOver (marksOf l)) _ _ (λ e. ends-well l h e)
+    (λ o. cond-ind Well (leb (l .limit) (flightsOf (marksOf l))) _ _ (λ e. tt)
+    (λ g. cond-ind Well (ltb (idleOf (marksOf l)) (l .count)) _ _ (λ e. tt) (λ e. tt))))
 
 fail-well : (own ours id : List ℕ) (l : Lookup) → l .count ≤ room → Well (failureOf l own ours id)
 unfolding failureOf
@@ -239,7 +239,7 @@ from-fits : (ours body : List ℕ) (kind : ℕ) (l : Lookup) (i : ℕ) → l .co
 unfolding heardFrom
 from-fits ours body kind l i h =
     cond-ind (λ (k : Lookup). k .count ≤ room) (eqb kind findNode) (hearAll ours (heardIds body) (mark i answered l)) (mark i failed l)
-      (λ e. all-fits ours (heardIds body) (mark i answered l) h) (λ e. h)
+    (λ e. all-fits ours (heardIds body) (mark i answered l) h) (λ e. h)
 
 reply-well : (own ours id body : List ℕ) (v : Fields) (l : Lookup) → l .count ≤ room → Well (replyOf l own ours id body v)
 unfolding replyOf
@@ -254,9 +254,9 @@ pub start-well : (t own ours key : List ℕ) (limit : ℕ) → begun t key limit
 unfolding startOf
 start-well t own ours key limit h =
     cond-ind Well (not (inFormTable t ours)) (refuses noLookup OutOfForm) _ (λ e. tt)
-      (λ a. cond-ind Well (not (keyFits key)) (refuses noLookup BreaksRules) _ (λ e. tt)
-      (λ b. cond-ind Well (not (idFits own)) (refuses noLookup BadPeer) _ (λ e. tt)
-      (λ c. cond-ind Well (not (limitFits limit)) (refuses noLookup BadConcurrency) (settled (begun t key limit)) (λ e. tt) (λ e. settled-well (begun t key limit) h))))
+    (λ a. cond-ind Well (not (keyFits key)) (refuses noLookup BreaksRules) _ (λ e. tt)
+    (λ b. cond-ind Well (not (idFits own)) (refuses noLookup BadPeer) _ (λ e. tt)
+    (λ c. cond-ind Well (not (limitFits limit)) (refuses noLookup BadConcurrency) (settled (begun t key limit)) (λ e. tt) (λ e. settled-well (begun t key limit) h))))
 
 pub step-well : (c : Call) (l : Lookup) → Sound l → Well (step c l)
 unfolding step

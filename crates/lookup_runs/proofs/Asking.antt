@@ -34,11 +34,11 @@ module _ (w : Candidate → ℕ) (none : (id : List ℕ) → w (fresh id) ≡ 0)
   unfolding hear meet
   hear-weighs ours id l =
       cond-ind P (not (idFits id)) l _ (λ e. refl)
-        (λ f. cond-ind P (same (sha256 id) ours) l _ (λ e. refl)
-        (λ o. cond-ind P (known (sha256 id) (candidatesOf l)) l _ (λ e. refl)
-        (λ k. cond-ind P (ltb (l .count) room) (put l (enter (l .target) (fresh id) (candidatesOf l))) (turnAway l)
-          (λ e. ap (sumOf w) (put-candidates l (enter (l .target) (fresh id) (candidatesOf l))) ∙ sum-enter w (l .target) (fresh id) (candidatesOf l) ∙ omega (arith, none id))
-          (λ e. refl))))
+      (λ f. cond-ind P (same (sha256 id) ours) l _ (λ e. refl)
+      (λ o. cond-ind P (known (sha256 id) (candidatesOf l)) l _ (λ e. refl)
+      (λ k. cond-ind P (ltb (l .count) room) (put l (enter (l .target) (fresh id) (candidatesOf l))) (turnAway l)
+      (λ e. ap (sumOf w) (put-candidates l (enter (l .target) (fresh id) (candidatesOf l))) ∙ sum-enter w (l .target) (fresh id) (candidatesOf l) ∙ omega (arith, none id))
+      (λ e. refl))))
     where
       P : Lookup → Type 0
       P k = sumOf w (candidatesOf k) ≡ sumOf w (candidatesOf l)
@@ -130,8 +130,12 @@ run-spends p (c ∷ cs) l s = omega (arith, run-spends p cs (step c l .lookup) (
 pub asked-once : (p : List ℕ) (cs : List Call) (l : Lookup) → Sound l → asked p cs l ≤ 1
 asked-once p cs l s =
     let k : Sound (run cs l) = sound-run cs l s in
-    omega (arith, run-spends p cs l s, sum-le (spent p) (one p) (spent-le p) (candidatesOf (run cs l)),
-      apart (run cs l .target) p (candidatesOf (run cs l)) (formed (run cs l) (k .form) .order))
+    omega (
+      arith,
+      run-spends p cs l s,
+      sum-le (spent p) (one p) (spent-le p) (candidatesOf (run cs l)),
+      apart (run cs l .target) p (candidatesOf (run cs l)) (formed (run cs l) (k .form) .order),
+    )
 
 -- ---- in flight
 flying-yes : (c : Candidate) → c .mark ≡ flying → flyingOne c ≡ 1
@@ -144,9 +148,9 @@ hear-limit : (ours id : List ℕ) (l : Lookup) → hear ours id l .limit ≡ l .
 unfolding hear meet
 hear-limit ours id l =
     cond-ind P (not (idFits id)) l _ (λ e. refl)
-      (λ f. cond-ind P (same (sha256 id) ours) l _ (λ e. refl)
-      (λ o. cond-ind P (known (sha256 id) (candidatesOf l)) l _ (λ e. refl)
-      (λ k. cond-ind P (ltb (l .count) room) (put l (enter (l .target) (fresh id) (candidatesOf l))) (turnAway l) (λ e. refl) (λ e. refl))))
+    (λ f. cond-ind P (same (sha256 id) ours) l _ (λ e. refl)
+    (λ o. cond-ind P (known (sha256 id) (candidatesOf l)) l _ (λ e. refl)
+    (λ k. cond-ind P (ltb (l .count) room) (put l (enter (l .target) (fresh id) (candidatesOf l))) (turnAway l) (λ e. refl) (λ e. refl))))
   where
     P : Lookup → Type 0
     P k = k .limit ≡ l .limit

@@ -92,8 +92,8 @@ module _ (q : Candidate → Bool) where
       ⊎-elim (λ e. inr (omega arith, e)) (λ e. inl (or-r (q c) (anyIn q cs) e)) (or-e (q (withMark m c)) (anyIn q cs) h)
   any-mark (suc i) m (c ∷ cs) h =
       ⊎-elim (λ e. inl (or-l (q c) (anyIn q cs) e))
-        (λ e. ⊎-elim (λ f. inl (or-r (q c) (anyIn q cs) f)) (λ f. inr (omega (arith, f .0), f .1)) (any-mark i m cs e))
-        (or-e (q c) (anyIn q (markAt i m cs)) h)
+      (λ e. ⊎-elim (λ f. inl (or-r (q c) (anyIn q cs) f)) (λ f. inr (omega (arith, f .0), f .1)) (any-mark i m cs e))
+      (or-e (q c) (anyIn q (markAt i m cs)) h)
 
   pub any-enter : (t : List ℕ) (c : Candidate) (cs : List Candidate) → anyIn q (enter t c cs) ≡ true → (q c ≡ true) ⊎ (anyIn q cs ≡ true)
   unfolding anyIn enter
@@ -104,8 +104,8 @@ module _ (q : Candidate → Bool) where
           → (q c ≡ true) ⊎ ((q d || anyIn q cs) ≡ true)
       go ih =
           cond-ind (λ (l : List Candidate). anyIn q l ≡ true → (q c ≡ true) ⊎ ((q d || anyIn q cs) ≡ true)) (nearerTo t (d .place) (c .place)) (d ∷ enter t c cs) (c ∷ d ∷ cs)
-            (λ e h. ⊎-elim (λ f. inr (or-l (q d) (anyIn q cs) f)) (λ f. ⊎-elim (λ g. inl g) (λ g. inr (or-r (q d) (anyIn q cs) g)) (ih f)) (or-e (q d) (anyIn q (enter t c cs)) h))
-            (λ e h. or-e (q c) (q d || anyIn q cs) h)
+          (λ e h. ⊎-elim (λ f. inr (or-l (q d) (anyIn q cs) f)) (λ f. ⊎-elim (λ g. inl g) (λ g. inr (or-r (q d) (anyIn q cs) g)) (ih f)) (or-e (q d) (anyIn q (enter t c cs)) h))
+          (λ e h. or-e (q c) (q d || anyIn q cs) h)
 
   -- and what passes, whatever its mark, still does
   pub any-marked : ((m : ℕ) (c : Candidate) → q (withMark m c) ≡ q c) → (i m : ℕ) (cs : List Candidate) → anyIn q (markAt i m cs) ≡ anyIn q cs
@@ -123,5 +123,5 @@ module _ (q : Candidate → Bool) where
       go : ((q c ≡ true) ⊎ (anyIn q cs ≡ true) → anyIn q (enter t c cs) ≡ true) → anyIn q (cond (nearerTo t (d .place) (c .place)) (d ∷ enter t c cs) (c ∷ d ∷ cs)) ≡ true
       go ih =
           cond-ind (λ (l : List Candidate). anyIn q l ≡ true) (nearerTo t (d .place) (c .place)) (d ∷ enter t c cs) (c ∷ d ∷ cs)
-            (λ e. ⊎-elim (λ f. or-r (q d) _ (ih (inl f))) (λ f. ⊎-elim (λ g. or-l (q d) _ g) (λ g. or-r (q d) _ (ih (inr g))) (or-e (q d) (anyIn q cs) f)) h)
-            (λ e. ⊎-elim (λ f. or-l (q c) _ f) (λ f. or-r (q c) _ f) h)
+          (λ e. ⊎-elim (λ f. or-r (q d) _ (ih (inl f))) (λ f. ⊎-elim (λ g. or-l (q d) _ g) (λ g. or-r (q d) _ (ih (inr g))) (or-e (q d) (anyIn q cs) f)) h)
+          (λ e. ⊎-elim (λ f. or-l (q c) _ f) (λ f. or-r (q c) _ f) h)

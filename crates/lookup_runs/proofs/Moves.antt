@@ -70,9 +70,9 @@ next-moves : (l : Lookup) → length (l .candidates) ≡ 256 → Move goNext l (
 unfolding nextOf
 next-moves l hl =
     cond-ind (Move goNext l) (not (inForm l)) _ _ (λ e. stays refl tt)
-      (λ f. cond-ind (Move goNext l) (isOver (marksOf l)) _ _ (λ e. stays refl (ends-quiet l))
-      (λ o. cond-ind (Move goNext l) (leb (l .limit) (flightsOf (marksOf l))) _ _ (λ e. stays refl tt)
-      (λ g. cond-ind (Move goNext l) (ltb (idleOf (marksOf l)) (l .count)) _ _ (λ e. ask f o g e) (λ e. stays refl tt))))
+    (λ f. cond-ind (Move goNext l) (isOver (marksOf l)) _ _ (λ e. stays refl (ends-quiet l))
+    (λ o. cond-ind (Move goNext l) (leb (l .limit) (flightsOf (marksOf l))) _ _ (λ e. stays refl tt)
+    (λ g. cond-ind (Move goNext l) (ltb (idleOf (marksOf l)) (l .count)) _ _ (λ e. ask f o g e) (λ e. stays refl tt))))
   where
     ask : not (inForm l) ≡ false → isOver (marksOf l) ≡ false → leb (l .limit) (flightsOf (marksOf l)) ≡ false → ltb (idleOf (marksOf l)) (l .count) ≡ true
         → Move goNext l (gives (mark (idleOf (marksOf l)) flying l) (Ask (idleOf (marksOf l))))
@@ -95,9 +95,9 @@ about : (l : Lookup) (own ours id : List ℕ) → length (l .candidates) ≡ 256
 unfolding whomOf
 about l own ours id hl =
     cond-ind (About l id) (not (inForm l)) _ _ (λ e. tt)
-      (λ f. cond-ind (About l id) (badPeer own ours id) _ _ (λ e. tt)
-      (λ b. cond-ind (About l id) (isOver (marksOf l)) _ _ (λ e. tt)
-      (λ o. cond-ind (About l id) (leb (l .count) (flyerOf (sha256 id) (candidatesOf l))) _ _ (λ e. tt) (λ e. found f o e))))
+    (λ f. cond-ind (About l id) (badPeer own ours id) _ _ (λ e. tt)
+    (λ b. cond-ind (About l id) (isOver (marksOf l)) _ _ (λ e. tt)
+    (λ o. cond-ind (About l id) (leb (l .count) (flyerOf (sha256 id) (candidatesOf l))) _ _ (λ e. tt) (λ e. found f o e))))
   where
     found : not (inForm l) ≡ false → isOver (marksOf l) ≡ false → leb (l .count) (flyerOf (sha256 id) (candidatesOf l)) ≡ false → Found l id (flyerOf (sha256 id) (candidatesOf l))
     found f o e =
@@ -123,7 +123,7 @@ reply-moves : (own ours id body : List ℕ) (v : Fields) (l : Lookup) → length
 unfolding replyOf
 reply-moves own ours id body v l hl =
     cond-ind (Move (goReply own ours id body v) l) (not (isView body v)) (refuses l OutOfForm) (reported l (whomOf l own ours id) (heardFrom ours body (v .kind) l)) (λ e. stays refl tt)
-      (λ e. go (whomOf l own ours id) (about l own ours id hl))
+    (λ e. go (whomOf l own ours id) (about l own ours id hl))
   where
     heard : (i : ℕ) → Found l id i → (k : Lookup) → (k ≡ hearAll ours (heardIds body) (mark i answered l)) → v .kind ≡ findNode → Move (goReply own ours id body v) l (settled k)
     heard i a k e q = answers own ours id body v i refl q (a .has) (a .place) (settled-lookup k ∙ e) (settled-quiet k)
@@ -131,8 +131,8 @@ reply-moves own ours id body v l hl =
     by-kind : (i : ℕ) → Found l id i → Move (goReply own ours id body v) l (settled (cond (eqb (v .kind) findNode) (hearAll ours (heardIds body) (mark i answered l)) (mark i failed l)))
     by-kind i a =
         cond-ind (λ (k : Lookup). Move (goReply own ours id body v) l (settled k)) (eqb (v .kind) findNode) (hearAll ours (heardIds body) (mark i answered l)) (mark i failed l)
-          (λ q. heard i a (hearAll ours (heardIds body) (mark i answered l)) refl (eqb-true (v .kind) findNode q))
-          (λ q. fails i (a .has) (settled-lookup (mark i failed l)) (settled-quiet (mark i failed l)))
+        (λ q. heard i a (hearAll ours (heardIds body) (mark i answered l)) refl (eqb-true (v .kind) findNode q))
+        (λ q. fails i (a .has) (settled-lookup (mark i failed l)) (settled-quiet (mark i failed l)))
 
     go : (w : Whom) → About l id w → Move (goReply own ours id body v) l (reported l w (heardFrom ours body (v .kind) l))
     go (Nobody r) a = stays refl tt

@@ -176,14 +176,15 @@ module _ (t : List ℕ) (lt : length t ≡ 32) where
   other : (c d : Candidate) → Placed (c .place) → Placed (d .place) → nearerTo t (d .place) (c .place) ≡ false → liesAt (c .place) d ≡ false → dist t c < dist t d
   other c d pc pd n k =
       ⊎-elim (λ h. h) (λ h. absurd (not-both (nearerTo t (d .place) (c .place)) (near d c pd pc h) n))
-        (nearer-total (c .place) (d .place) t (pc .long ∙ sym (pd .long)) (pc .bytes) (pd .bytes) (λ e. not-both (liesAt (c .place) d) (same-yes (d .place) (c .place) (sym e)) k))
+      (nearer-total (c .place) (d .place) t (pc .long ∙ sym (pd .long)) (pc .bytes) (pd .bytes) (λ e. not-both (liesAt (c .place) d) (same-yes (d .place) (c .place) (sym e)) k))
 
   module _ (c : Candidate) (made : wellMade c ≡ true) (pc : Placed (c .place)) where
     unknown : (d : Candidate) (cs : List Candidate) → known (c .place) (d ∷ cs) ≡ false → (liesAt (c .place) d ≡ false) × (known (c .place) cs ≡ false)
     unfolding anyIn
-    unknown d cs k =
-        (to-false (liesAt (c .place) d) (λ e. not-both _ (or-l (liesAt (c .place) d) (known (c .place) cs) e) k),
-         to-false (known (c .place) cs) (λ e. not-both _ (or-r (liesAt (c .place) d) (known (c .place) cs) e) k))
+    unknown d cs k = (
+      to-false (liesAt (c .place) d) (λ e. not-both _ (or-l (liesAt (c .place) d) (known (c .place) cs) e) k),
+      to-false (known (c .place) cs) (λ e. not-both _ (or-r (liesAt (c .place) d) (known (c .place) cs) e) k),
+    )
 
     follow-enter : (d : Candidate) (cs : List Candidate) → nearerTo t (d .place) (c .place) ≡ true → AllPlaced cs → known (c .place) cs ≡ false
         → follow t d cs ≡ true → follow t d (enter t c cs) ≡ true
@@ -191,15 +192,15 @@ module _ (t : List ℕ) (lt : length t ≡ 32) where
     follow-enter d [] n a k f = follow-in t d c [] made n (follow-nil t c)
     follow-enter d (e ∷ cs) n a k f =
         cond-ind (λ (l : List Candidate). follow t d l ≡ true) (nearerTo t (e .place) (c .place)) (e ∷ enter t c cs) (c ∷ e ∷ cs)
-          (λ q. follow-in t d e (enter t c cs) (follow-made t d e cs f) (follow-near t d e cs f) (follow-enter e cs q (a .1) (unknown e cs k .1) (follow-rest t d e cs f)))
-          (λ q. follow-in t d c (e ∷ cs) made n
-            (follow-in t c e cs (follow-made t d e cs f) (near c e pc (a .0) (other c e pc (a .0) q (unknown e cs k .0))) (follow-rest t d e cs f)))
+        (λ q. follow-in t d e (enter t c cs) (follow-made t d e cs f) (follow-near t d e cs f) (follow-enter e cs q (a .1) (unknown e cs k .1) (follow-rest t d e cs f)))
+        (λ q. follow-in t d c (e ∷ cs) made n
+        (follow-in t c e cs (follow-made t d e cs f) (near c e pc (a .0) (other c e pc (a .0) q (unknown e cs k .0))) (follow-rest t d e cs f)))
 
     pub order-enter : (cs : List Candidate) → AllPlaced cs → known (c .place) cs ≡ false → nearestFirst t cs ≡ true → nearestFirst t (enter t c cs) ≡ true
     unfolding enter AllPlaced
     order-enter [] a k f = first-in t c [] made (follow-nil t c)
     order-enter (e ∷ cs) a k f =
         cond-ind (λ (l : List Candidate). nearestFirst t l ≡ true) (nearerTo t (e .place) (c .place)) (e ∷ enter t c cs) (c ∷ e ∷ cs)
-          (λ q. first-in t e (enter t c cs) (first-made t e cs f) (follow-enter e cs q (a .1) (unknown e cs k .1) (first-rest t e cs f)))
-          (λ q. first-in t c (e ∷ cs) made
-            (follow-in t c e cs (first-made t e cs f) (near c e pc (a .0) (other c e pc (a .0) q (unknown e cs k .0))) (first-rest t e cs f)))
+        (λ q. first-in t e (enter t c cs) (first-made t e cs f) (follow-enter e cs q (a .1) (unknown e cs k .1) (first-rest t e cs f)))
+        (λ q. first-in t c (e ∷ cs) made
+        (follow-in t c e cs (first-made t e cs f) (near c e pc (a .0) (other c e pc (a .0) q (unknown e cs k .0))) (first-rest t e cs f)))

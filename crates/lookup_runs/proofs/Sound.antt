@@ -47,7 +47,11 @@ sound-mark i m l h s =
     let f : Formed l = formed l (s .form) in
     record {
       form = form-of (mark i m l) (record {
-        sizeLow = f .sizeLow; sizeHigh = f .sizeHigh; limitLow = f .limitLow; limitHigh = f .limitHigh; fits = f .fits;
+        sizeLow = f .sizeLow;
+        sizeHigh = f .sizeHigh;
+        limitLow = f .limitLow;
+        limitHigh = f .limitHigh;
+        fits = f .fits;
         order = subst (λ (cs : List Candidate). nearestFirst (l .target) cs ≡ true) (sym (marked-candidates i m l)) (order-mark (l .target) i m (candidatesOf l) h (f .order));
       });
       long = length-mark i m (l .candidates) ∙ s .long;
@@ -64,7 +68,11 @@ sound-put c l made p k h s =
     let n : length (enter (l .target) c (candidatesOf l)) ≤ 256 = omega (arith, enter-length (l .target) c (candidatesOf l), length-take (l .count) (l .candidates)) in
     record {
       form = form-of (put l (enter (l .target) c (candidatesOf l))) (record {
-        sizeLow = f .sizeLow; sizeHigh = f .sizeHigh; limitLow = f .limitLow; limitHigh = f .limitHigh; fits = n;
+        sizeLow = f .sizeLow;
+        sizeHigh = f .sizeHigh;
+        limitLow = f .limitLow;
+        limitHigh = f .limitHigh;
+        fits = n;
         order = subst (λ (xs : List Candidate). nearestFirst (l .target) xs ≡ true) (sym (put-candidates l (enter (l .target) c (candidatesOf l))))
             (order-enter (l .target) (s .target) c made p (candidatesOf l) (s .placed) k (f .order));
       });
@@ -79,7 +87,12 @@ sound-turn l s =
     let f : Formed l = formed l (s .form) in
     record {
       form = form-of (turnAway l) (record {
-        sizeLow = f .sizeLow; sizeHigh = f .sizeHigh; limitLow = f .limitLow; limitHigh = f .limitHigh; fits = f .fits; order = f .order;
+        sizeLow = f .sizeLow;
+        sizeHigh = f .sizeHigh;
+        limitLow = f .limitLow;
+        limitHigh = f .limitHigh;
+        fits = f .fits;
+        order = f .order;
       });
       long = s .long;
       target = s .target;
@@ -96,13 +109,13 @@ pub sound-hear : (ours id : List ℕ) (l : Lookup) → Sound l → Sound (hear o
 unfolding hear meet
 sound-hear ours id l s =
     cond-ind Sound (not (idFits id)) l _ (λ e. s)
-      (λ f. cond-ind Sound (same (sha256 id) ours) l _ (λ e. s)
-      (λ o. cond-ind Sound (known (sha256 id) (candidatesOf l)) l _ (λ e. s)
-      (λ k. cond-ind Sound (ltb (l .count) room) (put l (enter (l .target) (fresh id) (candidatesOf l))) (turnAway l)
-        (λ e. sound-put (fresh id) l
-          (made-idle (fresh id) refl (leb-true 1 (length id) (and-l (leb 1 (length id)) _ (not-false (idFits id) f))) (leb-true (length id) idMost (and-r (leb 1 (length id)) _ (not-false (idFits id) f))))
-          (record { long = length-sha256 id; bytes = bytes-sha256 id }) k (ltb-true (l .count) room e) s)
-        (λ e. sound-turn l s))))
+    (λ f. cond-ind Sound (same (sha256 id) ours) l _ (λ e. s)
+    (λ o. cond-ind Sound (known (sha256 id) (candidatesOf l)) l _ (λ e. s)
+    (λ k. cond-ind Sound (ltb (l .count) room) (put l (enter (l .target) (fresh id) (candidatesOf l))) (turnAway l)
+    (λ e. sound-put (fresh id) l
+    (made-idle (fresh id) refl (leb-true 1 (length id) (and-l (leb 1 (length id)) _ (not-false (idFits id) f))) (leb-true (length id) idMost (and-r (leb 1 (length id)) _ (not-false (idFits id) f))))
+    (record { long = length-sha256 id; bytes = bytes-sha256 id }) k (ltb-true (l .count) room e) s)
+    (λ e. sound-turn l s))))
 
 pub sound-all : (ours : List ℕ) (ids : List (List ℕ)) (l : Lookup) → Sound l → Sound (hearAll ours ids l)
 unfolding hearAll
@@ -163,8 +176,8 @@ module _ (t ours x : List ℕ) (ht : Bytes t) (table : inFormTable t ours ≡ tr
       let gd : Good d = g 0 (omega arith) in
       let ge : Good e = g 1 (omega arith) in
       follow-in x (contactAt t d) (contactAt t e) (map (contactAt t) ls) (contact-made e ge)
-        (near x hx (contactAt t d) (contactAt t e) (contact-placed d gd) (contact-placed e ge) (contact-near d e gd ge (s 0 1 (omega arith) (omega arith))))
-        (contacts-follow e ls (λ i h. g (suc i) (omega arith)) (λ i j h k. s (suc i) (suc j) (omega arith) (omega arith)))
+      (near x hx (contactAt t d) (contactAt t e) (contact-placed d gd) (contact-placed e ge) (contact-near d e gd ge (s 0 1 (omega arith) (omega arith))))
+      (contacts-follow e ls (λ i h. g (suc i) (omega arith)) (λ i j h k. s (suc i) (suc j) (omega arith) (omega arith)))
 
   contacts-order : (ls : List ℕ) → AllGood ls → Strict ls → nearestFirst x (map (contactAt t) ls) ≡ true
   contacts-order [] g s = first-nil x

@@ -40,7 +40,7 @@ module _ (w : Candidate → ℕ) where
   sum-enter t c (d ∷ cs) =
       let ih : sumOf w (enter t c cs) ≡ w c + sumOf w cs = sum-enter t c cs in
       cond-ind (λ (l : List Candidate). sumOf w l ≡ w c + (w d + sumOf w cs)) (nearerTo t (d .place) (c .place)) (d ∷ enter t c cs) (c ∷ d ∷ cs)
-        (λ e. omega arith) (λ e. refl)
+      (λ e. omega arith) (λ e. refl)
 
 pub sum-le : (v w : Candidate → ℕ) → ((c : Candidate) → v c ≤ w c) → (cs : List Candidate) → sumOf v cs ≤ sumOf w cs
 unfolding sumOf
