@@ -1,0 +1,13 @@
+-- Document 01, 'Bench examples': "Those with * are proved, gathered into a single table under one claim". Each row stands beside the definitions
+-- that it is about. (That the empty message is then refused with 8 joins with the answers to requests.)
+use Rattle.stream.specs.Examples.{PrefixExamples}
+use Rattle.recipe.specs.Examples as recipe
+use Rattle.place.specs.Examples.{BucketExamples}
+
+pub record Starred : Type 0 where
+  -- 00, 80 00, 80 80 01, 81 80 01, 80 80 80
+  pub prefixes : PrefixExamples
+  -- zigzag -1, -20,000 and 20,000; the recipe of one setpoint, and the same with 13 for 12
+  pub recipes : recipe.Examples
+  -- our place starts 0010 1100: 01.. is bucket 1, 0011 bucket 3
+  pub buckets : BucketExamples
