@@ -1,7 +1,7 @@
 -- Laws of the form test: slot numbers in the order of their keys, each found by halving and put in its place. Assumes nothing.
 use mathlib.Core.Path.{_≡_, refl, sym, ap, ap₂, _∙_, subst}
 use mathlib.Core.Logic.{_⊎_, inl, inr, ⊎-elim}
-use mathlib.Core.Bool.{Bool, true, false, not, _||_}
+use mathlib.Core.Bool.{Bool, true, false, not, _&&_}
 use mathlib.Core.List.{List}
 use Prim.Native.Nat.{ℕ, _+_, _-_, _<_, _≤_}
 use native.Mathlib.Omega.{arith}
@@ -12,12 +12,12 @@ use lib.Seq.{getD-set-same, getD-set-other}
 use borrow.Author.Tests.{lt-ltb, le-ltb, ltb-true, ltb-false}
 use Rattle.octets.specs.Octets.{lower}
 use Rattle.octets.specs.Search.{all}
-use Rattle.octets.proofs.Bools.{or-l, not-both, to-false, either, eq-or-ne}
+use Rattle.octets.proofs.Bools.{and-l, and-r, and-i, not-both, to-false, either, eq-or-ne}
 use Rattle.octets.proofs.Searching.{all-intro, all-fails}
 use Rattle.octets.proofs.Strings.{lower-trans, lower-total, lower-irrefl}
 use Rattle.records.specs.Limits.{slotsMax}
 use Rattle.records.specs.Store.{slotsOf, slot, used, keyOf, isRecord, holds, apart, fits}
-use Rattle.records.specs.Inner.{keyIn, Rising, Between, comesBefore, Inserted, Ordered, Settled}
+use Rattle.records.specs.Inner.{keyIn, Rising, Between, standsAt, Inserted, Ordered, Settled}
 use Rattle.records.proofs.Laying.{is-used, unused, fits-free, fits-bad, slots-most}
 use Rattle.records.proofs.Putting.{holds-out, holds-in}
 
@@ -55,27 +55,23 @@ module _ (t o : List ℕ) (held : ℕ) (k : List ℕ) (r : Rising t o held) (lo 
 pub halved : (t o : List ℕ) (held : ℕ) (k : List ℕ) (lo hi : ℕ) → Halving t o held k lo hi → hi ≤ lo → Between t o held k lo
 halved t o held k lo hi h g = record { most = omega (arith, h .order, h .within); low = h .low; high = λ q a l. h .high q (omega arith) l }
 
--- ---- whether a key comes before the one at a place
+-- ---- whether a key stands at its place
 module _ (t o : List ℕ) (held p : ℕ) (k : List ℕ) where
-  pub comes-past : held ≤ p → true ≡ comesBefore t o held p k
-  unfolding comesBefore
-  comes-past h = rw (le-ltb p held h)
+  pub stands-past : held ≤ p → false ≡ standsAt t o held p k
+  unfolding standsAt
+  stands-past h = rw (le-ltb p held h)
 
-  pub comes-is : p < held → {x : List ℕ} {b : Bool} → x ≡ keyIn t o p → b ≡ lower k x → b ≡ comesBefore t o held p k
-  unfolding comesBefore
-  comes-is h ex e = e ∙ rw (lt-ltb p held h, ← ex)
+  pub stands-is : p < held → {b : Bool} → b ≡ holds t k (getD o p 0) → b ≡ standsAt t o held p k
+  unfolding standsAt
+  stands-is h e = e ∙ rw (lt-ltb p held h)
 
-  comes-not : comesBefore t o held p k ≡ false → (p < held) × (lower k (keyIn t o p) ≡ false)
-  unfolding comesBefore
-  comes-not e = go (ltb p held) refl
-    where
-      go : (b : Bool) → ltb p held ≡ b → (p < held) × (lower k (keyIn t o p) ≡ false)
-      go true q = (ltb-true p held q, rw q at e)
-      go false q = absurd (not-both (not (ltb p held) || lower k (keyIn t o p)) (or-l (not (ltb p held)) _ (rw q refl)) e)
+  stands-yes : standsAt t o held p k ≡ true → (p < held) × (holds t k (getD o p 0) ≡ true)
+  unfolding standsAt
+  stands-yes e = (ltb-true p held (and-l (ltb p held) _ e), and-r (ltb p held) _ e)
 
-  comes-yes : comesBefore t o held p k ≡ true → p < held → lower k (keyIn t o p) ≡ true
-  unfolding comesBefore
-  comes-yes e h = rw (lt-ltb p held h) at e
+  stands-no : standsAt t o held p k ≡ false → p < held → holds t k (getD o p 0) ≡ false
+  unfolding standsAt
+  stands-no e h = to-false (holds t k (getD o p 0)) (λ y. not-both (ltb p held && holds t k (getD o p 0)) (and-i (ltb p held) _ (lt-ltb p held h) y) e)
 
 -- ---- moving on: those from m on stand one place later
 pub record Moving (o₀ : List ℕ) (held p : ℕ) (o : List ℕ) (m : ℕ) : Type 0 where
@@ -164,32 +160,37 @@ module _ (t o : List ℕ) (held i : ℕ) (g : Ordered t o held i) (li : i < slot
     good-i = ap isRecord (sym e) ∙ sym f ∙ z
 
     -- its key stands in the order already
-    pub settle-twice : {c : Bool} → c ≡ comesBefore t o held p k → c ≡ false → Settled t o i 257
+    pub settle-twice : {c : Bool} → c ≡ standsAt t o held p k → c ≡ true → Settled t o i 257
     unfolding apart fits
     settle-twice ec y = record { fit = λ l. absurd (bad l); unfit = λ _. no }
       where
         bad : 257 ≤ slotsMax → ⊥
         bad l = omega arith
 
-        there : (p < held) × (lower k (keyIn t o p) ≡ false)
-        there = comes-not t o held p k (sym ec ∙ y)
-
-        held-there : holds t k (getD o p 0) ≡ true
-        held-there = holds-in t k (getD o p 0) (g .each p (there .0) .1) (lower-total (keyIn t o p) k (w .high p (omega arith) (there .0)) (there .1))
+        there : (p < held) × (holds t k (getD o p 0) ≡ true)
+        there = stands-yes t o held p k (sym ec ∙ y)
 
         hit : apart t i (getD o p 0) ≡ false
-        hit = rw (← key-i) (rw held-there)
+        hit = rw (← key-i) (rw (there .1))
 
         no : fits t i ≡ false
         no = rw (used-i, good-i) (all-fails (apart t i) i (getD o p 0) (g .each p (there .0) .0) hit)
 
-    module _ {c : Bool} (ec : c ≡ comesBefore t o held p k) (y : c ≡ true) where
+    module _ {c : Bool} (ec : c ≡ standsAt t o held p k) (y : c ≡ false) where
       -- from p on every key is higher
       over : (q : ℕ) → p ≤ q → q < held → lower k (keyIn t o q) ≡ true
       over q a l = ⊎-elim (λ x. subst (λ (n : ℕ). lower k (keyIn t o n) ≡ true) x first) (λ x. lower-trans k (keyIn t o p) (keyIn t o q) first (g .sorted .rising p q x l)) (eq-or-lt-of-le {n = p} {m = q} a)
         where
+          lp : p < held
+          lp = omega arith
+
+          other : lower k (keyIn t o p) ≡ false → ⊥
+          other x =
+              let eq : keyIn t o p ≡ k = lower-total (keyIn t o p) k (w .high p (omega arith) lp) x in
+              not-both (holds t k (getD o p 0)) (holds-in t k (getD o p 0) (g .each p lp .1) eq) (stands-no t o held p k (sym ec ∙ y) lp)
+
           first : lower k (keyIn t o p) ≡ true
-          first = comes-yes t o held p k (sym ec ∙ y) (omega arith)
+          first = ⊎-elim (λ x. x) (λ x. absurd (other x)) (either (lower k (keyIn t o p)))
 
       -- so no slot before i has it
       differs : (q : ℕ) → q < held → keyIn t o q ≡ k → ⊥

@@ -1,14 +1,14 @@
 -- What the parts of the code need of each other and promise each other. No reader of `Store` needs these.
 use Prim.Native.Nat.{ℕ, _+_, _*_, _-_, _<_, _≤_}
 use mathlib.Core.Path.{_≡_}
-use mathlib.Core.Bool.{Bool, true, false, not, _||_}
+use mathlib.Core.Bool.{Bool, true, false, _&&_}
 use mathlib.Core.List.{List}
 use lib.Dec.{ltb}
 use lib.ListN.{length, getD}
 use Rattle.octets.specs.Octets.{lower}
 use Rattle.recipe.specs.Limits.{valueMax}
 use Rattle.records.specs.Limits.{slotsMax, keyMax, slotSize}
-use Rattle.records.specs.Store.{slotsOf, slot, used, keyOf, fits}
+use Rattle.records.specs.Store.{slotsOf, slot, used, keyOf, holds, fits}
 
 -- a key and a value that fit a slot, and the place of one
 pub record Fitting (t : List ℕ) (at : ℕ) (k v : List ℕ) : Type 0 where
@@ -33,9 +33,8 @@ pub record Between (t o : List ℕ) (held : ℕ) (k : List ℕ) (r : ℕ) : Type
   pub low : (q : ℕ) → q < r → lower (keyIn t o q) k ≡ true
   pub high : (q : ℕ) → r ≤ q → q < held → lower (keyIn t o q) k ≡ false
 
--- a key comes before the one at place p; past the end every key does
-unfoldable pub comesBefore : List ℕ → List ℕ → ℕ → ℕ → List ℕ → Bool
-comesBefore t o held p k = not (ltb p held) || lower k (keyIn t o p)
+unfoldable pub standsAt : List ℕ → List ℕ → ℕ → ℕ → List ℕ → Bool
+standsAt t o held p k = ltb p held && holds t k (getD o p 0)
 
 -- x is put in at place p, and those after it moved on
 pub record Inserted (o o′ : List ℕ) (held p x : ℕ) : Type 0 where

@@ -9,7 +9,7 @@ ghost use Rattle.octets.specs.Octets.{part, lower, number};
 ghost use Rattle.recipe.specs.Limits.{valueMax};
 ghost use Rattle.records.specs.Limits.{slotSize, keyMax};
 ghost use Rattle.records.specs.Store.{slotsOf, slot, keyOf, sizeOf, valueOf, isKey, isRecord, holds, inForm, slotWith, freeSlot, found, findOf, heldPlan, planOf, padded, header, slotBytes, offerAnswer, offerAfter, putAnswer, putAfter};
-ghost use Rattle.records.specs.Inner.{Fitting, Rising, Between, comesBefore, Inserted, Ordered, Settled};
+ghost use Rattle.records.specs.Inner.{Fitting, Rising, Between, standsAt, Inserted, Ordered, Settled};
 
 // The limits and the layout; specs/Limits.antt has the same.
 pub const SLOTS_MAX: usize = 256;
@@ -209,16 +209,16 @@ fn place_for(store: &[u8], order: &[u8], held: usize, key: &[u8]) -> usize
     lo
 }
 
-// Whether a key comes before the one at a place of the order; past the end every key does.
-fn comes_before(store: &[u8], order: &[u8], held: usize, p: usize, key: &[u8]) -> bool
+// Whether the slot at a place of the order has this key.
+fn stands_at(store: &[u8], order: &[u8], held: usize, p: usize, key: &[u8]) -> bool
     requires { ⌜ Rising (now store) (now order) held ⌝ }
-    ensures { λ r. ⌜ r ≡ comesBefore (now (store .entry)) (now (order .entry)) held p (now (key .entry)) ⌝ }
+    ensures { λ r. ⌜ r ≡ standsAt (now (store .entry)) (now (order .entry)) held p (now (key .entry)) ⌝ }
 {
     if held <= p {
-        return true;
+        return false;
     }
     let j = order[p] as usize;
-    key_before(key, key_of(slot_at(store, j)))
+    slot_holds(store, key, j)
 }
 
 // Puts a slot number into the order at a place, and moves those after it on.
@@ -248,7 +248,7 @@ fn settle(store: &[u8], order: &mut [u8], held: usize, i: usize) -> usize
     }
     let key = key_of(s);
     let p = place_for(store, order, held, key);
-    if !comes_before(store, order, held, p, key) {
+    if stands_at(store, order, held, p, key) {
         return UNFIT;
     }
     insert(order, held, p, i as u8);

@@ -1,5 +1,6 @@
 -- `common` passes over two words at a time.
 use native.Mathlib.Omega.{arith}
+use borrow.Author.Needs.{needs}
 use mathlib.Core.Path.{_≡_, refl, sym, _∙_}
 use Prim.Native.Nat.{_+_, _≤_, _-_}
 use lib.ListN.{drop}

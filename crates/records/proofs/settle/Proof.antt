@@ -28,14 +28,14 @@ key-of-requires c κs = search needs
 place-for-requires : tie.Need-place-for-requires
 place-for-requires c κs = search needs
 
-comes-before-requires : tie.Need-comes-before-requires
-comes-before-requires c κs = search needs
+stands-at-requires : tie.Need-stands-at-requires
+stands-at-requires c κs = search needs
 
 same-length : tie.Need-same-length
 same-length c = search needs
 
 returns-3 : tie.Need-returns-3
-returns-3 c = settle-twice (c .before .before .before .before .before .before .before .before .before .before .before .before .before .args .store .now) (c .before .before .before .before .before .before .before .before .before .before .before .before .before .args .order .now) (c .before .before .before .before .before .before .before .before .before .before .before .before .before .args .held) (c .before .before .before .before .before .before .before .before .before .before .before .before .before .args .i) (c .before .before .before .before .before .before .before .before .before .before .before .before .before .pre .1) (c .before .before .before .before .before .before .before .before .before .before .before .before .before .pre .0) (c .before .before .before .before .before .before .before .before .before .before .slot-at .ensures .0) (omega arith) (c .before .before .before .before .before .before .before .is-record .ensures) (not-false _ (c .before .before .before .before .before .before .if2 .left)) (c .before .before .before .before .before .key-of .ensures) (c .before .before .before .place-for .result) (c .before .before .before .place-for .ensures) (c .before .comes-before .ensures) (not-true _ (c .if3 .taken))
+returns-3 c = settle-twice (c .before .before .before .before .before .before .before .before .before .before .before .before .before .args .store .now) (c .before .before .before .before .before .before .before .before .before .before .before .before .before .args .order .now) (c .before .before .before .before .before .before .before .before .before .before .before .before .before .args .held) (c .before .before .before .before .before .before .before .before .before .before .before .before .before .args .i) (c .before .before .before .before .before .before .before .before .before .before .before .before .before .pre .1) (c .before .before .before .before .before .before .before .before .before .before .before .before .before .pre .0) (c .before .before .before .before .before .before .before .before .before .before .slot-at .ensures .0) (omega arith) (c .before .before .before .before .before .before .before .is-record .ensures) (not-false _ (c .before .before .before .before .before .before .if2 .left)) (c .before .before .before .before .before .key-of .ensures) (c .before .before .before .place-for .result) (c .before .before .before .place-for .ensures) (c .before .stands-at .ensures) (c .if3 .taken)
 
 cast-insert : tie.Need-cast-insert
 cast-insert c = omega (arith, c .before .before .before .before .before .before .before .before .before .before .before .before .before .before .pre .0, slots-most (c .before .before .before .before .before .before .before .before .before .before .before .before .before .before .args .store .now))
@@ -50,7 +50,7 @@ same-length-2 : tie.Need-same-length-2
 same-length-2 c = search needs
 
 returns-4 : tie.Need-returns-4
-returns-4 c = settle-new (c .before .before .before .before .before .before .before .before .before .before .before .before .before .before .before .before .before .args .store .now) (c .before .before .before .before .before .before .before .before .before .before .before .before .before .before .before .before .before .args .order .now) (c .before .before .before .before .before .before .before .before .before .before .before .before .before .before .before .before .before .args .held) (c .before .before .before .before .before .before .before .before .before .before .before .before .before .before .before .before .before .args .i) (c .before .before .before .before .before .before .before .before .before .before .before .before .before .before .before .before .before .pre .1) (c .before .before .before .before .before .before .before .before .before .before .before .before .before .before .before .before .before .pre .0) (c .before .before .before .before .before .before .before .before .before .before .before .before .before .before .slot-at .ensures .0) (omega arith) (c .before .before .before .before .before .before .before .before .before .before .before .is-record .ensures) (not-false _ (c .before .before .before .before .before .before .before .before .before .before .if2 .left)) (c .before .before .before .before .before .before .before .before .before .key-of .ensures) (c .before .before .before .before .before .before .before .place-for .result) (c .before .before .before .before .before .before .before .place-for .ensures) (c .before .before .before .before .before .comes-before .ensures) (not-false _ (c .before .before .before .before .if3 .left)) (c .before .before .insert .last .0) (c .before .before .insert .ensures)
+returns-4 c = settle-new (c .before .before .before .before .before .before .before .before .before .before .before .before .before .before .before .before .before .args .store .now) (c .before .before .before .before .before .before .before .before .before .before .before .before .before .before .before .before .before .args .order .now) (c .before .before .before .before .before .before .before .before .before .before .before .before .before .before .before .before .before .args .held) (c .before .before .before .before .before .before .before .before .before .before .before .before .before .before .before .before .before .args .i) (c .before .before .before .before .before .before .before .before .before .before .before .before .before .before .before .before .before .pre .1) (c .before .before .before .before .before .before .before .before .before .before .before .before .before .before .before .before .before .pre .0) (c .before .before .before .before .before .before .before .before .before .before .before .before .before .before .slot-at .ensures .0) (omega arith) (c .before .before .before .before .before .before .before .before .before .before .before .is-record .ensures) (not-false _ (c .before .before .before .before .before .before .before .before .before .before .if2 .left)) (c .before .before .before .before .before .before .before .before .before .key-of .ensures) (c .before .before .before .before .before .before .before .place-for .result) (c .before .before .before .before .before .before .before .place-for .ensures) (c .before .before .before .before .before .stands-at .ensures) (c .before .before .before .before .if3 .left) (c .before .before .insert .last .0) (c .before .before .insert .ensures)
 
 pub settle-spec : {M : Type 1} → statement M
 settle-spec =
@@ -63,7 +63,7 @@ settle-spec =
     returns-2
     key-of-requires
     place-for-requires
-    comes-before-requires
+    stands-at-requires
     same-length
     returns-3
     cast-insert
