@@ -1,0 +1,33 @@
+//! The numbers of document 01, each in one place.
+
+/// The longest message body, and the least receive buffer.
+pub const BODY: usize = 16_384;
+/// The least reply buffer: a body and its longest prefix.
+pub const REPLY: usize = 16_387;
+/// Keys of requests and lookups: 1 up to this.
+pub const KEY: usize = 128;
+pub const ID: usize = 64;
+pub const ADDRESS: usize = 128;
+pub const ADDRESSES: usize = 4;
+
+/// What opens every record key; 1 to 122 bytes follow.
+pub const WIND: &[u8] = b"/wind/";
+pub const VALUE_LEAST: usize = 16;
+pub const VALUE: usize = 2_048;
+
+pub const SETPOINTS: usize = 200;
+pub const TURN: u64 = 1_000_000;
+/// The largest trim in zigzag form: 20,000 millinewtons.
+pub const ZIGZAG: u64 = 40_000;
+
+/// A bucket's size, the length of a nearest list, and how many candidates decide a lookup.
+pub const NEAREST: usize = 20;
+pub const CONTACT_SLOT: usize = 616;
+pub const CONTACT_SLOTS: usize = 5_120;
+pub const RECORD_SLOT: usize = 2_184;
+pub const RECORD_SLOTS: usize = 256;
+
+pub const CANDIDATES: usize = 256;
+pub const CONCURRENCY: u64 = 10;
+/// Of a FIND_NODE reply's closerPeers, how many are heard.
+pub const HEARD: usize = 21;
