@@ -2,7 +2,7 @@
 //! place (32), id (64), four addresses (128 each), with zeros after what is shorter.
 
 use crate::limits;
-use crate::peer::{id_fits, usable, Me, Mode};
+use crate::peer::{usable, Me, Mode};
 use crate::place::{bucket, distance, place_of, Place};
 use crate::Refusal;
 use std::collections::{BTreeMap, BTreeSet};
@@ -284,9 +284,4 @@ pub fn buckets(table: &[u8], ours: &Place) -> BTreeMap<usize, Vec<Contact>> {
     let numbers: BTreeSet<usize> = all.iter().flatten().map(|e| bucket(&e.place, ours)).collect();
     let of_bucket = |n: usize| bucket_slots(&all, ours, n).into_iter().map(|i| contact(table, i)).collect();
     numbers.into_iter().map(|n| (n, of_bucket(n))).collect()
-}
-
-/// Whether an id may stand in a slot.
-pub fn id_may_stand(id: &[u8], ours: &Place) -> bool {
-    id_fits(id) && place_of(id) != *ours
 }

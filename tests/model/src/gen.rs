@@ -6,7 +6,7 @@ use crate::limits;
 use crate::lookup::{Candidate, Lookup, Mark};
 use crate::message::{self, encode, Message, Peer, Record, View};
 use crate::node::Side;
-use crate::peer::{self, Mode};
+use crate::peer::{self, id_fits, Me, Mode};
 use crate::place::{bucket, distance, place_of, Place};
 use crate::recipe::{self, Recipe, Setpoint};
 use crate::records;
@@ -357,12 +357,16 @@ pub fn bad_field(rng: &mut Rng) -> Vec<u8> {
 pub fn damaged_body(rng: &mut Rng, body: &[u8]) -> Vec<u8> {
     let mut out = body.to_vec();
     let at = rng.below(out.len() + 1);
-    match rng.below(6) {
+    match rng.below(7) {
         0 => out.truncate(at),
         1 if !out.is_empty() => out[at % body.len()] ^= 1 << rng.below(8),
         2 if !out.is_empty() => out[at % body.len()] = rng.byte(),
         3 => out.insert(at, rng.byte()),
         4 if !out.is_empty() => drop(out.remove(at % body.len())),
+        5 => {
+            let kind = *rng.pick(&[6, 7, 127, 128, 256, 1 << 32, (1 << 32) + 5, u64::MAX]);
+            out.extend(loose_number(rng, 1, kind));
+        }
         _ => {
             let field = bad_field(rng);
             out.extend(field);
@@ -499,10 +503,6 @@ pub fn table(rng: &mut Rng, ours: &Place, ids: &[Vec<u8>], slots: usize, clean: 
     contacts.resize(slots, None);
     rng.shuffle(&mut contacts);
     contacts.iter().flat_map(|c| contact_slot(rng, c, clean)).collect()
-}
-
-fn id_fits(id: &[u8]) -> bool {
-    peer::id_fits(id)
 }
 
 fn contact_slot(rng: &mut Rng, contact: &Option<Contact>, clean: bool) -> Vec<u8> {
@@ -757,6 +757,7 @@ pub struct Source {
     pending: Vec<Step>,
     /// Bytes of each line not handed over yet.
     unsent: Vec<Vec<u8>>,
+    sequence: u64,
     /// How often memory is written over by the host itself: one step in this many; 0 for never.
     pub poke_one_in: usize,
 }
@@ -766,7 +767,28 @@ impl Source {
         let mut rng = Rng::new(seed);
         let network = Network::new(&mut rng, peers, 30);
         let keys = (0..12).map(|_| wind_key(&mut rng)).collect();
-        Source { rng, network, keys, pending: vec![], unsent: vec![], poke_one_in: 0 }
+        Source { rng, network, keys, pending: vec![], unsent: vec![], sequence: 0, poke_one_in: 0 }
+    }
+
+    /// A world to begin with: cleared memory, or memory in form that is made up, with noise where nothing is held unless it is `clean`. Lengths run past
+    /// the last whole slot and the least buffer.
+    pub fn world(&mut self, contact_slots: usize, record_slots: usize, lines: usize, lookups: usize, made_up: bool, clean: bool) -> World {
+        let rng = &mut self.rng;
+        let me = Me::start(&id(rng), &address_list(rng)).0;
+        let mut world = World::cleared(me, contact_slots, record_slots, lines, lookups);
+        if made_up {
+            world.contacts = table(rng, &world.me.place, &self.network.ids, contact_slots, clean);
+            world.records = store(rng, &self.keys, record_slots, clean);
+        }
+        let mut lengthen = |bytes: &mut Vec<u8>, most: usize| {
+            let n = rng.below(most);
+            bytes.extend(rng.bytes(n));
+        };
+        lengthen(&mut world.contacts, limits::CONTACT_SLOT);
+        lengthen(&mut world.records, limits::RECORD_SLOT);
+        lengthen(&mut world.reply, 50);
+        world.lines.iter_mut().for_each(|line| lengthen(&mut line.buffer, 50));
+        world
     }
 
     fn mode(&mut self) -> Mode {
@@ -795,8 +817,19 @@ impl Source {
         if self.rng.one_in(12) { odd_wind_key(&mut self.rng) } else { self.rng.pick(&self.keys).clone() }
     }
 
+    /// A value, mostly with a sequence that rises slowly, so that puts go on being accepted.
     fn value(&mut self) -> Vec<u8> {
-        if self.rng.one_in(6) { damaged_recipe(&mut self.rng) } else { recipe_value(&mut self.rng) }
+        if self.rng.one_in(6) {
+            return damaged_recipe(&mut self.rng);
+        }
+        let mut made = recipe(&mut self.rng);
+        self.sequence += self.rng.below(2) as u64;
+        made.sequence = match self.rng.below(1_000) {
+            0 => u64::MAX,
+            1 => self.rng.number(),
+            _ => self.sequence + self.rng.below(3) as u64,
+        };
+        recipe::write(&made)
     }
 
     /// A request as a peer may send it; the requester's own id is a key now and then.
@@ -830,7 +863,7 @@ impl Source {
             let body = self.request(world, &requester);
             self.unsent[line].extend(framed(&body));
         }
-        if self.rng.one_in(15) {
+        if self.rng.one_in(8) {
             let prefix = odd_prefix(&mut self.rng);
             self.unsent[line].extend(prefix);
         }
@@ -864,15 +897,16 @@ impl Source {
     fn on_lookup(&mut self, world: &World) -> Step {
         let lookup = self.rng.below(world.lookups.len());
         let l = &world.lookups[lookup];
-        if (!l.in_form() || l.is_over()) && !self.rng.one_in(4) {
+        let done = !l.in_form() || l.is_over();
+        if done && !self.rng.one_in(3) {
             let concurrency = if self.rng.one_in(10) { *self.rng.pick(&[0, 11, u64::MAX]) } else { self.rng.between(1, 10) as u64 };
             return Step::Start { lookup, key: self.any_key(world), concurrency };
         }
         let flying: Vec<&Candidate> = l.candidates.iter().filter(|c| c.mark == Mark::InFlight).collect();
-        if flying.is_empty() || self.rng.one_in(2) {
+        if (flying.is_empty() && !done) || self.rng.one_in(2) {
             return Step::Next { lookup };
         }
-        let sender = if self.rng.one_in(12) { self.id(world) } else { self.rng.pick(&flying).id.clone() };
+        let sender = if flying.is_empty() || self.rng.one_in(12) { self.id(world) } else { self.rng.pick(&flying).id.clone() };
         if self.rng.one_in(8) {
             return Step::Failure { lookup, sender };
         }
@@ -942,6 +976,18 @@ impl Source {
         Step::Poke { memory, at, byte }
     }
 
+    /// A buffer is lent too short, and long enough again after one call.
+    fn short(&mut self, world: &World) -> Step {
+        let (memory, least) = match self.rng.below(world.lines.len() + 1) {
+            0 => (Memory::Reply, limits::REPLY),
+            line => (Memory::Buffer(line - 1), limits::BODY),
+        };
+        self.pending.push(Step::Lend { memory, length: least + self.rng.below(2) });
+        let call = self.call(world);
+        self.pending.push(call);
+        Step::Lend { memory, length: if self.rng.one_in(3) { 0 } else { least - 1 } }
+    }
+
     fn call(&mut self, world: &World) -> Step {
         match self.rng.below(20) {
             0 => Step::Read { body: body(&mut self.rng) },
@@ -961,7 +1007,7 @@ impl Source {
             return step;
         }
         if self.poke_one_in > 0 && self.rng.one_in(self.poke_one_in) {
-            return self.poke(world);
+            return if self.rng.one_in(4) { self.short(world) } else { self.poke(world) };
         }
         self.call(world)
     }

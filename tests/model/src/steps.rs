@@ -57,6 +57,8 @@ pub enum Step {
     Write { message: Message },
     /// No call: the host writes a byte into lent memory itself. Past the end, nothing happens.
     Poke { memory: Memory, at: usize, byte: u8 },
+    /// No call: from now on the host lends so many bytes, those past the old end being zeros.
+    Lend { memory: Memory, length: usize },
 }
 
 /// What a call gave back; the world has the rest.
@@ -77,7 +79,8 @@ pub enum Outcome {
     Next(lookup::Next),
     Read(Result<View, Refusal>),
     Written(Result<usize, Refusal>),
-    Poked,
+    /// The host did something itself.
+    Done,
 }
 
 impl Outcome {
@@ -128,15 +131,12 @@ impl World {
         answer
     }
 
-    fn poke(&mut self, memory: Memory, at: usize, byte: u8) {
-        let bytes = match memory {
+    fn memory(&mut self, memory: Memory) -> &mut Vec<u8> {
+        match memory {
             Memory::Contacts => &mut self.contacts,
             Memory::Records => &mut self.records,
             Memory::Reply => &mut self.reply,
             Memory::Buffer(line) => &mut self.lines[line].buffer,
-        };
-        if let Some(there) = bytes.get_mut(at) {
-            *there = byte;
         }
     }
 
@@ -170,8 +170,14 @@ impl World {
             Step::Read { body } => Outcome::Read(message::read(body)),
             Step::Write { message } => Outcome::Written(writer::write(&mut self.reply, message)),
             Step::Poke { memory, at, byte } => {
-                self.poke(*memory, *at, *byte);
-                Outcome::Poked
+                if let Some(there) = self.memory(*memory).get_mut(*at) {
+                    *there = *byte;
+                }
+                Outcome::Done
+            }
+            Step::Lend { memory, length } => {
+                self.memory(*memory).resize(*length, 0);
+                Outcome::Done
             }
         }
     }

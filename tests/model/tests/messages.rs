@@ -1,0 +1,140 @@
+//! Messages, recipes and lists: what is written reads back, other ways to write mean the same, and no bytes do harm.
+
+use starterbell_model::gen::{self, Rng};
+use starterbell_model::message::{closer_peers, decode, encode, provider_peers, read, Message, Peer};
+use starterbell_model::peer::{address_list, addresses_of};
+use starterbell_model::recipe::{self, outranks};
+use starterbell_model::wire::{fields, minimal, read_varint, Span};
+use starterbell_model::writer::{body_of, framed, peer_list, peers_of, write};
+use starterbell_model::{limits, Refusal};
+
+#[test]
+fn what_is_written_reads_back() {
+    let mut rng = Rng::new(11);
+    let mut out = vec![0xdd; limits::REPLY + 5];
+    for _ in 0..3_000 {
+        let m = gen::message(&mut rng);
+        let body = body_of(&m).expect("within the limits");
+        assert_eq!(decode(&body), Ok(m.clone()));
+        out.fill(0xdd);
+        let n = write(&mut out, &m).expect("written");
+        assert_eq!(out[..n], framed(&body));
+        assert!(out[n..].iter().all(|b| *b == 0xdd));
+        assert_eq!((peers_of(&peer_list(&m.closer)), addresses_of(&address_list(&[vec![], vec![5; 300]]))), (m.closer, vec![vec![], vec![5; 300]]));
+    }
+}
+
+#[test]
+fn other_ways_to_write_mean_the_same() {
+    let mut rng = Rng::new(12);
+    let mut padded = 0;
+    for _ in 0..6_000 {
+        let m = gen::message(&mut rng);
+        let body = gen::loose_body(&mut rng, &m);
+        if body.len() <= limits::BODY {
+            assert_eq!(decode(&body), Ok(m.clone()), "{body:02x?}");
+            padded += usize::from(body != encode(&m));
+        }
+    }
+    assert!(padded > 3_000);
+}
+
+/// The view's parts are the message's fields.
+fn view_holds(body: &[u8], m: &Message) {
+    let view = read(body).expect("it reads");
+    assert_eq!((view.kind, view.key.of(body)), (m.kind, &m.key[..]));
+    let record = view.record.map(|r| (r.key.of(body).to_vec(), r.value.of(body).to_vec()));
+    assert_eq!(record, m.record.clone().map(|r| (r.key, r.value)));
+    for (views, peers) in [(closer_peers(body), &m.closer), (provider_peers(body), &m.providers)] {
+        let same = |v: &starterbell_model::message::PeerView, p: &Peer| {
+            v.id.of(body) == p.id && v.connection == p.connection && v.addresses.iter().map(|a| a.of(body).to_vec()).eq(p.addresses.iter().cloned())
+        };
+        assert!(views.len() == peers.len() && views.iter().zip(peers).all(|(v, p)| same(v, p)));
+    }
+}
+
+#[test]
+fn any_bytes_are_read_or_refused() {
+    let mut rng = Rng::new(13);
+    let mut seen = [0usize; 3];
+    for _ in 0..20_000 {
+        let body = gen::body(&mut rng);
+        match decode(&body) {
+            Ok(m) => {
+                view_holds(&body, &m);
+                assert_eq!(decode(&encode(&m)), Ok(m), "its own writing means the same");
+                seen[0] += 1;
+            }
+            Err(Refusal::Malformed) => seen[1] += 1,
+            Err(Refusal::UnknownType) => seen[2] += 1,
+            Err(other) => panic!("{other:?}"),
+        }
+        assert_eq!(read(&body).err(), decode(&body).err());
+    }
+    assert!(seen[0] > 5_000 && seen[1] > 3_000 && seen[2] > 50, "{seen:?}");
+}
+
+#[test]
+fn bad_fields_are_refused_wherever_they_stand() {
+    let mut rng = Rng::new(14);
+    for _ in 0..2_000 {
+        let m = Message { record: None, closer: vec![], providers: vec![], ..gen::message(&mut rng) };
+        let bad = gen::bad_field(&mut rng);
+        let outside = [gen::loose_body(&mut rng, &m), bad.clone()].concat();
+        assert_eq!(read(&outside), Err(Refusal::Malformed), "{bad:02x?}");
+        for field in [0x1a, 0x42, 0x4a] {
+            let inside = [vec![field, bad.len() as u8], bad.clone(), encode(&m)].concat();
+            assert_eq!(read(&inside), Err(Refusal::Malformed), "{bad:02x?} in {field:02x}");
+        }
+    }
+}
+
+#[test]
+fn varints() {
+    let mut rng = Rng::new(15);
+    for _ in 0..20_000 {
+        let value = rng.number() >> rng.below(64);
+        let bytes = gen::padded_varint(&mut rng, value, 10);
+        assert_eq!(read_varint(&bytes, 0, bytes.len()), Some((value, bytes.len())));
+        assert_eq!(read_varint(&bytes, 0, bytes.len() - 1), None);
+        assert!(minimal(value).len() <= bytes.len());
+    }
+    assert_eq!(minimal(u64::MAX).len(), 10);
+    assert_eq!(fields(&[], Span::default()), Some(vec![]));
+}
+
+#[test]
+fn recipes_read_back() {
+    let mut rng = Rng::new(16);
+    for _ in 0..3_000 {
+        let r = gen::recipe(&mut rng);
+        let value = recipe::write(&r);
+        assert_eq!(recipe::read(&value), Some(r));
+    }
+    let mut taken = 0;
+    for _ in 0..10_000 {
+        let value = gen::damaged_recipe(&mut rng);
+        if let Some(r) = recipe::read(&value) {
+            assert_eq!(recipe::write(&r), value, "a recipe has one writing");
+            assert!(r.setpoints.len() <= 200 && r.setpoints.iter().all(|s| s.turn <= 1_000_000 && s.trim.abs() <= 20_000));
+            assert!(r.setpoints.windows(2).all(|w| w[0].turn < w[1].turn));
+            taken += 1;
+        }
+    }
+    assert!(taken > 300 && taken < 6_000, "{taken}");
+}
+
+#[test]
+fn the_rank_is_a_strict_total_order() {
+    let mut rng = Rng::new(17);
+    let values: Vec<Vec<u8>> = (0..60).map(|i| if i % 2 == 0 { gen::recipe_value(&mut rng) } else { vec![i as u8 % 8; 16 + i] }).collect();
+    for a in &values {
+        for b in &values {
+            assert_eq!(usize::from(outranks(a, b)) + usize::from(outranks(b, a)) + usize::from(a == b), 1);
+            for c in &values {
+                assert!(!(outranks(a, b) && outranks(b, c)) || outranks(a, c));
+            }
+        }
+    }
+    assert!(outranks(&[1; 17], &[1; 16]), "a prefix is lower");
+}
