@@ -72,9 +72,7 @@ pub fn reply(me: &Me, sender: &Sender, body: &[u8], table: &[u8], store: &mut [u
 
 /// "The reply is worked out first; then a server-mode sender is seen (a client isn't; no 18), and that outcome stands beside the reply."
 /// How many bytes of the reply buffer are the reply, and the sighting; or 5 to 11, and nothing changes.
-pub fn answer(
-    me: &Me, sender: &Sender, body: &[u8], table: &mut [u8], store: &mut [u8], out: &mut [u8],
-) -> Result<(usize, Option<Seen>), Refusal> {
+pub fn answer(me: &Me, sender: &Sender, body: &[u8], table: &mut [u8], store: &mut [u8], out: &mut [u8]) -> Result<(usize, Option<Seen>), Refusal> {
     let whole = reply(me, sender, body, table, store)?;
     debug_assert!(whole.len() <= limits::REPLY);
     out[..whole.len()].copy_from_slice(&whole);

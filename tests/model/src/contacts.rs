@@ -51,7 +51,11 @@ fn entry(slot: &[u8]) -> Result<Option<Entry>, Refusal> {
         && count <= limits::ADDRESSES
         && slot[4..4 + count].iter().all(|n| (1..=limits::ADDRESS).contains(&(*n as usize)));
     let place = slot[PLACE_AT..ID_AT].try_into().expect("32 bytes");
-    if fits { Ok(Some(Entry { rank: mark - 1, place })) } else { Err(Refusal::OutOfForm) }
+    if fits {
+        Ok(Some(Entry { rank: mark - 1, place }))
+    } else {
+        Err(Refusal::OutOfForm)
+    }
 }
 
 /// A table that is read: one entry for each slot.
@@ -164,10 +168,17 @@ fn take_out(table: &mut [u8], all: &Entries, ours: &Place, i: usize) {
 /// What a sighting came to.
 #[derive(Clone, Debug, PartialEq, Eq)]
 pub enum Seen {
-    Moved { slot: usize },
-    Joined { slot: usize },
+    Moved {
+        slot: usize,
+    },
+    Joined {
+        slot: usize,
+    },
     /// 13, with the bucket's head named for a probe.
-    BucketFull { head_slot: usize, head_id: Vec<u8> },
+    BucketFull {
+        head_slot: usize,
+        head_id: Vec<u8>,
+    },
     Refused(Refusal),
 }
 
@@ -239,7 +250,11 @@ fn head_slot(all: &Entries, ours: &Place, head: &Place, newcomer: &Place) -> Res
         && all[order[0]].expect("used").place == *head
         && bucket(newcomer, ours) == bucket(head, ours)
         && slot_of(all, newcomer).is_none();
-    if fits { Ok(order[0]) } else { Err(Refusal::NoLongerFits) }
+    if fits {
+        Ok(order[0])
+    } else {
+        Err(Refusal::NoLongerFits)
+    }
 }
 
 /// A newcomer as it is named for a settle.

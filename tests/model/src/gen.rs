@@ -34,7 +34,11 @@ impl Rng {
 
     /// 0 up to n - 1; 0 for n = 0.
     pub fn below(&mut self, n: usize) -> usize {
-        if n == 0 { 0 } else { (self.number() % n as u64) as usize }
+        if n == 0 {
+            0
+        } else {
+            (self.number() % n as u64) as usize
+        }
     }
 
     /// From a to b, both among them.
@@ -792,7 +796,11 @@ impl Source {
     }
 
     fn mode(&mut self) -> Mode {
-        if self.rng.one_in(5) { Mode::Client } else { Mode::Server }
+        if self.rng.one_in(5) {
+            Mode::Client
+        } else {
+            Mode::Server
+        }
     }
 
     fn id(&mut self, world: &World) -> Vec<u8> {
@@ -814,7 +822,11 @@ impl Source {
     }
 
     fn record_key(&mut self) -> Vec<u8> {
-        if self.rng.one_in(12) { odd_wind_key(&mut self.rng) } else { self.rng.pick(&self.keys).clone() }
+        if self.rng.one_in(12) {
+            odd_wind_key(&mut self.rng)
+        } else {
+            self.rng.pick(&self.keys).clone()
+        }
     }
 
     /// A value, mostly with a sequence that rises slowly, so that puts go on being accepted.

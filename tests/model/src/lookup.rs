@@ -56,7 +56,10 @@ pub enum Next {
     Over(Outcome),
     Wait,
     /// This candidate, by its place in the list and its id, is to be asked.
-    Ask { candidate: usize, id: Vec<u8> },
+    Ask {
+        candidate: usize,
+        id: Vec<u8>,
+    },
     Refused(Refusal),
 }
 
@@ -92,21 +95,25 @@ impl Lookup {
     /// What comes with over.
     pub fn outcome(&self) -> Outcome {
         let answered = self.twenty().into_iter().map(|i| &self.candidates[i]).filter(|c| c.mark == Mark::Answered);
-        Outcome {
-            complete: !self.turned_away,
-            answered: answered.map(|c| c.id.clone()).collect(),
-            sent: self.candidates.len() - self.marked(Mark::Idle),
-        }
+        Outcome { complete: !self.turned_away, answered: answered.map(|c| c.id.clone()).collect(), sent: self.candidates.len() - self.marked(Mark::Idle) }
     }
 
     fn step(&self) -> Step {
-        if self.is_over() { Step::Over(self.outcome()) } else { Step::Going }
+        if self.is_over() {
+            Step::Over(self.outcome())
+        } else {
+            Step::Going
+        }
     }
 
     /// Start: 0 (contacts), 8, 12 for our own id, 20; then the 20 nearest contacts as idle candidates.
     pub fn start(table: &[u8], me: &Me, key: &[u8], concurrency: u64) -> (Lookup, Step) {
         let begun = contacts::nearest(table, me, key).and_then(|nearest| {
-            if (1..=limits::CONCURRENCY).contains(&concurrency) { Ok(nearest) } else { Err(Refusal::BadConcurrency) }
+            if (1..=limits::CONCURRENCY).contains(&concurrency) {
+                Ok(nearest)
+            } else {
+                Err(Refusal::BadConcurrency)
+            }
         });
         let nearest = match begun {
             Ok(nearest) => nearest,

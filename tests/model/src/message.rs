@@ -74,12 +74,7 @@ fn record_view(body: &[u8], whole: Span) -> Option<RecordView> {
 fn peer_view(body: &[u8], entry: Span) -> Option<PeerView> {
     let inside = fields(body, entry)?;
     let connection = last_number(&inside, 3);
-    Some(PeerView {
-        entry,
-        id: last_span(&inside, 1),
-        addresses: spans(&inside, 2),
-        connection: if connection > 3 { 0 } else { connection },
-    })
+    Some(PeerView { entry, id: last_span(&inside, 1), addresses: spans(&inside, 2), connection: if connection > 3 { 0 } else { connection } })
 }
 
 /// A body with everything in it, by position; none where it isn't well formed. The type isn't judged.
@@ -127,11 +122,7 @@ pub fn provider_peers(body: &[u8]) -> Vec<PeerView> {
 }
 
 fn peer_at(body: &[u8], view: &PeerView) -> Peer {
-    Peer {
-        id: view.id.of(body).to_vec(),
-        addresses: view.addresses.iter().map(|a| a.of(body).to_vec()).collect(),
-        connection: view.connection,
-    }
+    Peer { id: view.id.of(body).to_vec(), addresses: view.addresses.iter().map(|a| a.of(body).to_vec()).collect(), connection: view.connection }
 }
 
 /// What a body means: 4, 5, 6, or the message.

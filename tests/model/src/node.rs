@@ -4,7 +4,8 @@ use crate::answers::{self, Sender};
 use crate::contacts::{self, Seen};
 use crate::limits;
 use crate::message::{self, View};
-use crate::peer::{id_fits, is_usable, usable, Me, Mode};
+use crate::peer::{id_fits, is_usable, usable};
+pub use crate::peer::{Me, Mode};
 use crate::place::Place;
 use crate::records;
 use crate::stream::{self, Event, Framing};
@@ -39,9 +40,15 @@ pub struct Lent<'a> {
 pub enum Answer {
     More,
     /// A request was answered: the reply is this many bytes of the reply buffer; a server was seen.
-    Replied { length: usize, sighting: Option<Seen> },
+    Replied {
+        length: usize,
+        sighting: Option<Seen>,
+    },
     /// A message on the asking side, for the host's lookup.
-    Given { length: usize, view: View },
+    Given {
+        length: usize,
+        view: View,
+    },
     Refused(Refusal),
 }
 
@@ -98,8 +105,9 @@ fn completed(me: &Me, conn: &Conn, lent: &mut Lent, length: usize) -> Result<Ans
     let body = &lent.buffer[..length];
     match conn.side {
         Side::Asking => message::read(body).map(|view| Answer::Given { length, view }),
-        Side::Serving => answers::answer(me, &conn.peer, body, lent.contacts, lent.records, lent.reply)
-            .map(|(length, sighting)| Answer::Replied { length, sighting }),
+        Side::Serving => {
+            answers::answer(me, &conn.peer, body, lent.contacts, lent.records, lent.reply).map(|(length, sighting)| Answer::Replied { length, sighting })
+        }
     }
 }
 

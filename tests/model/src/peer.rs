@@ -68,7 +68,11 @@ impl Me {
 
     /// 12 for our own id.
     pub fn stands(&self) -> Result<(), Refusal> {
-        if id_fits(&self.id) { Ok(()) } else { Err(Refusal::BadPeer) }
+        if id_fits(&self.id) {
+            Ok(())
+        } else {
+            Err(Refusal::BadPeer)
+        }
     }
 
     /// The place of a peer's id, or 12: for our own id, for the peer's, or where its place is ours.

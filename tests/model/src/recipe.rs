@@ -19,17 +19,29 @@ pub struct Setpoint {
 
 /// Zigzag: 0, -1, 1, -2 .. are 0, 1, 2, 3 ..
 pub fn zigzag(trim: i64) -> u64 {
-    if trim < 0 { trim.unsigned_abs() * 2 - 1 } else { trim as u64 * 2 }
+    if trim < 0 {
+        trim.unsigned_abs() * 2 - 1
+    } else {
+        trim as u64 * 2
+    }
 }
 
 pub fn trim_of(zigzag: u64) -> i64 {
-    if zigzag % 2 == 1 { -((zigzag / 2) as i64) - 1 } else { (zigzag / 2) as i64 }
+    if zigzag % 2 == 1 {
+        -((zigzag / 2) as i64) - 1
+    } else {
+        (zigzag / 2) as i64
+    }
 }
 
 /// A minimal varint and the position after it.
 fn read_minimal(s: &[u8], at: usize) -> Option<(u64, usize)> {
     let (value, next) = read_varint(s, at, s.len())?;
-    if s[at..next] == minimal(value) { Some((value, next)) } else { None }
+    if s[at..next] == minimal(value) {
+        Some((value, next))
+    } else {
+        None
+    }
 }
 
 /// Setpoints that fill `s` exactly: turns at most 1,000,000 and strictly rising, trims of at most 20,000 either way.

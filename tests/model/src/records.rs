@@ -36,14 +36,22 @@ pub fn entry(store: &[u8], i: usize) -> Result<Option<Entry<'_>>, Refusal> {
         return Err(Refusal::OutOfForm);
     }
     let key = &slot[KEY_AT..KEY_AT + key_length];
-    if is_key(key) { Ok(Some(Entry { key, value: &slot[VALUE_AT..VALUE_AT + value_length] })) } else { Err(Refusal::OutOfForm) }
+    if is_key(key) {
+        Ok(Some(Entry { key, value: &slot[VALUE_AT..VALUE_AT + value_length] }))
+    } else {
+        Err(Refusal::OutOfForm)
+    }
 }
 
 /// All slots of a store in form, or 0: "a /wind/ key of 7 to 128 bytes and a value of 16 to 2,048, no key twice".
 pub fn entries(store: &[u8]) -> Result<Vec<Option<Entry<'_>>>, Refusal> {
     let all = (0..slots(store)).map(|i| entry(store, i)).collect::<Result<Vec<_>, _>>()?;
     let mut keys = BTreeSet::new();
-    if all.iter().flatten().all(|e| keys.insert(e.key)) { Ok(all) } else { Err(Refusal::OutOfForm) }
+    if all.iter().flatten().all(|e| keys.insert(e.key)) {
+        Ok(all)
+    } else {
+        Err(Refusal::OutOfForm)
+    }
 }
 
 pub fn in_form(store: &[u8]) -> bool {

@@ -39,26 +39,81 @@ pub enum Memory {
 /// A host call. Lines and lookups are named by their number, which has to be one of the world's.
 #[derive(Clone, Debug, PartialEq, Eq)]
 pub enum Step {
-    Seen { id: Vec<u8>, mode: Mode, addresses: Vec<u8> },
-    Settle { head: Vec<u8>, newcomer: Vec<u8>, mode: Mode, addresses: Vec<u8>, answered: bool },
-    Remove { id: Vec<u8> },
-    Nearest { key: Vec<u8> },
-    Put { key: Vec<u8>, value: Vec<u8> },
-    Find { key: Vec<u8> },
-    Open { line: usize, id: Vec<u8>, mode: Mode, addresses: Vec<u8>, side: Side },
-    Receive { line: usize, piece: Vec<u8> },
-    End { line: usize },
-    Start { lookup: usize, key: Vec<u8>, concurrency: u64 },
-    Next { lookup: usize },
-    Reply { lookup: usize, sender: Vec<u8>, body: Vec<u8>, view: View },
-    Failure { lookup: usize, sender: Vec<u8> },
-    Read { body: Vec<u8> },
+    Seen {
+        id: Vec<u8>,
+        mode: Mode,
+        addresses: Vec<u8>,
+    },
+    Settle {
+        head: Vec<u8>,
+        newcomer: Vec<u8>,
+        mode: Mode,
+        addresses: Vec<u8>,
+        answered: bool,
+    },
+    Remove {
+        id: Vec<u8>,
+    },
+    Nearest {
+        key: Vec<u8>,
+    },
+    Put {
+        key: Vec<u8>,
+        value: Vec<u8>,
+    },
+    Find {
+        key: Vec<u8>,
+    },
+    Open {
+        line: usize,
+        id: Vec<u8>,
+        mode: Mode,
+        addresses: Vec<u8>,
+        side: Side,
+    },
+    Receive {
+        line: usize,
+        piece: Vec<u8>,
+    },
+    End {
+        line: usize,
+    },
+    Start {
+        lookup: usize,
+        key: Vec<u8>,
+        concurrency: u64,
+    },
+    Next {
+        lookup: usize,
+    },
+    Reply {
+        lookup: usize,
+        sender: Vec<u8>,
+        body: Vec<u8>,
+        view: View,
+    },
+    Failure {
+        lookup: usize,
+        sender: Vec<u8>,
+    },
+    Read {
+        body: Vec<u8>,
+    },
     /// The writer, into the reply buffer.
-    Write { message: Message },
+    Write {
+        message: Message,
+    },
     /// No call: the host writes a byte into lent memory itself. Past the end, nothing happens.
-    Poke { memory: Memory, at: usize, byte: u8 },
+    Poke {
+        memory: Memory,
+        at: usize,
+        byte: u8,
+    },
     /// No call: from now on the host lends so many bytes, those past the old end being zeros.
-    Lend { memory: Memory, length: usize },
+    Lend {
+        memory: Memory,
+        length: usize,
+    },
 }
 
 /// What a call gave back; the world has the rest.

@@ -9,7 +9,10 @@ pub enum Framing {
     /// The prefix bytes so far.
     Prefix(Vec<u8>),
     /// The body's length, and how much of it stands in the receive buffer.
-    Body { length: usize, have: usize },
+    Body {
+        length: usize,
+        have: usize,
+    },
     Shut,
 }
 
@@ -58,7 +61,11 @@ fn prefix_byte(mut bytes: Vec<u8>, byte: u8) -> (Framing, Event) {
 
 fn body_byte(length: usize, have: usize, buffer: &mut [u8], byte: u8) -> (Framing, Event) {
     buffer[have] = byte;
-    if have + 1 == length { (Framing::fresh(), Event::Message(length)) } else { (Framing::Body { length, have: have + 1 }, Event::More) }
+    if have + 1 == length {
+        (Framing::fresh(), Event::Message(length))
+    } else {
+        (Framing::Body { length, have: have + 1 }, Event::More)
+    }
 }
 
 /// Takes bytes up to the first event: the framing then, how many bytes were taken, and the event. For a framing in form and a buffer of 16,384.

@@ -54,7 +54,11 @@ pub fn read_varint(body: &[u8], at: usize, end: usize) -> Option<(u64, usize)> {
 
 /// The part of `len` bytes at a position, unless it runs past the end.
 fn part(at: usize, len: u64, end: usize) -> Option<Span> {
-    if len > (end - at) as u64 { None } else { Some(Span { at, len: len as usize }) }
+    if len > (end - at) as u64 {
+        None
+    } else {
+        Some(Span { at, len: len as usize })
+    }
 }
 
 /// One field and the position after it.

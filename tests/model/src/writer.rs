@@ -27,7 +27,11 @@ pub fn body_of(m: &Message) -> Result<Vec<u8>, Refusal> {
         return Err(Refusal::Unwritable);
     }
     let body = encode(m);
-    if body.len() > limits::BODY { Err(Refusal::Unwritable) } else { Ok(body) }
+    if body.len() > limits::BODY {
+        Err(Refusal::Unwritable)
+    } else {
+        Ok(body)
+    }
 }
 
 /// "A message is an unsigned varint length, then the body."
@@ -60,7 +64,11 @@ pub fn peers_of(list: &[u8]) -> Vec<Peer> {
 }
 
 fn split(list: &[u8], n: usize) -> Option<(&[u8], &[u8])> {
-    if n > list.len() { None } else { Some(list.split_at(n)) }
+    if n > list.len() {
+        None
+    } else {
+        Some(list.split_at(n))
+    }
 }
 
 fn counted(list: &[u8]) -> Option<(&[u8], &[u8])> {

@@ -98,9 +98,16 @@ fn refusal_0_of_contacts() {
         contacts::in_form(&table, &ours)
     };
     assert!(one(&|_| {}));
-    for (at, good, bad) in [(0, vec![0, 1], vec![2, 20, 21, 255]), (1, vec![0], vec![1, 255]), (2, vec![1, 64], vec![0, 65, 255]), (3, vec![0, 1], vec![2, 5, 255]),
-        (4, vec![1, 128], vec![0, 129, 255]), (5, vec![0, 1, 255], vec![]), (39, vec![0, 1], vec![]), (615, vec![1], vec![])]
-    {
+    for (at, good, bad) in [
+        (0, vec![0, 1], vec![2, 20, 21, 255]),
+        (1, vec![0], vec![1, 255]),
+        (2, vec![1, 64], vec![0, 65, 255]),
+        (3, vec![0, 1], vec![2, 5, 255]),
+        (4, vec![1, 128], vec![0, 129, 255]),
+        (5, vec![0, 1, 255], vec![]),
+        (39, vec![0, 1], vec![]),
+        (615, vec![1], vec![]),
+    ] {
         assert!(good.iter().all(|b| one(&|t| t[at] = *b)), "byte {at}");
         assert!(bad.iter().all(|b| !one(&|t| t[at] = *b)), "byte {at}");
     }
@@ -151,9 +158,16 @@ fn refusal_0_of_records() {
         records::in_form(&store)
     };
     assert!(one(&|_| {}));
-    for (at, good, bad) in [(0, vec![0, 7, 8, 128], vec![1, 6, 129, 255]), (1, vec![1, 255], vec![]), (2, vec![16, 17, 255], vec![0, 15]), (3, vec![0, 7], vec![8, 9, 255]), (4, vec![9], vec![]),
-        (8, vec![b'/'], vec![b'.', 0]), (13, vec![b'/'], vec![b'w']), (14, vec![0, 255], vec![])]
-    {
+    for (at, good, bad) in [
+        (0, vec![0, 7, 8, 128], vec![1, 6, 129, 255]),
+        (1, vec![1, 255], vec![]),
+        (2, vec![16, 17, 255], vec![0, 15]),
+        (3, vec![0, 7], vec![8, 9, 255]),
+        (4, vec![9], vec![]),
+        (8, vec![b'/'], vec![b'.', 0]),
+        (13, vec![b'/'], vec![b'w']),
+        (14, vec![0, 255], vec![]),
+    ] {
         assert!(good.iter().all(|b| one(&|s| s[at] = *b)), "byte {at}");
         assert!(bad.iter().all(|b| !one(&|s| s[at] = *b)), "byte {at}");
     }
@@ -236,7 +250,13 @@ fn our_own_id_is_judged_after_0_to_2() {
 
 #[test]
 fn refusals_3_and_4_leave_the_buffer_alone() {
-    for (prefix, number, taken) in [(vec![0x81, 0, 7], 3, 2), (vec![0x80, 0x80, 0, 7], 3, 3), (vec![0x81, 0x80, 1, 7], 4, 3), (vec![0xff, 0xff, 0x7f, 7], 4, 3), (vec![0x80, 0x80, 0x80, 7], 4, 3)] {
+    for (prefix, number, taken) in [
+        (vec![0x81, 0, 7], 3, 2),
+        (vec![0x80, 0x80, 0, 7], 3, 3),
+        (vec![0x81, 0x80, 1, 7], 4, 3),
+        (vec![0xff, 0xff, 0x7f, 7], 4, 3),
+        (vec![0x80, 0x80, 0x80, 7], 4, 3),
+    ] {
         for side in [Side::Serving, Side::Asking] {
             let mut bench = Bench::new(Mode::Server, side);
             assert_eq!(bench.refused(&prefix), (number, taken));
@@ -252,10 +272,29 @@ fn refusals_3_and_4_leave_the_buffer_alone() {
 #[test]
 fn refusal_5() {
     let bad: &[&[u8]] = &[
-        &[0x0b], &[0x0c], &[0x0e, 0], &[0x0f], &[0x00, 0], &[0x02, 0], &[0x05, 0, 0, 0, 0], &[0x08], &[0x08, 0x80], &[0x12, 1], &[0x09, 1, 2, 3, 4, 5, 6, 7], &[0x0d, 1, 2, 3],
-        &[0x88, 0x80, 0x80, 0x80, 0x80, 0x00, 5], &[0x88, 0x80, 0x80, 0x80, 0x10, 5], &[0x08, 0xff, 0xff, 0xff, 0xff, 0xff, 0xff, 0xff, 0xff, 0xff, 0x02],
-        &[0x08, 0x80, 0x80, 0x80, 0x80, 0x80, 0x80, 0x80, 0x80, 0x80, 0x80, 0x00], &[0x12, 0xff, 0xff, 0xff, 0xff, 0xff, 0xff, 0xff, 0xff, 0xff, 0x01],
-        &[0x1a, 1, 0x0b], &[0x1a, 1, 0x0b, 0x1a, 0], &[0x42, 2, 0x0a, 1], &[0x4a, 1, 0x80], &[0x42, 2, 0x0a, 1, 7], &[0x08, 9, 0x0b],
+        &[0x0b],
+        &[0x0c],
+        &[0x0e, 0],
+        &[0x0f],
+        &[0x00, 0],
+        &[0x02, 0],
+        &[0x05, 0, 0, 0, 0],
+        &[0x08],
+        &[0x08, 0x80],
+        &[0x12, 1],
+        &[0x09, 1, 2, 3, 4, 5, 6, 7],
+        &[0x0d, 1, 2, 3],
+        &[0x88, 0x80, 0x80, 0x80, 0x80, 0x00, 5],
+        &[0x88, 0x80, 0x80, 0x80, 0x10, 5],
+        &[0x08, 0xff, 0xff, 0xff, 0xff, 0xff, 0xff, 0xff, 0xff, 0xff, 0x02],
+        &[0x08, 0x80, 0x80, 0x80, 0x80, 0x80, 0x80, 0x80, 0x80, 0x80, 0x80, 0x00],
+        &[0x12, 0xff, 0xff, 0xff, 0xff, 0xff, 0xff, 0xff, 0xff, 0xff, 0x01],
+        &[0x1a, 1, 0x0b],
+        &[0x1a, 1, 0x0b, 0x1a, 0],
+        &[0x42, 2, 0x0a, 1],
+        &[0x4a, 1, 0x80],
+        &[0x42, 2, 0x0a, 1, 7],
+        &[0x08, 9, 0x0b],
     ];
     for body in bad {
         assert_eq!(message::read(body), Err(Refusal::Malformed), "{body:x?}");
@@ -264,8 +303,16 @@ fn refusal_5() {
         assert_eq!(bench.buffer[..body.len()], **body, "the body stays in the receive buffer");
     }
     let good: &[&[u8]] = &[
-        &[0x88, 0x80, 0x80, 0x80, 0x00, 0x05], &[0xf8, 0xff, 0xff, 0xff, 0x0f, 5], &[0x08, 0x85, 0x80, 0x80, 0x80, 0x80, 0x80, 0x80, 0x80, 0x80, 0x00], &[0x32, 1, 0x0b], &[0x52, 1, 0x0b],
-        &[0x1a, 3, 0x2a, 1, 0x0b], &[0x0a, 1, 0x0b], &[0x09, 1, 2, 3, 4, 5, 6, 7, 8], &[0x0d, 1, 2, 3, 4], &[0x92, 0x80, 0x80, 0x80, 0x00, 0x80, 0x80, 0x80, 0x80, 0x80, 0x80, 0x00],
+        &[0x88, 0x80, 0x80, 0x80, 0x00, 0x05],
+        &[0xf8, 0xff, 0xff, 0xff, 0x0f, 5],
+        &[0x08, 0x85, 0x80, 0x80, 0x80, 0x80, 0x80, 0x80, 0x80, 0x80, 0x00],
+        &[0x32, 1, 0x0b],
+        &[0x52, 1, 0x0b],
+        &[0x1a, 3, 0x2a, 1, 0x0b],
+        &[0x0a, 1, 0x0b],
+        &[0x09, 1, 2, 3, 4, 5, 6, 7, 8],
+        &[0x0d, 1, 2, 3, 4],
+        &[0x92, 0x80, 0x80, 0x80, 0x00, 0x80, 0x80, 0x80, 0x80, 0x80, 0x80, 0x00],
         &[0x50, 0xff, 0xff, 0xff, 0xff, 0xff, 0xff, 0xff, 0xff, 0xff, 0x01],
     ];
     for body in good {
@@ -312,7 +359,15 @@ fn refusal_8_of_keys() {
 fn refusal_8_of_records() {
     let long = |n: usize| [b"/wind/".to_vec(), vec![b'a'; n]].concat();
     let mut bench = Bench::new(Mode::Server, Side::Serving);
-    for (key, record_key) in [(long(0), long(0)), (long(123), long(123)), (b"/wine/e".to_vec(), b"/wine/e".to_vec()), (long(1), long(2)), (long(1), vec![]), (vec![], long(1)), (vec![], vec![])] {
+    for (key, record_key) in [
+        (long(0), long(0)),
+        (long(123), long(123)),
+        (b"/wine/e".to_vec(), b"/wine/e".to_vec()),
+        (long(1), long(2)),
+        (long(1), vec![]),
+        (vec![], long(1)),
+        (vec![], vec![]),
+    ] {
         bench = Bench::new(Mode::Server, Side::Serving);
         assert_eq!(bench.refused(&put(&key, &record_key, b"no recipe")).0, 8, "8 comes before 9");
         assert_eq!(records::put(&mut bench.records, &key, b"no recipe").is_err(), true);
@@ -337,8 +392,17 @@ fn trailer(distance: u32, count: u16, format: u16) -> Vec<u8> {
 fn refusal_9() {
     let reads = |list: &[u8], distance: u32, count: u16, format: u16| recipe::read(&[list, &trailer(distance, count, format)].concat()).is_some();
     assert!(reads(&[], 16, 0, 1) && reads(b"note", 16, 0, 1));
-    assert!(!reads(&[], 15, 0, 1) && !reads(&[], 17, 0, 1) && !reads(&[], 16, 1, 1) && !reads(&[], 16, 0, 0) && !reads(&[], 16, 0, 2) && !reads(&[], 16, 0, 0x101));
-    assert!(reads(&[0, 0], 18, 1, 1) && !reads(&[0, 0], 18, 0, 1) && !reads(&[0, 0], 18, 2, 1) && !reads(&[0, 0], 17, 1, 1) && !reads(&[0, 0], 19, 1, 1) && !reads(&[0, 0], u32::MAX, 1, 1));
+    assert!(
+        !reads(&[], 15, 0, 1) && !reads(&[], 17, 0, 1) && !reads(&[], 16, 1, 1) && !reads(&[], 16, 0, 0) && !reads(&[], 16, 0, 2) && !reads(&[], 16, 0, 0x101)
+    );
+    assert!(
+        reads(&[0, 0], 18, 1, 1)
+            && !reads(&[0, 0], 18, 0, 1)
+            && !reads(&[0, 0], 18, 2, 1)
+            && !reads(&[0, 0], 17, 1, 1)
+            && !reads(&[0, 0], 19, 1, 1)
+            && !reads(&[0, 0], u32::MAX, 1, 1)
+    );
     assert!(reads(&[9, 0, 0], 18, 1, 1) && !reads(&[9, 0, 0], 19, 1, 1), "note and list");
     assert!(reads(&[0, 0, 1, 0], 20, 2, 1) && !reads(&[1, 0, 1, 0], 20, 2, 1) && !reads(&[1, 0, 0, 0], 20, 2, 1), "strictly rising");
     assert!(reads(&[0xc0, 0x84, 0x3d, 0], 20, 1, 1) && !reads(&[0xc1, 0x84, 0x3d, 0], 20, 1, 1), "turn 1,000,000");
@@ -556,7 +620,11 @@ fn refusal_0_of_lookups_and_views() {
         assert_eq!(spoiled.clone().failure(&me(), b"").1, Step::Refused(Refusal::OutOfForm));
         assert_eq!(spoiled.clone().reply(&me(), b"b", &body, &view).1, Step::Refused(Refusal::OutOfForm));
     }
-    let other_views = [View { kind: 5, ..view }, View { key: Span { at: 2, len: 0 }, ..view }, View { record: Some(message::RecordView { key: Span::default(), value: Span::default() }), ..view }];
+    let other_views = [
+        View { kind: 5, ..view },
+        View { key: Span { at: 2, len: 0 }, ..view },
+        View { record: Some(message::RecordView { key: Span::default(), value: Span::default() }), ..view },
+    ];
     for other in other_views {
         assert_eq!(going().reply(&me(), b"", &body, &other).1, Step::Refused(Refusal::OutOfForm));
     }
@@ -601,7 +669,13 @@ fn next_keeps_the_limit() {
 
 #[test]
 fn refusal_19() {
-    for (piece, ended) in [(vec![], Ok(())), (ping(), Ok(())), (vec![0x80], Err(Refusal::EndedInside)), (vec![2], Err(Refusal::EndedInside)), (vec![2, 8], Err(Refusal::EndedInside))] {
+    for (piece, ended) in [
+        (vec![], Ok(())),
+        (ping(), Ok(())),
+        (vec![0x80], Err(Refusal::EndedInside)),
+        (vec![2], Err(Refusal::EndedInside)),
+        (vec![2, 8], Err(Refusal::EndedInside)),
+    ] {
         let mut bench = Bench::new(Mode::Client, Side::Serving);
         bench.hand(&piece);
         assert_eq!(end(&bench.me, &mut bench.conn), ended, "{piece:?}");
@@ -648,7 +722,12 @@ fn refusal_21() {
     }
     let many = |n: usize, last: usize| Message { closer: [vec![peer(64, &[128; 4], 0); n], vec![peer(last, &[128; 3], 0)]].concat(), ..Message::default() };
     assert_eq!(encode(&many(26, 64)).len(), 2 + 26 * 595 + 464);
-    let exactly = Message { key: vec![1; 128], record: Some(Record { key: vec![], value: vec![3; 16_384 - 133 - 26 * 595 - 6] }), closer: vec![peer(64, &[128; 4], 0); 26], ..Message::default() };
+    let exactly = Message {
+        key: vec![1; 128],
+        record: Some(Record { key: vec![], value: vec![3; 16_384 - 133 - 26 * 595 - 6] }),
+        closer: vec![peer(64, &[128; 4], 0); 26],
+        ..Message::default()
+    };
     assert_eq!(encode(&exactly).len(), 16_384);
     assert!(writes(&exactly));
     let over = Message { record: Some(Record { key: vec![], value: vec![3; 16_384 - 133 - 26 * 595 - 6 + 1] }), ..exactly.clone() };

