@@ -1,0 +1,90 @@
+//! Recipes, and what is nearly one.
+
+use super::Rng;
+use crate::limits;
+use crate::recipe::{self, Recipe, Setpoint};
+use std::collections::BTreeSet;
+
+/// A recipe that keeps the rules, with turns and trims at their limits now and then.
+pub fn recipe(rng: &mut Rng) -> Recipe {
+    let count = *rng.pick(&[0, 0, 1, 1, 2, 3, 10, 50, 199, 200]);
+    let mut turns = BTreeSet::new();
+    while turns.len() < count {
+        turns.insert(match rng.below(5) {
+            0 => *rng.pick(&[0, 1, 127, 128, 16_383, 16_384, 999_999, limits::TURN]),
+            1 => rng.below(300) as u64,
+            _ => rng.below(limits::TURN as usize + 1) as u64,
+        });
+    }
+    let setpoints: Vec<Setpoint> = turns.into_iter().map(|turn| Setpoint { turn, trim: some_trim(rng) }).collect();
+    let room = limits::VALUE - 16 - recipe::write_setpoints(&setpoints).len();
+    let n = if rng.one_in(20) { room } else { rng.size(0, room.min(40)) };
+    let sequence = match rng.below(4) {
+        0 => rng.number(),
+        1 => *rng.pick(&[0, 255, 256, u64::MAX]),
+        _ => rng.below(6) as u64,
+    };
+    Recipe { note: rng.bytes(n), setpoints, sequence }
+}
+
+fn some_trim(rng: &mut Rng) -> i64 {
+    match rng.below(4) {
+        0 => *rng.pick(&[0, -1, 1, -64, 63, 64, -20_000, 20_000, -19_999, 19_999]),
+        _ => rng.below(40_001) as i64 - 20_000,
+    }
+}
+
+/// A value that is a recipe.
+pub fn recipe_value(rng: &mut Rng) -> Vec<u8> {
+    recipe::write(&recipe(rng))
+}
+
+/// Setpoints of a recipe with one rule broken.
+fn broken_setpoints(rng: &mut Rng, mut list: Vec<Setpoint>) -> (Vec<u8>, usize) {
+    if list.is_empty() {
+        list.push(Setpoint { turn: 5, trim: 0 });
+    }
+    let i = rng.below(list.len());
+    let mut extra = Vec::new();
+    match rng.below(6) {
+        0 => list[i].trim = *rng.pick(&[20_001, -20_001, 1 << 40]),
+        1 => list.last_mut().expect("one").turn = *rng.pick(&[limits::TURN + 1, 1 << 21, u64::MAX]),
+        2 => list.push(list[list.len() - 1]),
+        3 => list.reverse(),
+        4 => extra = vec![0x80 | rng.byte(), 0x00, 0x00],
+        _ => extra = vec![*rng.pick(&[0x80, 0xff, 0x05])],
+    }
+    ([recipe::write_setpoints(&list), extra].concat(), list.len())
+}
+
+/// A value that is nearly a recipe; by chance it may still be one.
+pub fn damaged_recipe(rng: &mut Rng) -> Vec<u8> {
+    let good = recipe(rng);
+    let mut value = recipe::write(&good);
+    let end = value.len();
+    match rng.below(9) {
+        0 => value.truncate(rng.below(end)),
+        1 => value[end - 16] = value[end - 16].wrapping_add(*rng.pick(&[1, 255, 2])),
+        2 => value[end - 16..end - 12].copy_from_slice(&(*rng.pick(&[0, 15, 16, end as u32, end as u32 + 1, u32::MAX])).to_le_bytes()),
+        3 => value[end - 12..end - 10].copy_from_slice(&(*rng.pick(&[0u16, 1, 200, 201, 456, u16::MAX])).to_le_bytes()),
+        4 => value[end - 10..end - 8].copy_from_slice(&(*rng.pick(&[0u16, 2, 257, u16::MAX])).to_le_bytes()),
+        5 => value.insert(0, 0),
+        6 => value.resize(rng.between(2_047, 2_060), 0),
+        7 => value[rng.below(end)] ^= 1 << rng.below(8),
+        _ => {
+            let (list, count) = broken_setpoints(rng, good.setpoints);
+            value = good.note;
+            value.extend(&list);
+            value.extend((list.len() as u32 + 16).to_le_bytes());
+            value.extend([(count % 256) as u8, (count / 256) as u8, 1, 0]);
+            value.extend(good.sequence.to_le_bytes());
+        }
+    }
+    value
+}
+
+/// More setpoints than a recipe may have, by one: a count of 201 and all else right.
+pub fn recipe_of_201(sequence: u64) -> Vec<u8> {
+    let setpoints = (0..201).map(|turn| Setpoint { turn, trim: 0 }).collect();
+    recipe::write(&Recipe { note: vec![], setpoints, sequence })
+}

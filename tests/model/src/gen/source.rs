@@ -1,0 +1,289 @@
+//! Whole sequences of calls.
+
+use super::*;
+use crate::contacts::{buckets, in_form, Contact};
+use crate::limits;
+use crate::lookup::{Candidate, Mark};
+use crate::message::{self, encode, Message, Record, View};
+use crate::node::Side;
+use crate::peer::{Me, Mode};
+use crate::recipe;
+use crate::records;
+use crate::steps::{Memory, Step, World};
+use crate::stream::Framing;
+use crate::wire::Span;
+use crate::writer::framed;
+
+/// Makes up calls that fit a world, one after another.
+#[derive(Clone, Debug)]
+pub struct Source {
+    pub rng: Rng,
+    pub network: Network,
+    pub keys: Vec<Vec<u8>>,
+    /// Calls made up already.
+    pending: Vec<Step>,
+    /// Bytes of each line not handed over yet.
+    unsent: Vec<Vec<u8>>,
+    sequence: u64,
+    /// How often memory is written over by the host itself: one step in this many; 0 for never.
+    pub poke_one_in: usize,
+}
+
+impl Source {
+    pub fn new(seed: u64, peers: usize) -> Source {
+        let mut rng = Rng::new(seed);
+        let network = Network::new(&mut rng, peers, 30);
+        let keys = (0..12).map(|_| wind_key(&mut rng)).collect();
+        Source { rng, network, keys, pending: vec![], unsent: vec![], sequence: 0, poke_one_in: 0 }
+    }
+
+    /// A world to begin with: cleared memory, or memory in form that is made up, with noise where nothing is held unless it is `clean`. Lengths run past
+    /// the last whole slot and the least buffer.
+    pub fn world(&mut self, contact_slots: usize, record_slots: usize, lines: usize, lookups: usize, made_up: bool, clean: bool) -> World {
+        let rng = &mut self.rng;
+        let me = Me::start(&id(rng), &address_list(rng)).0;
+        let mut world = World::cleared(me, contact_slots, record_slots, lines, lookups);
+        if made_up {
+            world.contacts = table(rng, &world.me.place, &self.network.ids, contact_slots, clean);
+            world.records = store(rng, &self.keys, record_slots, clean);
+        }
+        let mut lengthen = |bytes: &mut Vec<u8>, most: usize| {
+            let n = rng.below(most);
+            bytes.extend(rng.bytes(n));
+        };
+        lengthen(&mut world.contacts, limits::CONTACT_SLOT);
+        lengthen(&mut world.records, limits::RECORD_SLOT);
+        lengthen(&mut world.reply, 50);
+        world.lines.iter_mut().for_each(|line| lengthen(&mut line.buffer, 50));
+        world
+    }
+
+    fn mode(&mut self) -> Mode {
+        if self.rng.one_in(5) {
+            Mode::Client
+        } else {
+            Mode::Server
+        }
+    }
+
+    fn id(&mut self, world: &World) -> Vec<u8> {
+        match self.rng.below(30) {
+            0 => odd_id(&mut self.rng),
+            1 => world.me.id.clone(),
+            _ => self.rng.pick(&self.network.ids).clone(),
+        }
+    }
+
+    fn any_key(&mut self, world: &World) -> Vec<u8> {
+        match self.rng.below(8) {
+            0 => odd_key(&mut self.rng),
+            1 => key(&mut self.rng),
+            2 => world.me.id.clone(),
+            3..=4 => self.rng.pick(&self.network.ids).clone(),
+            _ => self.rng.pick(&self.keys).clone(),
+        }
+    }
+
+    fn record_key(&mut self) -> Vec<u8> {
+        if self.rng.one_in(12) {
+            odd_wind_key(&mut self.rng)
+        } else {
+            self.rng.pick(&self.keys).clone()
+        }
+    }
+
+    /// A value, mostly with a sequence that rises slowly, so that puts go on being accepted.
+    fn value(&mut self) -> Vec<u8> {
+        if self.rng.one_in(6) {
+            return damaged_recipe(&mut self.rng);
+        }
+        let mut made = recipe(&mut self.rng);
+        self.sequence += self.rng.below(2) as u64;
+        made.sequence = match self.rng.below(1_000) {
+            0 => u64::MAX,
+            1 => self.rng.number(),
+            _ => self.sequence + self.rng.below(3) as u64,
+        };
+        recipe::write(&made)
+    }
+
+    /// A request as a peer may send it; the requester's own id is a key now and then.
+    pub fn request(&mut self, world: &World, requester: &[u8]) -> Vec<u8> {
+        let kind = *self.rng.pick(&[0, 0, 1, 1, 4, 4, 4, 5]);
+        let mut m = Message { kind, key: self.any_key(world), ..Message::default() };
+        if kind == message::FIND_NODE && self.rng.one_in(4) {
+            m.key = requester.to_vec();
+        }
+        if kind == message::PUT_VALUE {
+            m.key = self.record_key();
+            let key = if self.rng.one_in(20) { self.record_key() } else { m.key.clone() };
+            m.record = if self.rng.one_in(30) { None } else { Some(Record { key, value: self.value() }) };
+        }
+        match self.rng.below(40) {
+            0 => body(&mut self.rng),
+            1 => {
+                let loose = loose_body(&mut self.rng, &m);
+                damaged_body(&mut self.rng, &loose)
+            }
+            2..=12 => loose_body(&mut self.rng, &m),
+            13 => encode(&message(&mut self.rng)),
+            _ => encode(&m),
+        }
+    }
+
+    /// More bytes for a line: some messages, seldom a bad prefix.
+    fn refill(&mut self, world: &World, line: usize) {
+        let requester = world.lines[line].conn.peer.id.clone();
+        for _ in 0..self.rng.between(1, 4) {
+            let body = self.request(world, &requester);
+            self.unsent[line].extend(framed(&body));
+        }
+        if self.rng.one_in(8) {
+            let prefix = odd_prefix(&mut self.rng);
+            self.unsent[line].extend(prefix);
+        }
+    }
+
+    fn on_line(&mut self, world: &World) -> Step {
+        let line = self.rng.below(world.lines.len());
+        self.unsent.resize(world.lines.len(), vec![]);
+        let shut = world.lines[line].conn.framing == Framing::Shut;
+        if shut && !self.rng.one_in(10) {
+            self.unsent[line].clear();
+            let side = if self.rng.one_in(5) { Side::Asking } else { Side::Serving };
+            return Step::Open { line, id: self.id(world), mode: self.mode(), addresses: address_list(&mut self.rng), side };
+        }
+        if self.rng.one_in(40) {
+            return Step::End { line };
+        }
+        if self.unsent[line].is_empty() {
+            self.refill(world, line);
+        }
+        let most = *self.rng.pick(&[0, 1, 3, 64, 4_096, 40_000]);
+        let n = self.rng.size(0, most).min(self.unsent[line].len());
+        Step::Receive { line, piece: self.unsent[line][..n].to_vec() }
+    }
+
+    /// Tells how many bytes of a piece were taken, so that the rest is handed over next.
+    pub fn taken(&mut self, line: usize, n: usize) {
+        self.unsent[line].drain(..n);
+    }
+
+    fn on_lookup(&mut self, world: &World) -> Step {
+        let lookup = self.rng.below(world.lookups.len());
+        let l = &world.lookups[lookup];
+        let done = !l.in_form() || l.is_over();
+        if done && !self.rng.one_in(3) {
+            let concurrency = if self.rng.one_in(10) { *self.rng.pick(&[0, 11, u64::MAX]) } else { self.rng.between(1, 10) as u64 };
+            return Step::Start { lookup, key: self.any_key(world), concurrency };
+        }
+        let flying: Vec<&Candidate> = l.candidates.iter().filter(|c| c.mark == Mark::InFlight).collect();
+        if (flying.is_empty() && !done) || self.rng.one_in(2) {
+            return Step::Next { lookup };
+        }
+        let sender = if flying.is_empty() || self.rng.one_in(12) { self.id(world) } else { self.rng.pick(&flying).id.clone() };
+        if self.rng.one_in(8) {
+            return Step::Failure { lookup, sender };
+        }
+        self.reply(world, lookup, sender)
+    }
+
+    fn reply(&mut self, world: &World, lookup: usize, sender: Vec<u8>) -> Step {
+        let mut m = self.network.answer(&mut self.rng, &sender, &world.lookups[lookup].key, &world.me.id);
+        if self.rng.one_in(12) {
+            m.kind = self.rng.below(6) as u64;
+        }
+        let body = if self.rng.one_in(3) { loose_body(&mut self.rng, &m) } else { encode(&m) };
+        let mut view = message::read(&body).unwrap_or(View { kind: 4, key: Span::default(), record: None });
+        match self.rng.below(60) {
+            0 => view.kind = self.rng.below(7) as u64,
+            1 => view.key = Span { at: self.rng.below(9), len: self.rng.below(3) },
+            2 => view.record = Some(message::RecordView { key: Span::default(), value: Span::default() }),
+            _ => {}
+        }
+        Step::Reply { lookup, sender, body, view }
+    }
+
+    fn on_contacts(&mut self, world: &World) -> Step {
+        let (id, mode, addresses) = (self.id(world), self.mode(), address_list(&mut self.rng));
+        match self.rng.below(12) {
+            0 => Step::Nearest { key: self.any_key(world) },
+            1 => Step::Remove { id },
+            2..=4 => Step::Settle { head: self.head(world), newcomer: id, mode, addresses, answered: self.rng.one_in(2) },
+            _ => Step::Seen { id, mode, addresses },
+        }
+    }
+
+    /// The id of some bucket's head, most often of a full one; or any id.
+    fn head(&mut self, world: &World) -> Vec<u8> {
+        if in_form(&world.contacts, &world.me.place) && !self.rng.one_in(6) {
+            let buckets = buckets(&world.contacts, &world.me.place);
+            let full: Vec<&Vec<Contact>> = buckets.values().filter(|b| b.len() == limits::NEAREST).collect();
+            if !full.is_empty() {
+                return self.rng.pick(&full)[0].id.clone();
+            }
+        }
+        self.id(world)
+    }
+
+    fn stays_in_form(&self, world: &World, memory: Memory, at: usize, byte: u8) -> bool {
+        let mut poked = world.clone();
+        poked.run(&Step::Poke { memory, at, byte });
+        in_form(&poked.contacts, &world.me.place) && records::in_form(&poked.records)
+    }
+
+    /// A byte of memory is written over. Where that breaks the form, it is set back after one call: none but that byte has changed then.
+    fn poke(&mut self, world: &World) -> Step {
+        let (memory, bytes, (at, byte)) = match self.rng.below(3) {
+            0 if world.contacts.len() >= limits::CONTACT_SLOT => (Memory::Contacts, &world.contacts, table_damage(&mut self.rng, &world.contacts)),
+            1 if world.records.len() >= limits::RECORD_SLOT => (Memory::Records, &world.records, store_damage(&mut self.rng, &world.records)),
+            _ => {
+                let at = self.rng.below(limits::REPLY);
+                (Memory::Reply, &world.reply, (at, self.rng.byte()))
+            }
+        };
+        let before = bytes.get(at).copied().unwrap_or(0);
+        if !self.stays_in_form(world, memory, at, byte) {
+            self.pending.push(Step::Poke { memory, at, byte: before });
+            let call = self.call(world);
+            self.pending.push(call);
+        }
+        Step::Poke { memory, at, byte }
+    }
+
+    /// A buffer is lent too short, and long enough again after one call.
+    fn short(&mut self, world: &World) -> Step {
+        let (memory, least) = match self.rng.below(world.lines.len() + 1) {
+            0 => (Memory::Reply, limits::REPLY),
+            line => (Memory::Buffer(line - 1), limits::BODY),
+        };
+        self.pending.push(Step::Lend { memory, length: least + self.rng.below(2) });
+        let call = self.call(world);
+        self.pending.push(call);
+        Step::Lend { memory, length: if self.rng.one_in(3) { 0 } else { least - 1 } }
+    }
+
+    fn call(&mut self, world: &World) -> Step {
+        match self.rng.below(20) {
+            0 => Step::Read { body: body(&mut self.rng) },
+            1 => Step::Write { message: message_to_write(&mut self.rng) },
+            2 => Step::Find { key: if self.rng.one_in(4) { self.any_key(world) } else { self.record_key() } },
+            3..=4 => Step::Put { key: self.record_key(), value: self.value() },
+            5..=9 => self.on_contacts(world),
+            10..=13 if !world.lookups.is_empty() => self.on_lookup(world),
+            _ if !world.lines.is_empty() => self.on_line(world),
+            _ => self.on_contacts(world),
+        }
+    }
+
+    /// The next call. After a receive, say with `taken` how many bytes it took.
+    pub fn step(&mut self, world: &World) -> Step {
+        if let Some(step) = self.pending.pop() {
+            return step;
+        }
+        if self.poke_one_in > 0 && self.rng.one_in(self.poke_one_in) {
+            return if self.rng.one_in(4) { self.short(world) } else { self.poke(world) };
+        }
+        self.call(world)
+    }
+}
