@@ -78,20 +78,50 @@ fn form_is_kept_and_every_refusal_is_met() {
     assert!(never.is_empty(), "never met: {never:?} of {met:?}");
 }
 
-/// The pace that comparing with other code needs: tens of thousands of calls in seconds, in a table of some hundred slots.
+/// What a call came to, in a word.
+fn label(outcome: &Outcome, world: &World) -> String {
+    let over = |o: &Over| format!("over, complete: {}, answered: {}", o.complete, !o.answered.is_empty());
+    match outcome {
+        Outcome::Seen(seen) => format!("{seen:?}").split([' ', '(']).next().unwrap_or("").to_string(),
+        Outcome::Settled(Ok(settled)) => format!("{settled:?}"),
+        Outcome::Found(Ok(found)) => format!("found: {}", found.is_some()),
+        Outcome::Received(Received { answer: Answer::Replied { sighting, length }, .. }) => {
+            let body = &world.reply[if world.reply[0] < 0x80 { 1 } else { 2 }..*length];
+            let reply = message::decode(body).expect("our own reply");
+            format!("reply of type {}, record: {}, 21 peers: {}, seen: {}", reply.kind, reply.record.is_some(), reply.closer.len() == 21, sighting.is_some())
+        }
+        Outcome::Received(Received { answer: Answer::Given { .. }, .. }) => "given".to_string(),
+        Outcome::Step(Progress::Over(o)) | Outcome::Next(Next::Over(o)) => over(o),
+        Outcome::Next(next) => format!("{next:?}").split([' ', '(']).next().unwrap_or("").to_string(),
+        _ => String::new(),
+    }
+}
+
+/// The pace that comparing with other code needs: tens of thousands of calls in seconds, in a table of some hundred slots. And the calls reach what there is.
 #[test]
 fn many_calls() {
-    let mut source = Source::new(35, 400);
-    let mut world = source.world(300, 20, 4, 3, true, false);
-    source.poke_one_in = 50;
-    for _ in 0..50_000 {
-        let step = source.step(&world);
-        let outcome = world.run(&step);
-        if let (Step::Receive { line, .. }, Outcome::Received(got)) = (&step, &outcome) {
-            source.taken(*line, got.taken);
+    let mut labels: BTreeMap<String, usize> = BTreeMap::new();
+    for (seed, made_up) in [(35, false), (36, true)] {
+        let mut source = Source::new(seed, 400);
+        let mut world = source.world(300, 20, 4, 3, made_up, false);
+        source.poke_one_in = 50;
+        for _ in 0..25_000 {
+            let step = source.step(&world);
+            let outcome = world.run(&step);
+            *labels.entry(label(&outcome, &world)).or_insert(0) += 1;
+            if let (Step::Receive { line, .. }, Outcome::Received(got)) = (&step, &outcome) {
+                source.taken(*line, got.taken);
+            }
         }
     }
-    assert!(is_in_form(&world));
+    let reached = |part: &str| labels.keys().any(|l| l.contains(part));
+    let find_nodes = ["reply of type 4, record: false, 21 peers: true, seen: true", "reply of type 4, record: false, 21 peers: false, seen: false"];
+    let get_values = ["reply of type 1, record: true", "reply of type 1, record: false"];
+    let overs = ["over, complete: true, answered: true", "over, complete: false, answered: true"];
+    let others = ["Moved", "Joined", "BucketFull", "Kept", "Swapped", "found: true", "found: false", "type 0, record: true", "type 5", "given", "Ask", "Wait"];
+    for part in [&find_nodes[..], &get_values, &overs, &others].concat() {
+        assert!(reached(part), "{part} isn't reached: {labels:#?}");
+    }
 }
 
 #[test]

@@ -22,12 +22,16 @@ impl Network {
     }
 
     /// What a peer answers to FIND_NODE: the nearest it knows, and now and then more entries than it should, with bad ids among them.
+    /// One in eight names peers that nobody knows.
     pub fn answer(&self, rng: &mut Rng, sender: &[u8], key: &[u8], ours: &[u8]) -> Message {
         let target = place_of(key);
         let i = self.ids.iter().position(|id| id == sender).unwrap_or(0);
         let mut near = self.known[i].clone();
         near.sort_by_key(|j| distance(&self.places[*j], &target));
         let mut ids: Vec<Vec<u8>> = near.into_iter().map(|j| self.ids[j].clone()).take(limits::NEAREST).collect();
+        if rng.one_in(8) {
+            ids = (0..limits::HEARD + 1).map(|_| id(rng)).collect();
+        }
         for _ in 0..(if rng.one_in(3) { rng.below(5) } else { 0 }) {
             let extra = match rng.below(3) {
                 0 => odd_id(rng),
