@@ -10,20 +10,20 @@ use lib.Dec.{eqb}
 use borrow.Author.Tests.{eqb-true, eq-eqb}
 use Rattle.octets.proofs.Bools.{cond-ind}
 use Rattle.refusal.specs.declared.Refusal.{Refusal}
 use Rattle.stream.specs.declared.Framing.{Framing}
 use Rattle.stream.specs.declared.Framing.the-variants.{Shut}
 use Rattle.stream.specs.declared.Answer.{Answer}
 use Rattle.stream.specs.declared.Answer.the-variants.{Message, Refused, More}
 use Rattle.stream.specs.Stream.{bodyLimit, fresh, isShut, inForm, stepOf, storeOf, Out, out, shift, after, runOf}
-use Rattle.stream.specs.Frames.{Event, message, refused, Head, partly, whole, bad, headOf, framingOf, halfOf}
-use Rattle.stream.specs.World.{Did, Sys, Mark, happened, setAt, here, putBack, Line, Shared, World, Layer, Call, hand, does, asks, Act, takes, acts, bytes, given, isMore, acted, calls, Fine, Sound, Ready, AllFit}
-use Rattle.stream.specs.Plain.{Wire, leading, pending, standing, dealt, actNext, byHead, next, plainly, unread, ReadOut, Blunt}
-use Rattle.stream.proofs.Lists.{length-snoc}
+use Rattle.cutting.specs.Frames.{Event, message, refused, Head, partly, whole, bad, headOf, framingOf, halfOf}
+use Rattle.cutting.specs.World.{Did, Sys, Mark, happened, setAt, here, putBack, Line, Shared, World, Layer, Call, hand, does, asks, Act, takes, acts, bytes, given, isMore, acted, calls, Fine, Sound, Ready, AllFit}
+use Rattle.cutting.specs.Plain.{Wire, leading, pending, standing, dealt, actNext, byHead, next, plainly, unread, ReadOut, Blunt}
+use Rattle.cutting.proofs.Lists.{length-snoc}
 use Rattle.stream.proofs.Runs.{shift-shift, shift-zero, run-nil, run-cons}
-use Rattle.stream.proofs.Kept.{shut-only, step-open, store-length}
-use Rattle.stream.proofs.Heads.{Ran, head-run}
-use Rattle.stream.proofs.Order.{Step, at, other, actsOf, step, run, marks, set-same}
-use Rattle.stream.proofs.World.{taken, steps, given-steps, stepLine, lands, rules, byte, byte-shut, byte-by, byte-well, calls-steps, run-order}
+use Rattle.cutting.proofs.Kept.{shut-only, step-open, store-length}
+use Rattle.cutting.proofs.Heads.{Ran, head-run}
+use Rattle.cutting.proofs.Order.{Step, at, other, actsOf, step, run, marks, set-same}
+use Rattle.cutting.proofs.World.{taken, steps, given-steps, stepLine, lands, rules, byte, byte-shut, byte-by, byte-well, calls-steps, run-order}
 
 -- ---- what a connection is given
 module _ {B : Type 0} where

@@ -9,17 +9,17 @@ use native.Mathlib.Omega.{arith}
 use lib.ListN.{length, take, drop, length-drop, drop-of-length-le}
 use lib.Dec.{eqb}
 use Rattle.octets.proofs.Bools.{cond-ind, cond-yes, cond-no}
 use Rattle.stream.specs.declared.Framing.{Framing}
 use Rattle.stream.specs.declared.Framing.the-variants.{Shut}
 use Rattle.stream.specs.declared.Answer.{Answer}
 use Rattle.stream.specs.declared.Answer.the-variants.{Message, Refused, More}
 use Rattle.stream.specs.Stream.{bodyLimit, isShut, inForm, stepOf, storeOf, Out, out, shift, runOf}
-use Rattle.stream.specs.Frames.{message, refused}
-use Rattle.stream.proofs.Order.{Step, at, other, actsOf, Rules, act, step, run, marks}
-use Rattle.stream.specs.World.{Did, Mark, happened, asked, here, putBack, Line, Shared, World, Called, Layer, Call, hand, does, asks, Act, takes, acts, bytes, given, joined, isMore, noteIf, answered, feed, handed, handedAll, acted, hosted, call, calls, noted, halted, called, Fine, Sound, Ready, AllFit}
-use Rattle.stream.proofs.Lists.{cancel}
-use Rattle.stream.proofs.Kept.{shut-only, step-form, step-open, store-length, run-form, run-length, run-within, run-some, run-all}
-use Rattle.stream.proofs.Order.{here-back, back-back, back-here, order}
+use Rattle.cutting.specs.Frames.{message, refused}
+use Rattle.cutting.proofs.Order.{Step, at, other, actsOf, Rules, act, step, run, marks}
+use Rattle.cutting.specs.World.{Did, Mark, happened, asked, here, putBack, Line, Shared, World, Called, Layer, Call, hand, does, asks, Act, takes, acts, bytes, given, joined, isMore, noteIf, answered, feed, handed, handedAll, acted, hosted, call, calls, noted, halted, called, Fine, Sound, Ready, AllFit}
+use Rattle.cutting.proofs.Lists.{cancel}
+use Rattle.cutting.proofs.Kept.{shut-only, step-form, step-open, store-length, run-form, run-length, run-within, run-some, run-all}
+use Rattle.cutting.proofs.Order.{here-back, back-back, back-here, order}
 
 -- the steps of a list of calls
 unfoldable pub taken : {B O : Type 0} → ℕ → List ℕ → List (Step (Act B) O) → List (Step (Act B) O)

@@ -3,19 +3,19 @@ use Prim.Native.Nat.{ℕ}
 use mathlib.Core.List.{List, []}
 use mathlib.Core.Path.{_≡_, refl, sym, ap, _∙_, subst}
 use mathlib.Core.Bool.{true, false, true≢false}
 use Rattle.stream.specs.Stream.{fresh, isShut, inForm, Out}
-use Rattle.stream.specs.Frames.{frames}
-use Rattle.stream.specs.World.{Line, called, joined, Fine, Turn, opens, ends, turned, Roomy}
-use Rattle.stream.specs.Plain.{Wire, standing}
+use Rattle.cutting.specs.Frames.{frames}
+use Rattle.cutting.specs.World.{Line, called, joined, Fine, Turn, opens, ends, turned, Roomy}
+use Rattle.cutting.specs.Plain.{Wire, standing}
 use Rattle.stream.specs.declared.Ending.{Ending}
-use Rattle.stream.specs.Claims.{OpenAndEnd, Cut, Later, FormKept, Bounded, Reading, Several, SeveralPlainly, OwnReceive, Past, alone, opened, Reads, Anyone}
+use Rattle.cutting.specs.Claims.{OpenAndEnd, Cut, Later, FormKept, Bounded, Reading, Several, SeveralPlainly, OwnReceive, Past, alone, opened, Reads, Anyone}
 use Rattle.stream.proofs.Steps.{call-runs}
-use Rattle.stream.proofs.World.{play, handed-all, same-end}
-use Rattle.stream.proofs.Frames.{read-all}
-use Rattle.stream.proofs.Plain.{read-out}
-use Rattle.stream.proofs.Kept.{end-shuts, receive-form, receive-within, receive-message, end-form}
-use Rattle.stream.proofs.Later.{later-stays}
-use Rattle.stream.proofs.Past.{past-alike}
+use Rattle.cutting.proofs.World.{play, handed-all, same-end}
+use Rattle.cutting.proofs.Frames.{read-all}
+use Rattle.cutting.proofs.Plain.{read-out}
+use Rattle.cutting.proofs.Kept.{end-shuts, receive-form, receive-within, receive-message, end-form}
+use Rattle.cutting.proofs.Later.{later-stays}
+use Rattle.cutting.proofs.Past.{past-alike}
 
 pub cut : Cut
 cut P A B O L Peer Good Fits S i d f g ps qs e =

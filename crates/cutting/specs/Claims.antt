@@ -4,15 +4,15 @@ use mathlib.Core.Path.{_≡_}
 use mathlib.Core.List.{List, []}
 use mathlib.Core.Bool.{Bool, true, false, cond}
 use lib.ListN.{length, take, drop}
 use Rattle.stream.specs.declared.Framing.{Framing}
 use Rattle.stream.specs.declared.Framing.the-variants.{Shut, Prefix, Body}
 use Rattle.stream.specs.declared.Ending.{Ending}
 use Rattle.stream.specs.declared.Answer.{Answer}
 use Rattle.stream.specs.declared.Answer.the-variants.{Message, Refused, More}
 use Rattle.stream.specs.Stream.{bodyLimit, fresh, isShut, inForm, Out, receiveOf, endOf}
-use Rattle.stream.specs.Frames.{Event, Frames, frames, framingOf, halfOf, puts}
-use Rattle.stream.specs.World.{Did, Line, Shared, World, Layer, Call, joined, given, handedAll, calls, bare, turned, Roomy, Fine, Sound, Ready, AllFit}
-use Rattle.stream.specs.Plain.{ReadOut, Blunt, plainly, unread}
+use Rattle.cutting.specs.Frames.{Event, Frames, frames, framingOf, halfOf, puts}
+use Rattle.cutting.specs.World.{Did, Line, Shared, World, Layer, Call, joined, given, handedAll, calls, bare, turned, Roomy, Fine, Sound, Ready, AllFit}
+use Rattle.cutting.specs.Plain.{ReadOut, Blunt, plainly, unread}
 
 -- ---- 1. Pieces cut anywhere, empty ones too, give what the whole string gives: whatever the layer above keeps of events, with their places
 -- and bodies, the final framing and the buffer

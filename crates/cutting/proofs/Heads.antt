@@ -10,20 +10,20 @@ use lib.Seq.{sets}
 use lib.Dec.{leb}
 use borrow.Author.Tests.{leb-true, leb-false}
 use Rattle.octets.proofs.Bools.{cond-ind}
 use Rattle.stream.specs.declared.Held.{Held}
 use Rattle.stream.specs.declared.Held.the-variants.{Nothing}
 use Rattle.stream.specs.declared.Framing.{Framing}
 use Rattle.stream.specs.declared.Framing.the-variants.{Shut, Prefix, Body}
 use Rattle.stream.specs.declared.Answer.the-variants.{Message, Refused, More}
 use Rattle.stream.specs.declared.Lead.{Lead}
 use Rattle.stream.specs.declared.Lead.the-variants.{On, Length, Bad}
 use Rattle.stream.specs.declared.Prefixed.{Prefixed}
 use Rattle.stream.specs.Stream.{bodyLimit, fresh, heldForm, prefixStep, onward, prefixOf, out, shift, runOf}
 use Rattle.stream.specs.Inner.{begunOf}
-use Rattle.stream.specs.Frames.{Head, partly, whole, bad, prefixAt, headBy, headOf, partFraming, partBody, framingOf, halfOf}
+use Rattle.cutting.specs.Frames.{Head, partly, whole, bad, prefixAt, headBy, headOf, partFraming, partBody, framingOf, halfOf}
 use Rattle.stream.proofs.Runs.{leads, run-prefix, begun-some, body-part, body-whole}
-use Rattle.stream.proofs.Lists.{take-sets-first}
-use Rattle.stream.proofs.Kept.{prefix-form, LeadForm}
+use Rattle.cutting.proofs.Lists.{take-sets-first}
+use Rattle.cutting.proofs.Kept.{prefix-form, LeadForm}
 
 -- ---- the prefix at the start of bytes
 abbrev pub Sensible : Lead → ℕ → ℕ → Type 0

@@ -10,18 +10,18 @@ use borrow.Author.Tests.{le-leb, lt-ltb, ltb-false, eqb-false}
 use Rattle.octets.proofs.Bools.{cond-ind, and-i, and-l}
 use Rattle.refusal.specs.declared.Refusal.{Refusal}
 use Rattle.refusal.specs.declared.Refusal.the-variants as no
 use Rattle.stream.specs.declared.Ending.the-variants as ends
 use Rattle.stream.specs.declared.Held.{Held}
 use Rattle.stream.specs.declared.Held.the-variants.{Nothing, One, Two}
 use Rattle.stream.specs.declared.Framing.{Framing}
 use Rattle.stream.specs.declared.Framing.the-variants.{Shut, Prefix, Body}
 use Rattle.stream.specs.declared.Answer.{Answer}
 use Rattle.stream.specs.declared.Answer.the-variants.{Message, Refused, More}
 use Rattle.stream.specs.declared.Lead.{Lead}
 use Rattle.stream.specs.declared.Lead.the-variants.{On, Length, Bad}
 use Rattle.stream.specs.Stream.{bodyLimit, isShut, heldForm, inForm, limited, minimal, prefixStep, Stepped, led, stepOf, storeOf, Out, after, runOf, stays, receiveOf, ended, endIn, endOf}
-use Rattle.stream.specs.World.{isMore}
+use Rattle.cutting.specs.World.{isMore}
 use Rattle.stream.proofs.Steps.{body-short, body-small}
 
 pub shut-only : (f : Framing) → isShut f ≡ true → f ≡ Shut
 shut-only Shut h = refl

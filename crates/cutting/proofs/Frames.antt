@@ -6,15 +6,15 @@ use mathlib.Core.Bool.{true, false}
 use native.Mathlib.Nat.{add-zero, not-suc-le-zero}
 use native.Mathlib.Omega.{arith}
 use lib.ListN.{length, take, drop, length-drop, drop-of-length-le}
 use Rattle.stream.specs.declared.Framing.the-variants.{Shut}
 use Rattle.stream.specs.declared.Answer.the-variants.{Message, Refused}
 use Rattle.stream.specs.Stream.{bodyLimit, fresh, prefixOf, Out, out, runOf}
-use Rattle.stream.specs.Frames.{Event, message, refused, Head, partly, whole, bad, headOf, Frames, followed, byHead, framesFrom, frames, framingOf, halfOf, puts}
-use Rattle.stream.specs.World.{Did, Line, Shared}
-use Rattle.stream.specs.Claims.{alone, Reads}
-use Rattle.stream.proofs.Heads.{Ran, head-run}
-use Rattle.stream.proofs.Kept.{run-length}
-use Rattle.stream.proofs.World.{lands, play, play-nil, play-shut, play-run}
+use Rattle.cutting.specs.Frames.{Event, message, refused, Head, partly, whole, bad, headOf, Frames, followed, byHead, framesFrom, frames, framingOf, halfOf, puts}
+use Rattle.cutting.specs.World.{Did, Line, Shared}
+use Rattle.cutting.specs.Claims.{alone, Reads}
+use Rattle.cutting.proofs.Heads.{Ran, head-run}
+use Rattle.cutting.proofs.Kept.{run-length}
+use Rattle.cutting.proofs.World.{lands, play, play-nil, play-shut, play-run}
 
 module _ {A : Type 0} (put : A → Event → A) where
   abbrev Alone : Type 0

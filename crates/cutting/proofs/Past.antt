@@ -10,17 +10,17 @@ use lib.Dec.{eqb}
 use borrow.Author.Tests.{eqb-true}
 use Rattle.octets.proofs.Bools.{cond-ind}
 use Rattle.refusal.specs.declared.Refusal.the-variants as no
 use Rattle.stream.specs.declared.Framing.{Framing}
 use Rattle.stream.specs.declared.Framing.the-variants.{Shut, Prefix, Body}
 use Rattle.stream.specs.declared.Answer.{Answer}
 use Rattle.stream.specs.declared.Answer.the-variants.{Message, Refused, More}
 use Rattle.stream.specs.declared.Received.{Received}
 use Rattle.stream.specs.declared.Lead.{Lead}
 use Rattle.stream.specs.declared.Lead.the-variants.{On, Length, Bad}
 use Rattle.stream.specs.Stream.{bodyLimit, fresh, isShut, inForm, prefixStep, Stepped, stepped, led, stepOf, storeOf, Out, after, runOf, receiveOf}
-use Rattle.stream.specs.Claims.{bodySoFar, bodyOf, bodyIn}
+use Rattle.cutting.specs.Claims.{bodySoFar, bodyOf, bodyIn}
 use Rattle.stream.proofs.Steps.{body-short, body-small, call-bad, call-shut, call-runs}
-use Rattle.stream.proofs.Kept.{step-form, store-length}
+use Rattle.cutting.proofs.Kept.{step-form, store-length}
 
 -- a prefix byte has nothing of a body
 Bare : Stepped → Type 0

@@ -9,15 +9,15 @@ use lib.Seq.{sets, length-sets, length-take-le}
 use lib.Dec.{ltb}
 use borrow.Author.Tests.{ltb-true, ltb-false}
 use Rattle.octets.proofs.Stores.{drop-sets}
 use Rattle.stream.specs.declared.Framing.{Framing}
 use Rattle.stream.specs.declared.Framing.the-variants.{Shut, Prefix, Body}
 use Rattle.stream.specs.declared.Lead.{Lead}
 use Rattle.stream.specs.declared.Lead.the-variants.{On, Length, Bad}
 use Rattle.stream.specs.Stream.{bodyLimit, isShut, inForm, prefixOf, Out, runOf, receiveOf}
-use Rattle.stream.specs.Claims.{reach}
+use Rattle.cutting.specs.Claims.{reach}
 use Rattle.stream.proofs.Runs.{leads, run-prefix, begun-some, body-part, body-whole}
 use Rattle.stream.proofs.Steps.{body-short, body-small, call-bad, call-shut, call-runs}
-use Rattle.stream.proofs.Heads.{Sensible, prefix-sensible}
+use Rattle.cutting.proofs.Heads.{Sensible, prefix-sensible}
 
 abbrev Stays : List ℕ → Out → Type 0
 Stays m o = drop (reach o) (o .buffer) ≡ drop (reach o) m

@@ -4,10 +4,10 @@ use mathlib.Core.Path.{_≡_}
 use mathlib.Core.List.{List, [], _∷_}
 use mathlib.Core.Bool.{Bool, true, false, cond}
 use lib.ListN.{length, take, drop}
 use Rattle.stream.specs.declared.Framing.the-variants.{Shut}
 use Rattle.stream.specs.Stream.{fresh, isShut, inForm}
-use Rattle.stream.specs.Frames.{Event, message, refused, Head, partly, whole, bad, headOf, framingOf, halfOf}
-use Rattle.stream.specs.World.{Did, Sys, Mark, happened, asked, here, putBack, Line, World, Layer, Call, Act, takes, acts, given}
+use Rattle.cutting.specs.Frames.{Event, message, refused, Head, partly, whole, bad, headOf, framingOf, halfOf}
+use Rattle.cutting.specs.World.{Did, Sys, Mark, happened, asked, here, putBack, Line, World, Layer, Call, Act, takes, acts, given}
 
 -- what is left of what a connection is given, the place of its first byte, and whether the connection is shut
 pub record Wire (P B : Type 0) : Type 0 where
