@@ -18,14 +18,14 @@ use Rattle.octets.proofs.Strings.{same-eq, same-yes, same-no, differ}
 use Rattle.refusal.specs.declared.Refusal.the-variants.{OutOfForm, BreaksRules, BrokenRecipe, Outranked, NoRecordSlot}
 use Rattle.recipe.specs.Recipe.{isRecipe, outranks}
 use Rattle.recipe.proofs.Rank.{outranks-total, outranks-self, outranked-not}
 use Rattle.records.specs.Limits.{slotSize}
 use Rattle.records.specs.Store.{slotsOf, slot, used, valueOf, isKey, fits, inForm, slotWith, freeSlot, heldPlan, planOf, answerOf, afterOf, offerAnswer, offerAfter, putAnswer, putAfter}
-use Rattle.records.specs.History.{Got, Has, None, got, taken, Offer, accepts, offered, after, Accepted, Unbeaten, cleared}
+use Rattle.records_history.specs.History.{Got, Has, None, got, taken, Offer, accepts, offered, after, Accepted, Unbeaten, cleared}
 use Rattle.records.specs.declared.Plan.{Plan}
 use Rattle.records.specs.declared.Plan.the-variants.{Write, Keep, Refuse}
 use Rattle.records.specs.declared.Answer.the-variants.{Refused}
 use Rattle.records.proofs.Putting.{write-where, put-out, put-answer, put-after}
-use Rattle.records.proofs.Kept.{got-held, got-none, fits-in, write-got, write-other, write-form}
+use Rattle.records_history.proofs.Kept.{got-held, got-none, fits-in, write-got, write-other, write-form}
 
 has : {x y : List ℕ} → Has x ≡ Has y → x ≡ y
 has q = cc

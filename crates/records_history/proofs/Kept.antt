@@ -17,14 +17,14 @@ use Rattle.octets.proofs.Parts.{part-part}
 use Rattle.octets.proofs.Strings.{same-refl, same-no}
 use Rattle.recipe.specs.Limits.{valueMax}
 use Rattle.recipe.proofs.Trailer.{recipe-least, recipe-most}
 use Rattle.records.specs.Limits.{keyMax, valueAt, slotSize}
 use Rattle.records.specs.Store.{slotsOf, slot, used, keyOf, sizeOf, valueOf, slotBytes, isKey, isRecord, holds, apart, fits, inForm, slotWith, freeSlot, heldAt, found, planOf}
-use Rattle.records.specs.History.{Has, None, got}
+use Rattle.records_history.specs.History.{Has, None, got}
 use Rattle.records.specs.declared.Found.the-variants.{Held, NotHeld}
 use Rattle.records.specs.declared.Plan.the-variants.{Write}
 use Rattle.records.proofs.Laying.{slot-in, slot-long, value-size, value-cut, key-most, key-least, record-is}
 use Rattle.records.proofs.Putting.{with-holds, with-before, free-unused, holds-out, holds-in, form-record, form-apart, write-key, write-recipe, write-where, write-in}
-use Rattle.records.proofs.Written.{bytes-size, bytes-used, bytes-key, bytes-count, bytes-value, written-slots, written-same, written-other}
+use Rattle.records_history.proofs.Written.{bytes-size, bytes-used, bytes-key, bytes-count, bytes-value, written-slots, written-same, written-other}
 
 -- ---- what a key gives
 value-part : (t : List ℕ) (i : ℕ) → i < slotsOf t → valueOf (slot t i) ≡ part t (i * slotSize + valueAt) (i * slotSize + valueAt + length (valueOf (slot t i)))
