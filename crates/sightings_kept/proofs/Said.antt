@@ -13,10 +13,10 @@ use Rattle.contacts.specs.Table.{mark, used, idSize, addressCount, addressSize,
 use Rattle.peer.specs.declared.Peer.{Peer}
 use Rattle.peer.specs.Peers.{idIn, addressIn, addressesIn}
 use Rattle.peer.specs.Peers as peers
 use Rattle.sightings.specs.Order.{withMark, contactBytes, withAddresses, lowered}
-use Rattle.sightings.specs.Promises.{Fair, SameContact}
+use Rattle.sightings_kept.specs.Promises.{Fair, SameContact}
 use Rattle.sightings.proofs.Moves.{lowered-is}
-use Rattle.sightings.proofs.Forms.{bytes-size, getD-sets-in}
+use Rattle.sightings_kept.proofs.Forms.{bytes-size, getD-sets-in}
 
 -- ---- slots that differ at most in their mark
 module _ (s v : List ℕ) (e : drop 1 s ≡ drop 1 v) where

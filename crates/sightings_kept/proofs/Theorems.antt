@@ -16,24 +16,24 @@ use Rattle.contacts.proofs.Cuts.{mark-used, used-mark}
 use Rattle.contacts.proofs.FormFacts.{form-elim}
 use Rattle.peer.specs.declared.Peer.{Peer}
 use Rattle.peer.specs.Peers.{idIn, addressesIn}
 use Rattle.sightings.specs.declared.Sighting.{Sighting}
 use Rattle.sightings.specs.declared.Sighting.the-variants.{Moved, Joined, Full, NoSlot}
 use Rattle.sightings.specs.declared.Settled.{Settled}
 use Rattle.sightings.specs.declared.Settled.the-variants.{Kept, Swapped}
 use Rattle.sightings.specs.declared.Removed.{Removed}
 use Rattle.sightings.specs.declared.Removed.the-variants.{Gone}
 use Rattle.sightings.specs.Order.{ofBucket, isAt, heldAt, freeAt, tailOf, contactBytes, freeBytes, withAddresses, renewed, lowered, each, closeUp, leave, tailed, moveToTail, moveAndRenew, dropped, joinAt, join}
 use Rattle.sightings.specs.Sightings.{held, newcomer, sightingOf, afterSighting, seenTable, fits, settlementOf, afterSettling, settledTable, removalOf, afterRemoval, removedTable}
-use Rattle.sightings.specs.Promises.{Fair, SameContact, Others, AtTail}
+use Rattle.sightings_kept.specs.Promises.{Fair, SameContact, Others, AtTail}
 use Rattle.sightings.proofs.Slots.{slot-long, slots-put, slot-put, slot-other, put-put, put-outside}
 use Rattle.sightings.proofs.Tests.{of-used, of-is, of-make, held-lt, held-is, held-here, at-used, at-place, at-make, free-is, free-lowest, tail-ge, tail-le}
 use Rattle.sightings.proofs.Moves.{lowered-long, each-slots, leave-slots, leave-in, tailed-long, free-long}
 use Rattle.sightings.proofs.Dropping.{drop-slots, drop-self, drop-other, drop-freed, drop-free}
 use Rattle.sightings.proofs.Calls.{fits-held, fits-new}
-use Rattle.sightings.proofs.Ordered.{Ordered, from-form, mark-byte}
-use Rattle.sightings.proofs.Kept.{kept-used, view, drop-tail-down}
-use Rattle.sightings.proofs.Forms.{bytes-long, bytes-mark, bytes-place, addr-mark, addr-place, addr-long, tailed-place, tailed-mark}
-use Rattle.sightings.proofs.Said.{rest-same, lowered-rest, mark-rest, bytes-id, bytes-addresses, renewed-addresses, renewed-id}
+use Rattle.sightings_kept.proofs.Ordered.{Ordered, from-form, mark-byte}
+use Rattle.sightings_kept.proofs.Kept.{kept-used, view, drop-tail-down}
+use Rattle.sightings_kept.proofs.Forms.{bytes-long, bytes-mark, bytes-place, addr-mark, addr-place, addr-long, tailed-place, tailed-mark}
+use Rattle.sightings_kept.proofs.Said.{rest-same, lowered-rest, mark-rest, bytes-id, bytes-addresses, renewed-addresses, renewed-id}
 
 -- ---- others: one slot written, one slot dropped, and one step after another
 same-self : (s v : List ℕ) → s ≡ v → SameContact s v

@@ -15,12 +15,12 @@ use Rattle.place.specs.Place.{bucketOf}
 use Rattle.contacts.specs.Table.{slotsOf, slot, mark}
 use Rattle.contacts.specs.Form.{inForm}
 use Rattle.contacts.proofs.FormFacts.{form-elim}
 use Rattle.sightings.specs.declared.Sighting.the-variants.{Joined, Full, NoSlot}
 use Rattle.sightings.specs.Order.{ofBucket, isHead, freeAt, headAt, tailOf}
 use Rattle.sightings.specs.Sightings.{held, newcomer, sightingOf}
-use Rattle.sightings.specs.Promises.{holds}
+use Rattle.sightings_kept.specs.Promises.{holds}
 use Rattle.sightings.proofs.Tests.{of-mark, tail-ge, tail-at}
-use Rattle.sightings.proofs.Ordered.{Ordered, from-form}
+use Rattle.sightings_kept.proofs.Ordered.{Ordered, from-form}
 
 -- ---- counting. for octets
 abbrev bit : Bool → ℕ

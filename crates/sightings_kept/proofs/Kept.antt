@@ -13,12 +13,12 @@ use Rattle.place.specs.Place.{bucketOf}
 use Rattle.contacts.proofs.Cuts.{mark-used}
 use Rattle.contacts.specs.Table.{slotsOf, slot, putSlot, mark, used, place}
 use Rattle.contacts.proofs.FormFacts.{Fields}
 use Rattle.sightings.specs.Order.{ofBucket, tailOf, withMark, lowered, dropped}
 use Rattle.sightings.proofs.Slots.{slot-long, slots-put, slot-put, slot-other}
 use Rattle.sightings.proofs.Tests.{of-used, of-is, of-make, of-mark, tail-ge, tail-le, tail-at}
 use Rattle.sightings.proofs.Moves.{lowered-low, lowered-far, lowered-on}
 use Rattle.sightings.proofs.Dropping.{place-mark, mark-mark, none-free, drop-slots, drop-self, drop-other}
-use Rattle.sightings.proofs.Ordered.{Ordered, fields-by, mark-byte}
+use Rattle.sightings_kept.proofs.Ordered.{Ordered, fields-by, mark-byte}
 
 -- one slot behind a mark m, which is not 0: what it keeps
 module _ (o : List ℕ) (c m : ℕ) (s : List ℕ) (h : length s ≡ 616) (pos : 1 ≤ m) where

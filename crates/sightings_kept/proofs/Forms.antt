@@ -21,19 +21,19 @@ use Rattle.peer.specs.declared.Peer.{Peer}
 use Rattle.peer.specs.Peers.{peerOf}
 use Rattle.peer.proofs.Lists.{size-most, size-least}
 use Rattle.peer.proofs.Meaning.{id-length, addrs-length, lens-length, place-is, size-is, count-few, lens-usable}
 use Rattle.sightings.specs.declared.Sighting.{Sighting}
 use Rattle.sightings.specs.declared.Settled.{Settled}
 use Rattle.sightings.specs.declared.Removed.{Removed}
 use Rattle.sightings.specs.Order.{isAt, heldAt, freeAt, tailOf, withMark, contactBytes, freeBytes, withAddresses, renewed, leave, tailed, moveToTail, moveAndRenew, dropped, joinAt, join}
 use Rattle.sightings.specs.Sightings.{held, newcomer, sightingOf, afterSighting, seenTable, fits, settlementOf, afterSettling, settledTable, removalOf, afterRemoval, removedTable}
-use Rattle.sightings.specs.Promises.{Fair}
+use Rattle.sightings_kept.specs.Promises.{Fair}
 use Rattle.sightings.proofs.Slots.{slot-long, put-put}
 use Rattle.sightings.proofs.Tests.{of-used, held-lt, held-ge, held-is, held-not, at-used, at-place, at-make, free-is, tail-le}
 use Rattle.sightings.proofs.Moves.{leave-in, tailed-long, free-long}
 use Rattle.sightings.proofs.Dropping.{place-mark, mark-mark, drop-slots, drop-freed, drop-free}
 use Rattle.sightings.proofs.Calls.{fits-held, fits-bucket, fits-full, fits-new}
-use Rattle.sightings.proofs.Ordered.{Ordered, from-form, to-form, fields-by, mark-byte}
-use Rattle.sightings.proofs.Kept.{kept-place, kept-used, drop-form, drop-tail-down, enter-form}
+use Rattle.sightings_kept.proofs.Ordered.{Ordered, from-form, to-form, fields-by, mark-byte}
+use Rattle.sightings_kept.proofs.Kept.{kept-place, kept-used, drop-form, drop-tail-down, enter-form}
 
 -- ---- the bytes of a run of stores
 pub getD-sets-in : (l : List ℕ) (i : ℕ) (vs : List ℕ) (k : ℕ) → k < length vs → i + length vs ≤ length l → getD (sets l i vs) (i + k) 0 ≡ getD vs k 0
