@@ -17,9 +17,9 @@ use Rattle.wire.proofs.Digits.{minimal-pos}
 use Rattle.wire.proofs.Putting.{put-start, put-on, put-is}
 use Rattle.message.specs.Limits.{mostBody, mostAddresses}
 use Rattle.message.specs.Message.{Peer, encodePeer}
-use Rattle.message.specs.Writable.{peerFits, peerPiece, peerWith}
-use Rattle.message.proofs.Sizes.{fitting-peer}
-use Rattle.message.proofs.Pieces.{peer-piece}
+use Rattle.pieces.specs.Writable.{peerFits, peerPiece, peerWith}
+use Rattle.pieces.proofs.Sizes.{fitting-peer}
+use Rattle.pieces.proofs.Pieces.{peer-piece}
 use Rattle.writer.specs.Writer.{two, addressesOf, peerSize, peerAt, peersOf}
 use Rattle.writer.specs.Inner.{countOf, entryBytes, sized, pieces}
 use Rattle.writer.specs.declared.Size.the-variants.{Is, Over}

@@ -10,7 +10,7 @@ ghost use mathlib.Core.List.{_++_};
 ghost use mathlib.Core.Bool.{cond};
 ghost use mathlib.Core.Option.{none, some};
 ghost use Rattle.message.specs.Message.{encode, frame};
-ghost use Rattle.message.specs.Writable.{peerPiece, recordWith, writable};
+ghost use Rattle.pieces.specs.Writable.{peerPiece, recordWith, writable};
 ghost use Rattle.writer.specs.Writer.{two, addressSize, addressesOf, peerSize, peerAt, peersOf, messageWith, answerOf, outAfter};
 ghost use Rattle.writer.specs.Inner.{countOf, sized, pieces, heldSize, heldPiece, messagePieces, sizeOf};
 use refusal::Refusal;
@@ -128,7 +128,7 @@ fn entry_len(field: u8, s: &[u8]) -> usize
     if 4 < n {
         return 0;
     }
-    message::peer_len(
+    pieces::peer_len(
         field,
         &s[2..id_end],
         n,
@@ -154,7 +154,7 @@ fn put_entry(buf: &mut [u8], at: usize, field: u8, s: &[u8]) -> usize
     if 4 < n {
         return at;
     }
-    message::put_peer(
+    pieces::put_peer(
         buf,
         at,
         field,
@@ -225,7 +225,7 @@ fn held_len(held: bool, rkey: &[u8], value: &[u8]) -> Size
     ensures { λ r. ⌜ r ≡ heldSize (cond held (some (recordWith (now (rkey .entry)) (now (value .entry)))) none) ⌝ }
 {
     if held {
-        let n = message::record_len(rkey, value);
+        let n = pieces::record_len(rkey, value);
         if n == 0 {
             return Size::Over;
         }
@@ -280,7 +280,7 @@ fn put_held(buf: &mut [u8], at: usize, held: bool, rkey: &[u8], value: &[u8]) ->
     ensures { λ r. ⌜ Put (now (buf .entry)) at (heldPiece held (now (rkey .entry)) (now (value .entry))) (now (buf .exit)) r ⌝ }
 {
     if held {
-        return message::put_record(buf, at, rkey, value);
+        return pieces::put_record(buf, at, rkey, value);
     }
     at
 }
