@@ -13,8 +13,8 @@ use borrow.Author.Tests.{leb-true, leb-false, le-leb, lt-leb, lt-ltb, le-ltb}
 use Rattle.octets.specs.Search.{every, allOf}
 use Rattle.octets.proofs.Bools.{either, and-l, and-r, not-both}
 use Rattle.wire.specs.Items.{num, bytes, minimal, tagged, written1, written, single, repeated, Put}
-use Rattle.wire.proofs.Digits.{minimal-one}
-use Rattle.wire.proofs.Putting.{put-on, number-length, bytes-short, single-empty, single-full, written-append, written-one, repeated-append, repeated-snoc}
+use Rattle.wire_put.proofs.Digits.{minimal-one}
+use Rattle.wire_put.proofs.Putting.{put-on, number-length, bytes-short, single-empty, single-full, written-append, written-one, repeated-append, repeated-snoc}
 use Rattle.message.specs.Limits.{mostKey, mostValue, mostId, mostAddress, mostConnection}
 use Rattle.message.specs.Message.{Peer, Record, encodePeer, encodeRecord, heldItems, frame}
 use Rattle.pieces.specs.Writable.{addressFits, peerFits, recordFits, recordPiece, peerPiece, recordWith, peerWith}

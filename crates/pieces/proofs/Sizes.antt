@@ -12,8 +12,8 @@ use Rattle.octets.specs.Search.{every}
 use Rattle.octets.proofs.Bools.{all-head, all-rest, eq-or-ne}
 use Rattle.octets.proofs.Searching.{every-head, every-tail}
 use Rattle.wire.specs.Items.{Item, num, bytes, written1, written, single, repeated}
-use Rattle.wire.proofs.Digits.{minimal-one, minimal-two}
-use Rattle.wire.proofs.Putting.{number-length, bytes-length, single-empty, single-full, written-append, written-one}
+use Rattle.wire_put.proofs.Digits.{minimal-one, minimal-two}
+use Rattle.wire_put.proofs.Putting.{number-length, bytes-length, single-empty, single-full, written-append, written-one}
 use Rattle.message.specs.Limits.{mostKey, mostValue, mostId, mostAddresses, mostKind, mostConnection}
 use Rattle.message.specs.Message.{Peer, Record, Message, peerItems, encodePeer, recordItems, encodeRecord, heldItems, messageItems, encode}
 use Rattle.pieces.specs.Writable.{addressFits, peerFits, recordFits, heldFits}

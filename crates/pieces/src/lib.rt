@@ -13,7 +13,7 @@ fn field_len(field: u8, n: usize) -> usize
     requires { ⌜ n ≤ 16384 ⌝ }
     ensures { λ r. ⌜ r ≡ length (tagged (field * 8 + 2) n) + n ⌝ }
 {
-    wire::varint_len((field as u64) * 8 + 2) + wire::varint_len(n as u64) + n
+    wire_put::varint_len((field as u64) * 8 + 2) + wire_put::varint_len(n as u64) + n
 }
 
 // How many bytes a single bytes field has.
@@ -60,9 +60,9 @@ pub fn put_record(buf: &mut [u8], at: usize, key: &[u8], value: &[u8]) -> usize
 {
     if record_fits(key, value) {
         let n = record_body_len(key, value);
-        let a = wire::put_head(buf, at, 3, n);
-        let b = wire::put_single(buf, a, 1, key);
-        return wire::put_single(buf, b, 2, value);
+        let a = wire_put::put_head(buf, at, 3, n);
+        let b = wire_put::put_single(buf, a, 1, key);
+        return wire_put::put_single(buf, b, 2, value);
     }
     at
 }
@@ -157,7 +157,7 @@ fn put_address(buf: &mut [u8], at: usize, k: usize, n: usize, src: &[u8]) -> usi
     if n <= k {
         return at;
     }
-    wire::put_bytes(buf, at, 2, src)
+    wire_put::put_bytes(buf, at, 2, src)
 }
 
 fn put_addresses(
@@ -194,10 +194,10 @@ pub fn put_peer(
 {
     if peer_fits(id, n, a, b, c, d, connection) {
         let size = peer_body_len(id, n, a, b, c, d, connection);
-        let p = wire::put_head(buf, at, field, size);
-        let q = wire::put_single(buf, p, 1, id);
+        let p = wire_put::put_head(buf, at, field, size);
+        let q = wire_put::put_single(buf, p, 1, id);
         let r = put_addresses(buf, q, n, a, b, c, d);
-        return wire::put_number(buf, r, 3, connection as u64);
+        return wire_put::put_number(buf, r, 3, connection as u64);
     }
     at
 }

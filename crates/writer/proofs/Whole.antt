@@ -13,8 +13,8 @@ use Rattle.octets.specs.Search.{every}
 use Rattle.octets.proofs.Bools.{either, to-false, not-both, all-head, all-rest, all-one-more, all-none}
 use Rattle.refusal.specs.declared.Refusal.the-variants.{SmallBuffer, Unwritable}
 use Rattle.wire.specs.Items.{num, bytes, minimal, tagged, written1, written, single, Put}
-use Rattle.wire.proofs.Digits.{minimal-one, minimal-three, minimal-pos}
-use Rattle.wire.proofs.Putting.{put-on, put-is, put-end, number-length, bytes-length, bytes-short, single-empty, single-full}
+use Rattle.wire_put.proofs.Digits.{minimal-one, minimal-three, minimal-pos}
+use Rattle.wire_put.proofs.Putting.{put-on, put-is, put-end, number-length, bytes-length, bytes-short, single-empty, single-full}
 use Rattle.message.specs.Limits.{mostBody, leastReply, mostKey, mostKind}
 use Rattle.message.specs.Message.{Record, Message, encodeRecord, heldItems, encode, frame}
 use Rattle.pieces.specs.Writable.{peerFits, recordFits, heldFits, recordPiece, recordWith, writable}

@@ -217,7 +217,7 @@ fn key_len(key: &[u8]) -> usize
     if key.len() == 0 {
         return 0;
     }
-    1 + wire::varint_len(key.len() as u64) + key.len()
+    1 + wire_put::varint_len(key.len() as u64) + key.len()
 }
 
 // How many bytes the record has as a field, if there is one.
@@ -299,9 +299,9 @@ fn put_message(
 ) -> usize
     ensures { λ r. ⌜ Put (now (out .entry)) 0 (minimal size ++ messagePieces kind (now (key .entry)) held (now (rkey .entry)) (now (value .entry)) (now (closer .entry)) (now (providers .entry))) (now (out .exit)) r ⌝ }
 {
-    let a = wire::put_varint(out, 0, size as u64);
-    let b = wire::put_number(out, a, 1, kind);
-    let c = wire::put_single(out, b, 2, key);
+    let a = wire_put::put_varint(out, 0, size as u64);
+    let b = wire_put::put_number(out, a, 1, kind);
+    let c = wire_put::put_single(out, b, 2, key);
     let d = put_held(out, c, held, rkey, value);
     let e = put_list(out, d, CLOSER, closer);
     put_list(out, e, PROVIDER, providers)

@@ -1,7 +1,7 @@
 -- `field_len`: a tag, a length, and the bytes.
 use Prim.Native.Nat.{_+_, _*_}
 use native.Mathlib.Omega.{arith}
-use Rattle.wire.proofs.Digits.{minimal-three}
+use Rattle.wire_put.proofs.Digits.{minimal-three}
 use Rattle.pieces.proofs.Pieces.{field-sum}
 use borrow.Author.Needs.{needs}
 use Rattle.pieces.proofs.field_len.Statement.{statement}

@@ -1,7 +1,7 @@
 -- `put_address`: the address of place k as a field, or nothing.
 use mathlib.Core.Path.{sym}
 use native.Mathlib.Omega.{arith}
-use Rattle.wire.proofs.Putting.{put-start, put-is}
+use Rattle.wire_put.proofs.Putting.{put-start, put-is}
 use Rattle.pieces.proofs.Pieces.{nth-none, nth-some}
 use borrow.Author.Needs.{needs}
 use Rattle.pieces.proofs.put_address.Statement.{statement}

@@ -1,6 +1,6 @@
 -- `put_peer`: head, id, addresses and connection, or nothing.
 use mathlib.Core.Path.{sym, _∙_}
-use Rattle.wire.proofs.Putting.{put-start, put-is}
+use Rattle.wire_put.proofs.Putting.{put-start, put-is}
 use Rattle.pieces.proofs.Pieces.{peer-put, peer-none}
 use borrow.Author.Needs.{needs}
 use Rattle.pieces.proofs.put_peer.Statement.{statement}

@@ -1,6 +1,6 @@
 -- `put_record`: head, key and value, or nothing.
 use mathlib.Core.Path.{sym, _∙_}
-use Rattle.wire.proofs.Putting.{put-start, put-is}
+use Rattle.wire_put.proofs.Putting.{put-start, put-is}
 use Rattle.pieces.proofs.Pieces.{record-put, record-none}
 use borrow.Author.Needs.{needs}
 use Rattle.pieces.proofs.put_record.Statement.{statement}

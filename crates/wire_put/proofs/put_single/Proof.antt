@@ -1,9 +1,9 @@
 -- `put_single`: nothing for an empty field.
 use mathlib.Core.Path.{sym}
-use Rattle.wire.proofs.Putting.{put-start, put-is, single-empty, single-full}
+use Rattle.wire_put.proofs.Putting.{put-start, put-is, single-empty, single-full}
 use borrow.Author.Needs.{needs}
-use Rattle.wire.proofs.put_single.Statement.{statement}
-use Rattle.wire.proofs.put_single.Tie as tie
+use Rattle.wire_put.proofs.put_single.Statement.{statement}
+use Rattle.wire_put.proofs.put_single.Tie as tie
 
 returns : tie.Need-returns
 returns c = put-is _ _ _ _ _ _ (sym (single-empty _ _ (c .if1 .taken))) (put-start _ _)

@@ -1,9 +1,9 @@
 -- `past_end` goes by the room there is.
 use native.Mathlib.Omega.{arith}
-use Rattle.wire.proofs.Digits.{past-fits, past-full, past-over}
+use Rattle.wire_put.proofs.Digits.{past-fits, past-full, past-over}
 use borrow.Author.Needs.{needs}
-use Rattle.wire.proofs.past_end.Statement.{statement}
-use Rattle.wire.proofs.past_end.Tie as tie
+use Rattle.wire_put.proofs.past_end.Statement.{statement}
+use Rattle.wire_put.proofs.past_end.Tie as tie
 
 returns : tie.Need-returns
 returns c = past-over _ _ _ (omega arith)

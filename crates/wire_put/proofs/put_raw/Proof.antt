@@ -1,9 +1,9 @@
 -- `put_raw` copies.
 use mathlib.Core.Path.{refl}
-use Rattle.wire.proofs.Putting.{put-raw}
+use Rattle.wire_put.proofs.Putting.{put-raw}
 use borrow.Author.Needs.{needs}
-use Rattle.wire.proofs.put_raw.Statement.{statement}
-use Rattle.wire.proofs.put_raw.Tie as tie
+use Rattle.wire_put.proofs.put_raw.Statement.{statement}
+use Rattle.wire_put.proofs.put_raw.Tie as tie
 
 copy-requires : tie.Need-copy-requires
 copy-requires c κs = search needs

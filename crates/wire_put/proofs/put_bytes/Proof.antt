@@ -1,8 +1,8 @@
 -- `put_bytes`: tag and length, then the bytes.
-use Rattle.wire.proofs.Putting.{put-bytes}
+use Rattle.wire_put.proofs.Putting.{put-bytes}
 use borrow.Author.Needs.{needs}
-use Rattle.wire.proofs.put_bytes.Statement.{statement}
-use Rattle.wire.proofs.put_bytes.Tie as tie
+use Rattle.wire_put.proofs.put_bytes.Statement.{statement}
+use Rattle.wire_put.proofs.put_bytes.Tie as tie
 
 put-head-requires : tie.Need-put-head-requires
 put-head-requires c κs = search needs

@@ -1,9 +1,9 @@
 -- `put_varint`: what is left to write from `i` on completes the whole.
 use native.Mathlib.Omega.{arith}
 use lib.ListN.{length-set}
-use Rattle.wire.proofs.Digits.{Writing, writing, write-full, write-on, write-last}
-use Rattle.wire.proofs.put_varint.Statement.{statement}
-use Rattle.wire.proofs.put_varint.Tie as tie
+use Rattle.wire_put.proofs.Digits.{Writing, writing, write-full, write-on, write-last}
+use Rattle.wire_put.proofs.put_varint.Statement.{statement}
+use Rattle.wire_put.proofs.put_varint.Tie as tie
 
 abbrev Inv-loop : tie.InvT-loop
 Inv-loop buf₀ at v i₀ rest₀ buf i rest = Writing buf₀ at v buf i rest

@@ -10,13 +10,13 @@ use lib.Dec.{ltb, eqb}
 use borrow.Author.Tests.{lt-ltb, le-ltb, ltb-true, ltb-false, ne-eqb}
 use Rattle.octets.specs.Octets.{part}
 use Rattle.octets.specs.Search.{every, lastOf}
 use Rattle.wire.specs.Wire.{before, varint, placed, varintAt, numberAt, bytesAt, contentAt, fieldAt, nextOf, fieldsAt, fields}
 use Rattle.wire.specs.Items.{Item, num, bytes, skipped, bad, item, items, isField, values, parts, digits, minimal, tagged, written1, written, single, repeated}
 use Rattle.wire.specs.declared.Varint.the-variants.{Value}
 use Rattle.wire.specs.declared.Field.the-variants.{Number, Bytes}
 use Rattle.wire.proofs.Reading.{field-end, field-good, end-in}
 use Rattle.wire.proofs.Scan.{at-done, at-on}
-use Rattle.wire.proofs.Digits.{digits-last, digits-more, fewer, digits-short, minimal-pos}
+use Rattle.wire_put.proofs.Digits.{digits-last, digits-more, fewer, digits-short, minimal-pos}
 
 -- ---- a varint is read back, whatever follows it
 varint-last : (k v : ℕ) (post : List ℕ) → v < 128 → varint (suc k) (digits (suc k) v ++ post) ≡ Value v (length (digits (suc k) v))

@@ -1,9 +1,9 @@
 -- `put_number`: a tag, then the number.
 use mathlib.Core.Path.{refl}
-use Rattle.wire.proofs.Putting.{put-number}
+use Rattle.wire_put.proofs.Putting.{put-number}
 use borrow.Author.Needs.{needs}
-use Rattle.wire.proofs.put_number.Statement.{statement}
-use Rattle.wire.proofs.put_number.Tie as tie
+use Rattle.wire_put.proofs.put_number.Statement.{statement}
+use Rattle.wire_put.proofs.put_number.Tie as tie
 
 mul-put-varint : tie.Need-mul-put-varint
 mul-put-varint c = search needs

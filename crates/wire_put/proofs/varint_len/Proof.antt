@@ -1,8 +1,8 @@
 -- `varint_len` counts seven bits to a byte.
 use native.Mathlib.Omega.{arith}
-use Rattle.wire.proofs.Digits.{Counting, counting, counted, count-on}
-use Rattle.wire.proofs.varint_len.Statement.{statement}
-use Rattle.wire.proofs.varint_len.Tie as tie
+use Rattle.wire_put.proofs.Digits.{Counting, counting, counted, count-on}
+use Rattle.wire_put.proofs.varint_len.Statement.{statement}
+use Rattle.wire_put.proofs.varint_len.Tie as tie
 
 abbrev Inv-loop : tie.InvT-loop
 Inv-loop v n₀ rest₀ n rest = Counting v n rest

@@ -1,8 +1,8 @@
 -- `put_head`: a tag, then a length.
-use Rattle.wire.proofs.Putting.{put-tag}
+use Rattle.wire_put.proofs.Putting.{put-tag}
 use borrow.Author.Needs.{needs}
-use Rattle.wire.proofs.put_head.Statement.{statement}
-use Rattle.wire.proofs.put_head.Tie as tie
+use Rattle.wire_put.proofs.put_head.Statement.{statement}
+use Rattle.wire_put.proofs.put_head.Tie as tie
 
 mul-put-varint : tie.Need-mul-put-varint
 mul-put-varint c = search needs

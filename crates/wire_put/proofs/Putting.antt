@@ -11,8 +11,8 @@ use lib.Dec.{leb}
 use borrow.Author.Tests.{leb-true, leb-false}
 use Rattle.octets.proofs.Bools.{either}
 use Rattle.octets.proofs.Stores.{sets-append, sets-out}
 use Rattle.wire.specs.Items.{Item, num, bytes, minimal, tagged, written1, written, single, repeated, past, Put}
-use Rattle.wire.proofs.Digits.{past-fits, past-full, past-over, minimal-one, minimal-two}
+use Rattle.wire_put.proofs.Digits.{past-fits, past-full, past-over, minimal-one, minimal-two}
 
 pub put-start : (buf : List ℕ) (at : ℕ) → Put buf at [] buf at
 put-start buf at = record { end = ⊎-elim fits over (either (leb at (length buf))); same = refl }
