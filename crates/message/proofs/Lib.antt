@@ -2,8 +2,4 @@ pub mod Gathering
 pub mod Hearing
 pub mod Meaning
 pub mod Views
-pub mod RoundTrip
-pub mod Sizes
-pub mod Pieces
-pub mod Written
 pub mod Vectors

@@ -1,19 +1,15 @@
--- What only the proofs need: a message half read, and the addresses of a peer half written.
+-- What only the proofs need: a message half read.
 use Prim.Native.Nat.{ℕ}
-use mathlib.Core.Path.{_≡_}
-use lib.ListN.{take}
 use mathlib.Core.List.{List, [], _∷_, map}
-use mathlib.Core.Bool.{Bool, false, cond, not}
-use lib.Dec.{eqb, ltb}
+use mathlib.Core.Bool.{Bool, cond}
+use lib.Dec.{eqb}
 use Rattle.octets.specs.Search.{every, allOf, lastOf}
 use Rattle.wire.specs.Wire.{fields, fieldsIn, well, numbers, spans}
-use Rattle.wire.specs.Items.{written, repeated}
 use Rattle.wire.specs.declared.Span.{Span}
 use Rattle.wire.specs.declared.Field.{Field}
 use Rattle.wire.specs.declared.Field.the-variants.{End, Bad, Number, Bytes, Other}
 use Rattle.message.specs.Message.{wellMessage}
 use Rattle.message.specs.View.{heldAt, fieldsOf}
-use Rattle.message.specs.Writable.{addressFits}
 use Rattle.message.specs.declared.Fields.{Fields}
 use Rattle.message.specs.declared.Gathered.{Gathered}
 use Rattle.message.specs.declared.Gathered.the-variants.{Sound, Broken}
@@ -65,23 +61,3 @@ onto Broken f = Broken
 -- the fields of a body, gathered
 unfoldable pub gathered : List ℕ → Gathered
 gathered s = cond (wellMessage s) (Sound (fieldsOf s)) Broken
-
--- ---- writing: the address of place k among n, if there is one
-unfoldable pub nth : ℕ → ℕ → List ℕ → List (List ℕ)
-nth k n a = cond (ltb k n) (a ∷ []) []
-
-unfoldable pub nthBytes : ℕ → ℕ → List ℕ → List ℕ
-nthBytes k n a = written (repeated 2 (nth k n a))
-
-unfoldable pub nthOver : ℕ → ℕ → List ℕ → Bool
-nthOver k n a = not (every addressFits (nth k n a))
-
-unfoldable pub addressBytes : ℕ → List ℕ → List ℕ → List ℕ → List ℕ → List ℕ
-addressBytes n a b c d = written (repeated 2 (take n (a ∷ b ∷ c ∷ d ∷ [])))
-
--- none of the first n is over its limit
-pub record Fitting4 (n : ℕ) (a b c d : List ℕ) : Type 0 where
-  pub first : nthOver 0 n a ≡ false
-  pub second : nthOver 1 n b ≡ false
-  pub third : nthOver 2 n c ≡ false
-  pub fourth : nthOver 3 n d ≡ false

@@ -3,6 +3,3 @@ pub mod Reading
 pub mod Reach
 pub mod Scan
 pub mod Within
-pub mod Digits
-pub mod Putting
-pub mod RoundTrip

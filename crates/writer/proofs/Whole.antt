@@ -13,13 +13,13 @@ use Rattle.octets.specs.Search.{every}
 use Rattle.octets.proofs.Bools.{either, to-false, not-both, all-head, all-rest, all-one-more, all-none}
 use Rattle.refusal.specs.declared.Refusal.the-variants.{SmallBuffer, Unwritable}
 use Rattle.wire.specs.Items.{num, bytes, minimal, tagged, written1, written, single, Put}
-use Rattle.wire.proofs.Digits.{minimal-one, minimal-three, minimal-pos}
-use Rattle.wire.proofs.Putting.{put-on, put-is, put-end, number-length, bytes-length, bytes-short, single-empty, single-full}
+use Rattle.wire_put.proofs.Digits.{minimal-one, minimal-three, minimal-pos}
+use Rattle.wire_put.proofs.Putting.{put-on, put-is, put-end, number-length, bytes-length, bytes-short, single-empty, single-full}
 use Rattle.message.specs.Limits.{mostBody, leastReply, mostKey, mostKind}
 use Rattle.message.specs.Message.{Record, Message, encodeRecord, heldItems, encode, frame}
-use Rattle.message.specs.Writable.{peerFits, recordFits, heldFits, recordPiece, recordWith, writable}
-use Rattle.message.proofs.Pieces.{record-piece}
-use Rattle.message.proofs.Sizes.{message-bytes, message-length, held-most}
+use Rattle.pieces.specs.Writable.{peerFits, recordFits, heldFits, recordPiece, recordWith, writable}
+use Rattle.pieces.proofs.Pieces.{record-piece}
+use Rattle.pieces.proofs.Sizes.{message-bytes, message-length, held-most}
 use Rattle.writer.specs.Writer.{peersOf, messageWith, answerOf, outAfter}
 use Rattle.writer.specs.Inner.{entryBytes, sized, pieces, heldSize, heldPiece, messagePieces, sizeOf}
 use Rattle.writer.specs.declared.Size.{Size}

@@ -9,7 +9,7 @@ use Rattle.octets.specs.Search.{every, allOf}
 use Rattle.wire.specs.Items.{num, written1, written, single, repeated}
 use Rattle.message.specs.Limits.{mostBody}
 use Rattle.message.specs.Message.{Peer, Record, Message, encodePeer, heldItems, encode}
-use Rattle.message.specs.Writable.{peerFits, heldFits, recordPiece, peerPiece, recordWith, writable}
+use Rattle.pieces.specs.Writable.{peerFits, heldFits, recordPiece, peerPiece, recordWith, writable}
 use Rattle.writer.specs.Writer.{peersOf}
 use Rattle.writer.specs.declared.Size.{Size}
 use Rattle.writer.specs.declared.Size.the-variants.{Is, Over}

@@ -10,7 +10,7 @@ use Rattle.octets.specs.Octets.{part}
 use Rattle.refusal.specs.declared.Refusal.the-variants.{SmallBuffer, Unwritable}
 use Rattle.message.specs.Limits.{leastReply}
 use Rattle.message.specs.Message.{Peer, Message, encode, frame}
-use Rattle.message.specs.Writable.{recordWith, writable}
+use Rattle.pieces.specs.Writable.{recordWith, writable}
 use Rattle.writer.specs.declared.Written.{Written}
 use Rattle.writer.specs.declared.Written.the-variants.{Done, Refused}
 

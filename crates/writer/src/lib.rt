@@ -10,7 +10,7 @@ ghost use mathlib.Core.List.{_++_};
 ghost use mathlib.Core.Bool.{cond};
 ghost use mathlib.Core.Option.{none, some};
 ghost use Rattle.message.specs.Message.{encode, frame};
-ghost use Rattle.message.specs.Writable.{peerPiece, recordWith, writable};
+ghost use Rattle.pieces.specs.Writable.{peerPiece, recordWith, writable};
 ghost use Rattle.writer.specs.Writer.{two, addressSize, addressesOf, peerSize, peerAt, peersOf, messageWith, answerOf, outAfter};
 ghost use Rattle.writer.specs.Inner.{countOf, sized, pieces, heldSize, heldPiece, messagePieces, sizeOf};
 use refusal::Refusal;
@@ -128,7 +128,7 @@ fn entry_len(field: u8, s: &[u8]) -> usize
     if 4 < n {
         return 0;
     }
-    message::peer_len(
+    pieces::peer_len(
         field,
         &s[2..id_end],
         n,
@@ -154,7 +154,7 @@ fn put_entry(buf: &mut [u8], at: usize, field: u8, s: &[u8]) -> usize
     if 4 < n {
         return at;
     }
-    message::put_peer(
+    pieces::put_peer(
         buf,
         at,
         field,
@@ -217,7 +217,7 @@ fn key_len(key: &[u8]) -> usize
     if key.len() == 0 {
         return 0;
     }
-    1 + wire::varint_len(key.len() as u64) + key.len()
+    1 + wire_put::varint_len(key.len() as u64) + key.len()
 }
 
 // How many bytes the record has as a field, if there is one.
@@ -225,7 +225,7 @@ fn held_len(held: bool, rkey: &[u8], value: &[u8]) -> Size
     ensures { λ r. ⌜ r ≡ heldSize (cond held (some (recordWith (now (rkey .entry)) (now (value .entry)))) none) ⌝ }
 {
     if held {
-        let n = message::record_len(rkey, value);
+        let n = pieces::record_len(rkey, value);
         if n == 0 {
             return Size::Over;
         }
@@ -280,7 +280,7 @@ fn put_held(buf: &mut [u8], at: usize, held: bool, rkey: &[u8], value: &[u8]) ->
     ensures { λ r. ⌜ Put (now (buf .entry)) at (heldPiece held (now (rkey .entry)) (now (value .entry))) (now (buf .exit)) r ⌝ }
 {
     if held {
-        return message::put_record(buf, at, rkey, value);
+        return pieces::put_record(buf, at, rkey, value);
     }
     at
 }
@@ -299,9 +299,9 @@ fn put_message(
 ) -> usize
     ensures { λ r. ⌜ Put (now (out .entry)) 0 (minimal size ++ messagePieces kind (now (key .entry)) held (now (rkey .entry)) (now (value .entry)) (now (closer .entry)) (now (providers .entry))) (now (out .exit)) r ⌝ }
 {
-    let a = wire::put_varint(out, 0, size as u64);
-    let b = wire::put_number(out, a, 1, kind);
-    let c = wire::put_single(out, b, 2, key);
+    let a = wire_put::put_varint(out, 0, size as u64);
+    let b = wire_put::put_number(out, a, 1, kind);
+    let c = wire_put::put_single(out, b, 2, key);
     let d = put_held(out, c, held, rkey, value);
     let e = put_list(out, d, CLOSER, closer);
     put_list(out, e, PROVIDER, providers)

@@ -3,7 +3,7 @@ use mathlib.Core.Path.{sym, ap, _∙_}
 use native.Mathlib.Omega.{arith}
 use lib.ListN.{length}
 use Rattle.message.specs.Message.{Peer}
-use Rattle.message.specs.Writable.{peerPiece}
+use Rattle.pieces.specs.Writable.{peerPiece}
 use Rattle.writer.proofs.Entries.{peer-five}
 use Rattle.writer.proofs.Counting.{entry-many, entry-few}
 use borrow.Author.Needs.{needs}

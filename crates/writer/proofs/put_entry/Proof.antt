@@ -1,8 +1,8 @@
 -- `put_entry`: the peer at the start of a list, with its addresses one by one.
 use mathlib.Core.Path.{sym, ap}
 use native.Mathlib.Omega.{arith}
-use Rattle.wire.proofs.Putting.{put-start, put-is}
-use Rattle.message.specs.Writable.{peerPiece}
+use Rattle.wire_put.proofs.Putting.{put-start, put-is}
+use Rattle.pieces.specs.Writable.{peerPiece}
 use Rattle.writer.proofs.Entries.{peer-five}
 use Rattle.writer.proofs.Counting.{entry-many, entry-few}
 use borrow.Author.Needs.{needs}

@@ -1,6 +1,6 @@
 -- `put_held`: the record, or nothing.
 use mathlib.Core.Path.{sym}
-use Rattle.wire.proofs.Putting.{put-start, put-is}
+use Rattle.wire_put.proofs.Putting.{put-start, put-is}
 use Rattle.writer.proofs.Whole.{piece-yes, piece-no}
 use borrow.Author.Needs.{needs}
 use Rattle.writer.proofs.put_held.Statement.{statement}

@@ -4,7 +4,7 @@ use native.Mathlib.Omega.{arith}
 use lib.ListN.{length}
 use borrow.Author.Needs.{needs}
 use Rattle.octets.specs.Octets.{part}
-use Rattle.wire.proofs.Putting.{put-length}
+use Rattle.wire_put.proofs.Putting.{put-length}
 use Rattle.writer.proofs.Entries.{peer-five}
 use Rattle.writer.proofs.Counting.{Putting, putting, put-end, put-next}
 use Rattle.writer.proofs.put_list.Statement.{statement}

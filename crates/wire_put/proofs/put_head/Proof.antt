@@ -1,0 +1,34 @@
+-- `put_head`: a tag, then a length.
+use Rattle.wire_put.proofs.Putting.{put-tag}
+use borrow.Author.Needs.{needs}
+use Rattle.wire_put.proofs.put_head.Statement.{statement}
+use Rattle.wire_put.proofs.put_head.Tie as tie
+
+mul-put-varint : tie.Need-mul-put-varint
+mul-put-varint c = search needs
+
+add-put-varint : tie.Need-add-put-varint
+add-put-varint c = search needs
+
+put-varint-requires : tie.Need-put-varint-requires
+put-varint-requires c κs = search needs
+
+put-varint-requires-2 : tie.Need-put-varint-requires-2
+put-varint-requires-2 c κs = search needs
+
+same-length : tie.Need-same-length
+same-length c = search needs
+
+returns : tie.Need-returns
+returns c = put-tag _ _ _ _ _ _ _ _ (c .before .before .before .before .before .before .put-varint .ensures) (c .before .before .put-varint2 .ensures)
+
+pub put-head-spec : {M : Type 1} → statement M
+put-head-spec =
+    tie.close
+    (tie.spec
+    mul-put-varint
+    add-put-varint
+    put-varint-requires
+    put-varint-requires-2
+    same-length
+    returns)
