@@ -17,9 +17,9 @@ use Rattle.contacts.specs.Form.{inForm, goodOrFree, good}
 use Rattle.contacts.proofs.Cuts.{mark-cut, mark-free}
 use Rattle.peer.specs.Peers.{badPeer, peerOf}
 use Rattle.peer.proofs.Meaning.{place-is, fits-least, fits-most, not-bad-id, not-bad-place}
-use Rattle.sightings.specs.Promises.{Fair}
+use Rattle.sightings_kept.specs.Promises.{Fair}
 use Rattle.sightings.specs.Sightings.{held, sightingOf, fits}
-use Rattle.sightings.proofs.Forms.{fair-peer, seen-keeps, settle-keeps, remove-keeps}
+use Rattle.sightings_kept.proofs.Forms.{fair-peer, seen-keeps, settle-keeps, remove-keeps}
 use Rattle.contact_calls.specs.declared.SeenOutcome.{SeenOutcome}
 use Rattle.contact_calls.specs.declared.SeenOutcome.the-variants as seen
 use Rattle.contact_calls.specs.declared.SettleOutcome.{SettleOutcome}

@@ -1,4 +1,3 @@
 pub mod Limits
 pub mod Store
 pub mod Inner
-pub mod History

@@ -3,9 +3,3 @@ pub mod Tests
 pub mod Moves
 pub mod Dropping
 pub mod Calls
-pub mod Ordered
-pub mod Kept
-pub mod Forms
-pub mod Said
-pub mod Theorems
-pub mod Holds

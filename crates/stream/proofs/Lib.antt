@@ -1,13 +1,3 @@
-pub mod Lists
 pub mod Runs
 pub mod Steps
-pub mod Order
-pub mod Kept
-pub mod World
-pub mod Heads
-pub mod Frames
-pub mod Past
-pub mod Later
 pub mod Examples
-pub mod Plain
-pub mod Claims

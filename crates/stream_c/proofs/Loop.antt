@@ -18,13 +18,13 @@ use Rattle.stream.specs.declared.Answer.{Answer}
 use Rattle.stream.specs.declared.Answer.the-variants.{Message, Refused, More}
 use Rattle.stream.specs.declared.Received.{Received}
 use Rattle.stream.specs.Stream.{bodyLimit, fresh, isShut, inForm, Out, out, runOf, stays, Gives, receiveOf}
-use Rattle.stream.specs.World.{Did, Mark, Line, Shared, isMore, feed, Sound}
-use Rattle.stream.specs.Claims.{alone, opened, Anyone}
+use Rattle.cutting.specs.World.{Did, Mark, Line, Shared, isMore, feed, Sound}
+use Rattle.cutting.specs.Claims.{alone, opened, Anyone}
 use Rattle.stream.proofs.Steps.{call-small, call-shut, call-runs}
-use Rattle.stream.proofs.Lists.{part-rest}
-use Rattle.stream.proofs.Kept.{run-form, run-length, run-within, run-some, run-all, receive-within}
-use Rattle.stream.proofs.World.{lands, play, play-nil, play-append, play-shut, play-run, handed-play}
-use Rattle.stream.proofs.Claims.{own-receive}
+use Rattle.cutting.proofs.Lists.{part-rest}
+use Rattle.cutting.proofs.Kept.{run-form, run-length, run-within, run-some, run-all, receive-within}
+use Rattle.cutting.proofs.World.{lands, play, play-nil, play-append, play-shut, play-run, handed-play}
+use Rattle.cutting.proofs.Claims.{own-receive}
 use Rattle.stream_c.specs.Count.{tally, hostOf, Counts, messagesIn}
 
 abbrev Host : Type 0

@@ -1,13 +1,13 @@
 -- How many messages there are in a stream: what a host counts that hands all the bytes over in one piece. However the loop cuts them, it counts
--- the same (stream/specs/Claims.antt, `Cut`), and these are the messages of the plain reading (`Reading`).
+-- the same (cutting/specs/Claims.antt, `Cut`), and these are the messages of the plain reading (`Reading`).
 use Prim.Native.Nat.{ℕ, _+_}
 use mathlib.Core.Path.{_≡_}
 use mathlib.Core.List.{List}
 use Rattle.stream.specs.declared.Answer.{Answer}
 use Rattle.stream.specs.declared.Answer.the-variants.{Message, Refused, More}
-use Rattle.stream.specs.Frames.{Event, message, refused}
-use Rattle.stream.specs.World.{Did, Line, Shared, handed}
-use Rattle.stream.specs.Claims.{alone, opened}
+use Rattle.cutting.specs.Frames.{Event, message, refused}
+use Rattle.cutting.specs.World.{Did, Line, Shared, handed}
+use Rattle.cutting.specs.Claims.{alone, opened}
 
 abbrev pub tally : ℕ → Event → ℕ
 tally n (message at body) = n + 1

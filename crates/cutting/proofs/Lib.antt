@@ -1,0 +1,10 @@
+pub mod Lists
+pub mod Order
+pub mod Kept
+pub mod World
+pub mod Heads
+pub mod Frames
+pub mod Past
+pub mod Later
+pub mod Plain
+pub mod Claims

@@ -1,0 +1,4 @@
+pub mod Frames
+pub mod World
+pub mod Plain
+pub mod Claims

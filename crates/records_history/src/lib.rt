@@ -1,0 +1,1 @@
+// What becomes of a store over any list of puts: theorems on the definitions of `records`, in specs/ and proofs/. No code.

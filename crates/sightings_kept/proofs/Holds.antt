@@ -1,0 +1,152 @@
+-- In form, the mark of a bucket's tail is how many contacts the bucket holds, and a bucket that holds any has a head. Assumes nothing.
+use Prim.Native.Nat.{ℕ, zero, suc, _+_, _-_, _<_, _≤_}
+use mathlib.Core.Path.{_≡_, refl, sym, ap, ap₂, _∙_, subst}
+use mathlib.Core.Logic.{⊎-elim}
+use mathlib.Core.Bool.{Bool, true, false, _&&_, cond}
+use mathlib.Core.List.{List}
+use native.Mathlib.Nat.{not-suc-le-zero, eq-or-lt-of-le, le-of-suc-le-suc}
+use native.Mathlib.Omega.{arith}
+use lib.Dec.{ltb, leb, eqb}
+use borrow.Author.Tests.{le-leb, lt-leb, leb-true, leb-false, eq-eqb, ne-eqb, eqb-true}
+use Rattle.octets.specs.Search.{count}
+use Rattle.octets.proofs.Bools.{and-l, and-r, and-i, and-on, and-off, to-false, either, eq-or-ne, cond-yes, cond-no}
+use Rattle.octets.proofs.Searching.{count-zero, first-is, first-lt}
+use Rattle.place.specs.Place.{bucketOf}
+use Rattle.contacts.specs.Table.{slotsOf, slot, mark}
+use Rattle.contacts.specs.Form.{inForm}
+use Rattle.contacts.proofs.FormFacts.{form-elim}
+use Rattle.sightings.specs.declared.Sighting.the-variants.{Joined, Full, NoSlot}
+use Rattle.sightings.specs.Order.{ofBucket, isHead, freeAt, headAt, tailOf}
+use Rattle.sightings.specs.Sightings.{held, newcomer, sightingOf}
+use Rattle.sightings_kept.specs.Promises.{holds}
+use Rattle.sightings.proofs.Tests.{of-mark, tail-ge, tail-at}
+use Rattle.sightings_kept.proofs.Ordered.{Ordered, from-form}
+
+-- ---- counting. for octets
+abbrev bit : Bool → ℕ
+bit b = cond b 1 0
+
+bit-on : (b : Bool) → b ≡ true → bit b ≡ 1
+bit-on b e = ap bit e
+
+bit-off : (b : Bool) → b ≡ false → bit b ≡ 0
+bit-off b e = ap bit e
+
+module _ (p : ℕ → Bool) where
+  count-suc : (n : ℕ) → count (suc n) p ≡ count n p + bit (p n)
+  unfolding count
+  count-suc n = refl
+
+  count-none : (n : ℕ) → ((i : ℕ) → i < n → p i ≡ false) → count n p ≡ 0
+  count-none zero h = count-zero p
+  count-none (suc n) h = omega (arith, count-suc n, bit-off (p n) (h n (omega arith)), count-none n (λ i l. h i (omega arith)))
+
+  count-one : (n j : ℕ) → j < n → p j ≡ true → ((i : ℕ) → i < n → p i ≡ true → i ≡ j) → count n p ≡ 1
+  count-one zero j l e h = absurd (not-suc-le-zero l)
+  count-one (suc n) j l e h =
+      ⊎-elim (λ q. omega (arith, count-suc n, bit-on (p n) (subst (λ (k : ℕ). p k ≡ true) q e), count-none n (λ i li. to-false (p i) (λ y. far i li q (h i (omega arith) y)))))
+      (λ lt. omega (arith, count-suc n, bit-off (p n) (to-false (p n) (λ y. near lt (h n (omega arith) y))), count-one n j lt e (λ i li y. h i (omega arith) y))) (eq-or-lt-of-le (le-of-suc-le-suc l))
+    where
+      far : (i : ℕ) → i < n → j ≡ n → i ≡ j → ⊥
+      far i li q r = omega arith
+
+      near : j < n → n ≡ j → ⊥
+      near lt r = omega arith
+
+count-add : (p q r : ℕ → Bool) (n : ℕ) → ((i : ℕ) → i < n → bit (p i) ≡ bit (q i) + bit (r i)) → count n p ≡ count n q + count n r
+count-add p q r zero h = omega (arith, count-zero p, count-zero q, count-zero r)
+count-add p q r (suc n) h = omega (arith, count-suc p n, count-suc q n, count-suc r n, h n (omega arith), count-add p q r n (λ i l. h i (omega arith)))
+
+count-same : (p q : ℕ → Bool) (n : ℕ) → ((i : ℕ) → i < n → p i ≡ q i) → count n p ≡ count n q
+count-same p q zero h = count-zero p ∙ sym (count-zero q)
+count-same p q (suc n) h = omega (arith, count-suc p n, count-suc q n, ap bit (h n (omega arith)), count-same p q n (λ i l. h i (omega arith)))
+
+module _ (t o : List ℕ) (F : Ordered t o) (b : ℕ) where
+  -- of the bucket, with a mark of at most x; with the mark x
+  upTo : ℕ → ℕ → Bool
+  upTo x i = ofBucket o b (slot t i) && leb (mark (slot t i)) x
+
+  just : ℕ → ℕ → Bool
+  just x i = ofBucket o b (slot t i) && eqb (mark (slot t i)) x
+
+  -- each mark up to the tail's is there
+  marks : (d : ℕ) → d < tailOf t o b → (j : ℕ) × (j < slotsOf t) × (ofBucket o b (slot t j) ≡ true) × (mark (slot t j) + d ≡ tailOf t o b)
+  marks zero h = let r = tail-at t o b h in (r .0, r .1, r .2, omega (arith, r .3))
+  marks (suc d) h =
+      let r = marks d (omega arith) in
+      let g = F .leds b (r .0) (r .1) (r .2) (omega (arith, r .3)) in
+      (g .0, g .1, g .2, omega (arith, g .3, r .3))
+
+  just-one : (x : ℕ) → x < tailOf t o b → count (slotsOf t) (just (suc x)) ≡ 1
+  unfolding just
+  just-one x h =
+      let r = marks (tailOf t o b - suc x) (omega arith) in
+      let m : mark (slot t (r .0)) ≡ suc x = omega (arith, r .3) in
+      count-one (just (suc x)) (slotsOf t) (r .0) (r .1) (and-i (ofBucket o b (slot t (r .0))) _ (r .2) (eq-eqb _ _ m))
+      (λ i l y. F .ties b i (r .0) l (r .1) (and-l _ _ y) (r .2) (eqb-true _ _ (and-r (ofBucket o b (slot t i)) _ y) ∙ sym m))
+
+  step : (x i : ℕ) → bit (upTo (suc x) i) ≡ bit (upTo x i) + bit (just (suc x) i)
+  unfolding upTo just
+  step x i = ⊎-elim (λ f. on (mark (slot t i)) (ofBucket o b (slot t i)) f) (λ f. off (mark (slot t i)) (ofBucket o b (slot t i)) f) (either (ofBucket o b (slot t i)))
+    where
+      off : (m : ℕ) (a : Bool) → a ≡ false → bit (a && leb m (suc x)) ≡ bit (a && leb m x) + bit (a && eqb m (suc x))
+      off m a f = omega (arith, bit-off (a && leb m (suc x)) (and-off a _ f), bit-off (a && leb m x) (and-off a _ f), bit-off (a && eqb m (suc x)) (and-off a _ f))
+
+      low : (m : ℕ) → m ≤ x → bit (leb m (suc x)) ≡ bit (leb m x) + bit (eqb m (suc x))
+      low m l = omega (arith, bit-on _ (le-leb m (suc x) (omega arith)), bit-on _ (le-leb m x l), bit-off _ (ne-eqb m (suc x) (λ e. omega arith)))
+
+      high : (m : ℕ) → x < m → bit (leb m (suc x)) ≡ bit (leb m x) + bit (eqb m (suc x))
+      high m l = ⊎-elim (λ e. omega (arith, bit-on _ (le-leb m (suc x) (omega arith)), bit-off _ (lt-leb m x l), bit-on _ (eq-eqb m (suc x) e))) (λ e. omega (arith, bit-off _ (lt-leb m (suc x) (omega arith)), bit-off _ (lt-leb m x l), bit-off _ (ne-eqb m (suc x) e))) (eq-or-ne m (suc x))
+
+      on : (m : ℕ) (a : Bool) → a ≡ true → bit (a && leb m (suc x)) ≡ bit (a && leb m x) + bit (a && eqb m (suc x))
+      on m a f = ap bit (and-on a _ f) ∙ ⊎-elim (λ y. low m (leb-true m x y)) (λ y. high m (leb-false m x y)) (either (leb m x)) ∙ sym (ap₂ (λ (u v : Bool). bit u + bit v) (and-on a _ f) (and-on a _ f))
+
+  upto : (x : ℕ) → x ≤ tailOf t o b → count (slotsOf t) (upTo x) ≡ x
+  unfolding upTo
+  upto zero h = count-none (upTo zero) (slotsOf t) (λ i l. to-false _ (λ y. none i (of-mark o b (slot t i) (and-l _ _ y)) (leb-true _ 0 (and-r (ofBucket o b (slot t i)) _ y))))
+    where
+      none : (i : ℕ) → 1 ≤ mark (slot t i) → mark (slot t i) ≤ 0 → ⊥
+      none i p q = omega arith
+  upto (suc x) h = omega (arith, count-add (upTo (suc x)) (upTo x) (just (suc x)) (slotsOf t) (λ i l. step x i), just-one x h, upto x (omega arith))
+
+  pub held-count : holds t o b ≡ tailOf t o b
+  unfolding holds upTo
+  held-count = count-same (λ (i : ℕ). ofBucket o b (slot t i)) (upTo (tailOf t o b)) (slotsOf t) (λ i l. ⊎-elim (λ f. f ∙ sym (and-i (ofBucket o b (slot t i)) _ f (le-leb _ _ (tail-ge t o b i l f)))) (λ f. f ∙ sym (and-off (ofBucket o b (slot t i)) _ f)) (either (ofBucket o b (slot t i)))) ∙ upto (tailOf t o b) (omega arith)
+
+-- ---- the theorems
+-- the mark of the tail is the number of contacts
+pub tail-is-count : (t o : List ℕ) → inForm t o ≡ true → (b : ℕ) → tailOf t o b ≡ holds t o b
+tail-is-count t o y b = sym (held-count t o (from-form t o (form-elim t o y)) b)
+
+-- 13 is given to a peer not held exactly where its bucket holds 20 or more (in form: 20), and the slot named is that of the bucket's head
+module _ (t o p : List ℕ) (y : inForm t o ≡ true) (new : held t p ≡ false) where
+  pub full-refused : 20 ≤ holds t o (bucketOf p o) → sightingOf t o p ≡ Full (headAt t o (bucketOf p o))
+  unfolding sightingOf newcomer
+  full-refused h =
+      cond-no (held t p) _ _ new
+      ∙ cond-yes (leb 20 (tailOf t o (bucketOf p o))) _ _ (le-leb 20 (tailOf t o (bucketOf p o)) (omega (arith, tail-is-count t o y (bucketOf p o))))
+
+  pub room-never-full : holds t o (bucketOf p o) < 20 → (h : ℕ) → sightingOf t o p ≡ Full h → ⊥
+  unfolding sightingOf newcomer
+  room-never-full l h e =
+      let q = cond-no (held t p) _ _ new
+      ∙ cond-no (leb 20 (tailOf t o (bucketOf p o))) _ _ (lt-leb 20 (tailOf t o (bucketOf p o)) (omega (arith, tail-is-count t o y (bucketOf p o)))) in
+      other (sym q ∙ e)
+    where
+      never : _≡_ {A = ℕ} 0 1 → ⊥
+      never z = omega arith
+
+      other : cond (ltb (freeAt t) (slotsOf t)) (Joined (freeAt t)) NoSlot ≡ Full h → ⊥
+      other = ⊎-elim (λ b r. let z : _≡_ {A = ℕ} 0 1 = cc (cond-yes (ltb (freeAt t) (slotsOf t)) (Joined (freeAt t)) NoSlot b) in never z)
+          (λ b r. let z : _≡_ {A = ℕ} 0 1 = cc (cond-no (ltb (freeAt t) (slotsOf t)) (Joined (freeAt t)) NoSlot b) in never z) (either (ltb (freeAt t) (slotsOf t)))
+
+-- a bucket that holds anybody has a head, and `headAt` is its slot
+pub head-there : (t o : List ℕ) → inForm t o ≡ true → (b : ℕ) → 1 ≤ holds t o b → (headAt t o b < slotsOf t) × (isHead o b (slot t (headAt t o b)) ≡ true)
+unfolding headAt isHead
+head-there t o y b h =
+    let F = from-form t o (form-elim t o y) in
+    let r = marks t o F b (tailOf t o b - 1) (omega (arith, tail-is-count t o y b)) in
+    let one : mark (slot t (r .0)) ≡ 1 = omega (arith, r .3, tail-is-count t o y b) in
+    let i : isHead o b (slot t (r .0)) ≡ true = and-i (eqb (mark (slot t (r .0))) 1) _ (eq-eqb _ 1 one) (r .2) in
+    let l = first-lt (λ (k : ℕ). isHead o b (slot t k)) (slotsOf t) (r .0) (r .1) i in
+    (l, first-is (λ (k : ℕ). isHead o b (slot t k)) (slotsOf t) .here l)

@@ -1,0 +1,6 @@
+pub mod Ordered
+pub mod Kept
+pub mod Forms
+pub mod Said
+pub mod Theorems
+pub mod Holds
