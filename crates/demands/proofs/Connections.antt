@@ -1,0 +1,67 @@
+-- A connection that is fine, on a box that a start gave, over memory in form: 0, 1, 2 and 12 let it through. Assumes nothing.
+use Prim.Native.Nat.{ℕ, _≤_, _<_}
+use mathlib.Core.Path.{_≡_, refl, sym, ap, _∙_, subst}
+use mathlib.Core.Bool.{Bool, true, false, cond, not, _&&_, _||_}
+use mathlib.Core.List.{List, [], _∷_}
+use native.Mathlib.Omega.{arith}
+use lib.ListN.{length, getD}
+use lib.Dec.{leb, ltb}
+use borrow.Author.Tests.{le-leb, le-ltb}
+use Rattle.octets.specs.Octets.{same}
+use Rattle.octets.specs.Search.{allOf}
+use Rattle.octets.proofs.Bools.{and-i, or-l, or-skip, to-false, cond-no, all-none, all-one-more}
+use Rattle.octets.proofs.Searching.{all-intro}
+use Rattle.octets.proofs.Strings.{same-eq}
+use Rattle.place.specs.Place.{bucketOf}
+use Rattle.place.proofs.Buckets.{bucket-self}
+use Rattle.peer.specs.declared.Peer.{Peer}
+use Rattle.contacts.specs.Form.{inForm as contactsForm}
+use Rattle.records.specs.Store.{inForm as recordsForm}
+use Rattle.sightings_kept.specs.Promises.{Fair}
+use Rattle.message.specs.Limits.{mostBody, leastReply}
+use Rattle.stream.specs.Stream.{isShut, inForm}
+use Rattle.cutting.specs.World.{Line, Fine}
+use Rattle.node.specs.declared.Gate.the-variants.{Open}
+use Rattle.node.specs.Box.{ownFits, sizeFits, peerForm, connForm}
+use Rattle.node.specs.Node.{gateOf}
+use Rattle.demands.specs.Box.{Box, Who, connOf, Own, Allowed, Good}
+
+peer-form : (ours : List ℕ) (p : Peer) → Fair ours p → peerForm p ≡ true
+unfolding peerForm sizeFits
+peer-form ours p f =
+    all-one-more _ _ (le-leb 1 (p .size) (f .idLeast))
+    (all-one-more _ _ (le-leb (p .size) 64 (f .idMost))
+    (all-one-more _ _ (le-leb (p .count) 4 (f .few)) (all-one-more _ _ (all-intro (sizeFits p) (p .count) size) all-none)))
+  where
+    size : (k : ℕ) → k < p .count → (leb 1 (getD (p .lens) k 0) && leb (getD (p .lens) k 0) 128) ≡ true
+    size k l = and-i _ _ (le-leb 1 (getD (p .lens) k 0) (f .sizes k l .0)) (le-leb (getD (p .lens) k 0) 128 (f .sizes k l .1))
+
+other-place : (ours : List ℕ) (p : Peer) → Fair ours p → same (p .place) ours ≡ false
+other-place ours p f = to-false (same (p .place) ours) (λ e. at-ours (same-eq (p .place) ours e))
+  where
+    at-ours : p .place ≡ ours → ⊥
+    at-ours e =
+        let b : bucketOf (p .place) (p .place) < 256 = subst (λ (x : List ℕ). bucketOf (p .place) x < 256) (sym e) (f .other) in
+        omega (arith, b, bucket-self (p .place) (f .placeLong))
+
+module _ (me : Peer) where
+  pub conn-form : (l : Line Who) → Fine (Allowed me) l → connForm me (connOf (l .who) (l .framing)) ≡ true
+  unfolding connForm
+  conn-form l f = or-skip (isShut (l .framing)) _ (λ o. open-form (f .peer o))
+    where
+      open-form : Fair (me .place) (l .who .peer) → allOf (peerForm (l .who .peer) ∷ not (same (l .who .peer .place) (me .place)) ∷ inForm (l .framing) ∷ []) ≡ true
+      open-form p =
+          all-one-more _ _ (peer-form (me .place) (l .who .peer) p)
+          (all-one-more _ _ (ap not (other-place (me .place) (l .who .peer) p)) (all-one-more _ _ (f .form) all-none))
+
+  pub gate-open : Own me → (l : Line Who) (a : Box) → Fine (Allowed me) l → isShut (l .framing) ≡ false → Good me a
+      → gateOf me (connOf (l .who) (l .framing)) (l .buffer) (a .contacts) (a .records) (a .reply) ≡ Open
+  unfolding gateOf
+  gate-open w l a f o g =
+      cond-no _ _ _ (ap not (g .contacts))
+      ∙ cond-no _ _ _ (ap not (g .records))
+      ∙ cond-no _ _ _ (ap not (conn-form l f))
+      ∙ cond-no _ _ _ (le-ltb (length (l .buffer)) mostBody (f .room))
+      ∙ cond-no _ _ _ (le-ltb (length (a .reply)) leastReply (g .room))
+      ∙ cond-no _ _ _ o
+      ∙ cond-no _ _ _ (ap not (w .fits))

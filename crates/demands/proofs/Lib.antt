@@ -1,0 +1,4 @@
+pub mod Given
+pub mod Deal
+pub mod Connections
+pub mod Receives
