@@ -1,6 +1,7 @@
 -- A connection that is fine, on a box that a start gave, over memory in form: 0, 1, 2 and 12 let it through. Assumes nothing.
 use Prim.Native.Nat.{ℕ, _≤_, _<_}
 use mathlib.Core.Path.{_≡_, refl, sym, ap, _∙_, subst}
+use mathlib.Core.Logic.{⊎-elim}
 use mathlib.Core.Bool.{Bool, true, false, cond, not, _&&_, _||_}
 use mathlib.Core.List.{List, [], _∷_}
 use native.Mathlib.Omega.{arith}
@@ -8,8 +9,7 @@ use lib.ListN.{length, getD}
 use lib.Dec.{leb, ltb}
 use borrow.Author.Tests.{le-leb, le-ltb}
 use Rattle.octets.specs.Octets.{same}
-use Rattle.octets.specs.Search.{allOf}
-use Rattle.octets.proofs.Bools.{and-i, or-l, or-skip, to-false, cond-no, all-none, all-one-more}
+use Rattle.octets.proofs.Bools.{either, and-i, or-l, or-r, to-false, cond-no, all-none, all-one-more}
 use Rattle.octets.proofs.Searching.{all-intro}
 use Rattle.octets.proofs.Strings.{same-eq}
 use Rattle.place.specs.Place.{bucketOf}
@@ -21,12 +21,13 @@ use Rattle.sightings_kept.specs.Promises.{Fair}
 use Rattle.message.specs.Limits.{mostBody, leastReply}
 use Rattle.stream.specs.Stream.{isShut, inForm}
 use Rattle.cutting.specs.World.{Line, Fine}
+use Rattle.node.specs.declared.Conn.{Conn}
 use Rattle.node.specs.declared.Gate.the-variants.{Open}
 use Rattle.node.specs.Box.{ownFits, sizeFits, peerForm, connForm}
 use Rattle.node.specs.Node.{gateOf}
 use Rattle.demands.specs.Box.{Box, Who, connOf, Own, Allowed, Good}
 
-peer-form : (ours : List ℕ) (p : Peer) → Fair ours p → peerForm p ≡ true
+pub peer-form : (ours : List ℕ) (p : Peer) → Fair ours p → peerForm p ≡ true
 unfolding peerForm sizeFits
 peer-form ours p f =
     all-one-more _ _ (le-leb 1 (p .size) (f .idLeast))
@@ -36,7 +37,7 @@ peer-form ours p f =
     size : (k : ℕ) → k < p .count → (leb 1 (getD (p .lens) k 0) && leb (getD (p .lens) k 0) 128) ≡ true
     size k l = and-i _ _ (le-leb 1 (getD (p .lens) k 0) (f .sizes k l .0)) (le-leb (getD (p .lens) k 0) 128 (f .sizes k l .1))
 
-other-place : (ours : List ℕ) (p : Peer) → Fair ours p → same (p .place) ours ≡ false
+pub other-place : (ours : List ℕ) (p : Peer) → Fair ours p → same (p .place) ours ≡ false
 other-place ours p f = to-false (same (p .place) ours) (λ e. at-ours (same-eq (p .place) ours e))
   where
     at-ours : p .place ≡ ours → ⊥
@@ -45,14 +46,20 @@ other-place ours p f = to-false (same (p .place) ours) (λ e. at-ours (same-eq (
         omega (arith, b, bucket-self (p .place) (f .placeLong))
 
 module _ (me : Peer) where
-  pub conn-form : (l : Line Who) → Fine (Allowed me) l → connForm me (connOf (l .who) (l .framing)) ≡ true
+  -- a peer of such numbers, at another place, with the framing in form
+  pub in-form : (c : Conn) → peerForm (c .peer) ≡ true → not (same (c .peer .place) (me .place)) ≡ true → inForm (c .framing) ≡ true → connForm me c ≡ true
   unfolding connForm
-  conn-form l f = or-skip (isShut (l .framing)) _ (λ o. open-form (f .peer o))
+  in-form c p q f = or-r (isShut (c .framing)) _ (all-one-more _ _ p (all-one-more _ _ q (all-one-more _ _ f all-none)))
+
+  shut-form : (c : Conn) → isShut (c .framing) ≡ true → connForm me c ≡ true
+  unfolding connForm
+  shut-form c e = or-l (isShut (c .framing)) _ e
+
+  pub conn-form : (l : Line Who) → Fine (Allowed me) l → connForm me (connOf (l .who) (l .framing)) ≡ true
+  conn-form l f = ⊎-elim (λ e. shut-form (connOf (l .who) (l .framing)) e) (λ e. open-form (f .peer e)) (either (isShut (l .framing)))
     where
-      open-form : Fair (me .place) (l .who .peer) → allOf (peerForm (l .who .peer) ∷ not (same (l .who .peer .place) (me .place)) ∷ inForm (l .framing) ∷ []) ≡ true
-      open-form p =
-          all-one-more _ _ (peer-form (me .place) (l .who .peer) p)
-          (all-one-more _ _ (ap not (other-place (me .place) (l .who .peer) p)) (all-one-more _ _ (f .form) all-none))
+      open-form : Fair (me .place) (l .who .peer) → connForm me (connOf (l .who) (l .framing)) ≡ true
+      open-form p = in-form (connOf (l .who) (l .framing)) (peer-form (me .place) (l .who .peer) p) (ap not (other-place (me .place) (l .who .peer) p)) (f .form)
 
   pub gate-open : Own me → (l : Line Who) (a : Box) → Fine (Allowed me) l → isShut (l .framing) ≡ false → Good me a
       → gateOf me (connOf (l .who) (l .framing)) (l .buffer) (a .contacts) (a .records) (a .reply) ≡ Open

@@ -2,3 +2,8 @@ pub mod Given
 pub mod Deal
 pub mod Connections
 pub mod Receives
+pub mod Kept
+pub mod Sound
+pub mod Ready
+pub mod Tamed
+pub mod Plainly
