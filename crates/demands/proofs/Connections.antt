@@ -9,9 +9,10 @@ use lib.ListN.{length, getD}
 use lib.Dec.{leb, ltb}
 use borrow.Author.Tests.{le-leb, le-ltb}
 use Rattle.octets.specs.Octets.{same}
-use Rattle.octets.proofs.Bools.{either, and-i, or-l, or-r, to-false, cond-no, all-none, all-one-more}
+use Rattle.octets.proofs.Bools.{either, and-i, or-l, or-r, to-false, cond-yes, cond-no, all-none, all-one-more}
 use Rattle.octets.proofs.Searching.{all-intro}
 use Rattle.octets.proofs.Strings.{same-eq}
+use Rattle.refusal.specs.declared.Refusal.the-variants.{Shut, BadPeer}
 use Rattle.place.specs.Place.{bucketOf}
 use Rattle.place.proofs.Buckets.{bucket-self}
 use Rattle.peer.specs.declared.Peer.{Peer}
@@ -22,7 +23,7 @@ use Rattle.message.specs.Limits.{mostBody, leastReply}
 use Rattle.stream.specs.Stream.{isShut, inForm}
 use Rattle.cutting.specs.World.{Line, Fine}
 use Rattle.node.specs.declared.Conn.{Conn}
-use Rattle.node.specs.declared.Gate.the-variants.{Open}
+use Rattle.node.specs.declared.Gate.the-variants.{Open, Closed}
 use Rattle.node.specs.Box.{ownFits, sizeFits, peerForm, connForm}
 use Rattle.node.specs.Node.{gateOf}
 use Rattle.demands.specs.Box.{Box, Who, connOf, Own, Allowed, Good}
@@ -61,14 +62,18 @@ module _ (me : Peer) where
       open-form : Fair (me .place) (l .who .peer) → connForm me (connOf (l .who) (l .framing)) ≡ true
       open-form p = in-form (connOf (l .who) (l .framing)) (peer-form (me .place) (l .who .peer) p) (ap not (other-place (me .place) (l .who .peer) p)) (f .form)
 
+  -- what is left of the tests where the first five pass
+  gate-past : (l : Line Who) (a : Box) → Fine (Allowed me) l → Good me a
+      → gateOf me (connOf (l .who) (l .framing)) (l .buffer) (a .contacts) (a .records) (a .reply) ≡ cond (isShut (l .framing)) (Closed Shut) (cond (not (ownFits me)) (Closed BadPeer) Open)
+  unfolding gateOf
+  gate-past l a f g =
+      cond-no _ _ _ (ap not (g .contacts)) ∙ cond-no _ _ _ (ap not (g .records)) ∙ cond-no _ _ _ (ap not (conn-form l f))
+      ∙ cond-no _ _ _ (le-ltb (length (l .buffer)) mostBody (f .room)) ∙ cond-no _ _ _ (le-ltb (length (a .reply)) leastReply (g .room))
+
+  pub gate-shut : (l : Line Who) (a : Box) → Fine (Allowed me) l → isShut (l .framing) ≡ true → Good me a
+      → gateOf me (connOf (l .who) (l .framing)) (l .buffer) (a .contacts) (a .records) (a .reply) ≡ Closed Shut
+  gate-shut l a f o g = gate-past l a f g ∙ cond-yes _ _ _ o
+
   pub gate-open : Own me → (l : Line Who) (a : Box) → Fine (Allowed me) l → isShut (l .framing) ≡ false → Good me a
       → gateOf me (connOf (l .who) (l .framing)) (l .buffer) (a .contacts) (a .records) (a .reply) ≡ Open
-  unfolding gateOf
-  gate-open w l a f o g =
-      cond-no _ _ _ (ap not (g .contacts))
-      ∙ cond-no _ _ _ (ap not (g .records))
-      ∙ cond-no _ _ _ (ap not (conn-form l f))
-      ∙ cond-no _ _ _ (le-ltb (length (l .buffer)) mostBody (f .room))
-      ∙ cond-no _ _ _ (le-ltb (length (a .reply)) leastReply (g .room))
-      ∙ cond-no _ _ _ o
-      ∙ cond-no _ _ _ (ap not (w .fits))
+  gate-open w l a f o g = gate-past l a f g ∙ cond-no _ _ _ o ∙ cond-no _ _ _ (ap not (w .fits))

@@ -7,3 +7,7 @@ pub mod Sound
 pub mod Ready
 pub mod Tamed
 pub mod Plainly
+pub mod Refusals
+pub mod Leaving
+pub mod Never
+pub mod Theorems

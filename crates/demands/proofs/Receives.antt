@@ -158,12 +158,12 @@ module _ (me : Peer) where
       }
 
   -- ---- the call
-  runs-as : (l : Line Who) (bs t k y : List ℕ) (o : streams.Out) → framedOf (l .framing) (l .buffer) bs ≡ o
+  pub runs-as : (l : Line Who) (bs t k y : List ℕ) (o : streams.Out) → framedOf (l .framing) (l .buffer) bs ≡ o
       → takenOf me (connOf (l .who) (l .framing)) (l .buffer) bs t k y ≡ byEvent (o .got .answer) me (connOf (l .who) (o .got .framing)) (o .got .taken) (o .buffer) t k y
   unfolding takenOf
   runs-as l bs t k y o e = ap (λ (x : streams.Out). byEvent (x .got .answer) me (connOf (l .who) (x .got .framing)) (x .got .taken) (x .buffer) t k y) e
 
-  let-through : (l : Line Who) (bs t k y : List ℕ) → gateOf me (connOf (l .who) (l .framing)) (l .buffer) t k y ≡ Open
+  pub let-through : (l : Line Who) (bs t k y : List ℕ) → gateOf me (connOf (l .who) (l .framing)) (l .buffer) t k y ≡ Open
       → receiveOf me (connOf (l .who) (l .framing)) (l .buffer) bs t k y ≡ takenOf me (connOf (l .who) (l .framing)) (l .buffer) bs t k y
   unfolding receiveOf
   let-through l bs t k y e =
