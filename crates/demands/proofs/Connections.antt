@@ -1,12 +1,12 @@
 -- A connection that is fine, on a box that a start gave, over memory in form: 0, 1, 2 and 12 let it through. Assumes nothing.
-use Prim.Native.Nat.{ℕ, _≤_, _<_}
-use mathlib.Core.Path.{_≡_, refl, sym, ap, _∙_, subst}
+use Prim.Native.Nat.{ℕ, _<_}
+use mathlib.Core.Path.{_≡_, sym, ap, _∙_, subst}
 use mathlib.Core.Logic.{⊎-elim}
-use mathlib.Core.Bool.{Bool, true, false, cond, not, _&&_, _||_}
-use mathlib.Core.List.{List, [], _∷_}
+use mathlib.Core.Bool.{true, false, cond, not, _&&_}
+use mathlib.Core.List.{List}
 use native.Mathlib.Omega.{arith}
 use lib.ListN.{length, getD}
-use lib.Dec.{leb, ltb}
+use lib.Dec.{leb}
 use borrow.Author.Tests.{le-leb, le-ltb}
 use Rattle.octets.specs.Octets.{same}
 use Rattle.octets.proofs.Bools.{either, and-i, or-l, or-r, to-false, cond-yes, cond-no, all-none, all-one-more}
@@ -16,8 +16,6 @@ use Rattle.refusal.specs.declared.Refusal.the-variants.{Shut, BadPeer}
 use Rattle.place.specs.Place.{bucketOf}
 use Rattle.place.proofs.Buckets.{bucket-self}
 use Rattle.peer.specs.declared.Peer.{Peer}
-use Rattle.contacts.specs.Form.{inForm as contactsForm}
-use Rattle.records.specs.Store.{inForm as recordsForm}
 use Rattle.sightings_kept.specs.Promises.{Fair}
 use Rattle.message.specs.Limits.{mostBody, leastReply}
 use Rattle.stream.specs.Stream.{isShut, inForm}
@@ -60,11 +58,13 @@ module _ (me : Peer) where
   conn-form l f = ⊎-elim (λ e. shut-form (connOf (l .who) (l .framing)) e) (λ e. open-form (f .peer e)) (either (isShut (l .framing)))
     where
       open-form : Fair (me .place) (l .who .peer) → connForm me (connOf (l .who) (l .framing)) ≡ true
-      open-form p = in-form (connOf (l .who) (l .framing)) (peer-form (me .place) (l .who .peer) p) (ap not (other-place (me .place) (l .who .peer) p)) (f .form)
+      open-form p =
+          in-form (connOf (l .who) (l .framing)) (peer-form (me .place) (l .who .peer) p) (ap not (other-place (me .place) (l .who .peer) p)) (f .form)
 
   -- what is left of the tests where the first five pass
   gate-past : (l : Line Who) (a : Box) → Fine (Allowed me) l → Good me a
-      → gateOf me (connOf (l .who) (l .framing)) (l .buffer) (a .contacts) (a .records) (a .reply) ≡ cond (isShut (l .framing)) (Closed Shut) (cond (not (ownFits me)) (Closed BadPeer) Open)
+      → gateOf me (connOf (l .who) (l .framing)) (l .buffer) (a .contacts) (a .records) (a .reply)
+      ≡ cond (isShut (l .framing)) (Closed Shut) (cond (not (ownFits me)) (Closed BadPeer) Open)
   unfolding gateOf
   gate-past l a f g =
       cond-no _ _ _ (ap not (g .contacts)) ∙ cond-no _ _ _ (ap not (g .records)) ∙ cond-no _ _ _ (ap not (conn-form l f))

@@ -1,6 +1,6 @@
 -- What a request does to records and reply buffer: nothing where it is refused, and else what its offer does to the store.
-use Prim.Native.Nat.{ℕ, _≤_}
-use mathlib.Core.Path.{_≡_, refl, sym, ap, _∙_, subst}
+use Prim.Native.Nat.{ℕ}
+use mathlib.Core.Path.{_≡_, refl, sym, _∙_, subst}
 use mathlib.Core.Bool.{Bool, true, false, cond}
 use mathlib.Core.List.{List, [], _∷_}
 use mathlib.Core.Option.{Option, none, some}
@@ -9,14 +9,14 @@ use lib.ListN.{length}
 use lib.Seq.{length-sets}
 use lib.Dec.{eqb}
 use Rattle.octets.specs.Octets.{same}
-use Rattle.octets.proofs.Bools.{cond-yes, cond-no, cond-ind}
+use Rattle.octets.proofs.Bools.{cond-ind}
 use Rattle.refusal.specs.declared.Refusal.{Refusal}
 use Rattle.peer.specs.declared.Peer.{Peer}
 use Rattle.records.specs.declared.Plan.{Plan}
 use Rattle.records.specs.declared.Plan.the-variants.{Write, Keep, Refuse}
 use Rattle.records.specs.Store.{inForm, planOf, answerOf, afterOf, offerAnswer, offerAfter}
 use Rattle.records_history.specs.History.{Offer, offered, after}
-use Rattle.records_history.proofs.Stays.{put-is, offer-form}
+use Rattle.records_history.proofs.Stays.{put-is}
 use Rattle.message.specs.Message.{Record, Message, messageOf, encode, frame}
 use Rattle.message.specs.View.{readingOf}
 use Rattle.message.specs.declared.Reading.{Reading}
@@ -37,7 +37,8 @@ plan-refused (Write i) k key v m r e = no-refusal e
 plan-refused Keep k key v m r e = refl
 plan-refused (Refuse q) k key v m r e = refl
 
-echo-refused : (b : Bool) (k key v : List ℕ) (m : Message) (q r : Refusal) → cond b (echoed (offerAnswer k key v) m) (refuses q) ≡ refuses r → cond b (offerAfter k key v) k ≡ k
+echo-refused : (b : Bool) (k key v : List ℕ) (m : Message) (q r : Refusal) → cond b (echoed (offerAnswer k key v) m) (refuses q) ≡ refuses r
+    → cond b (offerAfter k key v) k ≡ k
 unfolding offerAnswer offerAfter
 echo-refused true k key v m q r e = plan-refused (planOf k key v) k key v m r e
 echo-refused false k key v m q r e = refl
@@ -95,7 +96,8 @@ reading-leaves (reading.Refused r) me who m t k y = record { refused = λ q e. (
 reading-leaves (reading.Whole f) me who m t k y =
     verdict-leaves (verdictOf me who m t k) k (recordsAfter m k) y (offerBy (reading.Whole f) m (m .held)) (after-form f m k) (verdict-refused me who m t k)
 
-pub deal-leaves : Given → (me who : Peer) (body t k y : List ℕ) → Leaves k y (offerBy (readingOf body) (messageOf body) (messageOf body .held)) (dealOf me who body t k y)
+pub deal-leaves : Given → (me who : Peer) (body t k y : List ℕ)
+    → Leaves k y (offerBy (readingOf body) (messageOf body) (messageOf body .held)) (dealOf me who body t k y)
 deal-leaves G me who body t k y =
     subst (Leaves k y (offerBy (readingOf body) (messageOf body) (messageOf body .held))) (sym (G .deal-is me who body t k y))
     (reading-leaves (readingOf body) me who (messageOf body) t k y)

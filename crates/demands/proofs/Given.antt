@@ -17,5 +17,6 @@ use Rattle.demands.specs.Demands.{RepliesWell}
 
 pub record Given : Type 0 where
   pub deal-is : (me who : Peer) (body t k y : List ℕ) → dealOf me who body t k y ≡ byReading (readingOf body) me who (messageOf body) t k y
-  pub replies : (me who : Peer) (body t k y : List ℕ) (n : ℕ) → leastReply ≤ length y → dealOf me who body t k y .told ≡ told.Reply n → RepliesWell me who body t k y n
+  pub replies : (me who : Peer) (body t k y : List ℕ) (n : ℕ) → leastReply ≤ length y → dealOf me who body t k y .told ≡ told.Reply n
+      → RepliesWell me who body t k y n
   pub lookup : (l : Lookup) (c : Step) (r : Refusal) → step c l .answer ≡ lookupAnswer.Refused r → step c l .lookup ≡ l

@@ -1,5 +1,5 @@
 -- What messages, openings, ends and host calls keep: memory in form, the reply buffer's room, and that the store is what the offers made of it.
-use Prim.Native.Nat.{ℕ, _+_, _≤_}
+use Prim.Native.Nat.{ℕ, _≤_}
 use mathlib.Core.Path.{_≡_, refl, sym, ap, _∙_, subst}
 use mathlib.Core.Bool.{Bool, true, false, cond}
 use mathlib.Core.List.{List, [], _∷_, _++_}
@@ -8,10 +8,9 @@ use lib.ListN.{length}
 use Rattle.octets.proofs.Bools.{cond-ind}
 use Rattle.peer.specs.declared.Peer.{Peer}
 use Rattle.contacts.specs.Form.{inForm as contactsForm}
-use Rattle.records.specs.Store.{inForm as recordsForm, putAfter}
+use Rattle.records.specs.Store.{inForm as recordsForm}
 use Rattle.records_history.specs.History.{Offer, offered, after}
 use Rattle.records_history.proofs.Stays.{form-kept, put-form}
-use Rattle.sightings.specs.Sightings.{seenTable}
 use Rattle.sightings_kept.specs.Promises.{Fair}
 use Rattle.sightings_kept.proofs.Forms.{seen-keeps}
 use Rattle.contact_calls.specs.Calls.{seenCallTable, settleCallTable, removeCallTable}
@@ -30,7 +29,7 @@ use Rattle.node.specs.declared.Sight.{Sight}
 use Rattle.node.specs.declared.Answer.{Answer}
 use Rattle.node.specs.declared.Answer.the-variants.{Reply, Heard, Refused, More}
 use Rattle.node.specs.Box.{ownFits}
-use Rattle.node.specs.Node.{Dealing, sightOf, contactsAfter, byAnswer, served, heard, dealingOf}
+use Rattle.node.specs.Node.{Dealing, contactsAfter, byAnswer, served, heard, dealingOf}
 use Rattle.node.specs.Hosts.{seenAfter, settleAfter, removeAfter}
 use Rattle.demands.specs.Box as box
 use Rattle.demands.specs.Box.{Box, Who, connOf, offerBy, offerIn, noted, Turn, Ask, dealing, happens, turning, asking, Own, Allowed, Good}
@@ -70,7 +69,8 @@ module _ (me : Peer) (Q : List ℕ → List Offer → Type 0) (L : Lasting Q) wh
   unfolding contactsAfter
   seen-after c t p h = cond-ind (λ (x : List ℕ). contactsForm x (me .place) ≡ true) (c .server) _ _ (λ e. seen-keeps t (me .place) (c .peer) p h) (λ e. h)
 
-  answer-keeps : (x : Answered) (d : Dealt) (c : Conn) (t k y : List ℕ) (os : List Offer) → Fair (me .place) (c .peer) → contactsForm t (me .place) ≡ true → recordsForm k ≡ true → Leaves k y os d
+  answer-keeps : (x : Answered) (d : Dealt) (c : Conn) (t k y : List ℕ) (os : List Offer) → Fair (me .place) (c .peer) → contactsForm t (me .place) ≡ true
+      → recordsForm k ≡ true → Leaves k y os d
       → Keeps k y os (byAnswer x d me c t)
   answer-keeps (told.Refused r) d c t k y os p h g l = record { contacts = h; records = l .offers g; room = l .room }
   answer-keeps (told.Reply n) d c t k y os p h g l = record { contacts = seen-after c t p h; records = l .offers g; room = l .room }
@@ -85,11 +85,17 @@ module _ (me : Peer) (Q : List ℕ → List Offer → Type 0) (L : Lasting Q) wh
       os : List Offer
       os = offerBy (readingOf body) (messageOf body) (messageOf body .held)
 
-      go : (b : Bool) → Keeps (a .records) (a .reply) (cond b [] os) (cond b (heard body (a .contacts) (a .records) (a .reply)) (byAnswer (d .told) d me (connOf w fresh) (a .contacts)))
+      go : (b : Bool)
+          → Keeps (a .records) (a .reply) (cond b [] os)
+          (cond b (heard body (a .contacts) (a .records) (a .reply)) (byAnswer (d .told) d me (connOf w fresh) (a .contacts)))
       go true = record { contacts = g .contacts; records = refl; room = refl }
       go false =
           answer-keeps (d .told) d (connOf w fresh) (a .contacts) (a .records) (a .reply) os p (g .contacts) (g .records)
           (deal-leaves G me (w .peer) body (a .contacts) (a .records) (a .reply))
+
+  -- a line of the log more
+  logs : (a : Box) (e : box.Entry) → Held me Q a → Held me Q (box.logged a e)
+  logs a e h = record { good = record { contacts = h .good .contacts; records = h .good .records; room = h .good .room }; offers = h .offers }
 
   noted-held : (i at : ℕ) (x : Answer) (s : Sight) (body t k y : List ℕ) (os : List Offer) (a : Box) → contactsForm t (me .place) ≡ true → recordsForm k ≡ true
       → leastReply ≤ length y → Q k (a .offers ++ os) → Held me Q (noted i at x s body t k y os a)
@@ -106,12 +112,12 @@ module _ (me : Peer) (Q : List ℕ → List Offer → Type 0) (L : Lasting Q) wh
       (ap recordsForm (q .records) ∙ form-kept (a .records) (offerIn w body) (h .good .records))
       (let m : leastReply ≤ length (a .reply) = h .good .room in omega (arith, q .room, m))
       (subst (λ (x : List ℕ). Q x (a .offers ++ offerIn w body)) (sym (q .records)) (L .on (a .records) (a .offers) (offerIn w body) (h .offers)))
-  happens-held G i w a (broken at r) p h = record { good = record { contacts = h .good .contacts; records = h .good .records; room = h .good .room }; offers = h .offers }
+  happens-held G i w a (broken at r) p h = logs a _ h
 
   -- ---- opening, ending
   pub turning-held : (i : ℕ) (b : Turn) (l : Line Who) (a : Box) → Held me Q a → Held me Q (turning me i b l a .shared)
-  turning-held i (box.opens id server side addresses m) l a h = record { good = record { contacts = h .good .contacts; records = h .good .records; room = h .good .room }; offers = h .offers }
-  turning-held i box.ends l a h = record { good = record { contacts = h .good .contacts; records = h .good .records; room = h .good .room }; offers = h .offers }
+  turning-held i (box.opens id server side addresses m) l a h = logs a _ h
+  turning-held i box.ends l a h = logs a _ h
 
   -- ---- the host's other calls
   with-contacts : (a : Box) (t : List ℕ) (e : box.Entry) → contactsForm t (me .place) ≡ true → Held me Q a → Held me Q (box.logged (box.withContacts a t) e)
@@ -130,17 +136,20 @@ module _ (me : Peer) (Q : List ℕ → List Offer → Type 0) (L : Lasting Q) wh
         good = record { contacts = h .good .contacts; records = put-form (a .records) key value (h .good .records); room = h .good .room };
         offers = L .on (a .records) (a .offers) (record { key = key; value = value } ∷ []) (h .offers);
       }
-  asking-held w a (box.find key) h = record { good = record { contacts = h .good .contacts; records = h .good .records; room = h .good .room }; offers = h .offers }
+  asking-held w a (box.find key) h = logs a _ h
   asking-held w a (box.seen id client addresses) h =
-      with-contacts a _ _ (unless-ours (ownFits me) (a .contacts) (seenCallTable (a .contacts) (me .place) id client addresses) (h .good .contacts)
+      with-contacts a _ _
+      (unless-ours (ownFits me) (a .contacts) (seenCallTable (a .contacts) (me .place) id client addresses) (h .good .contacts)
       (seen-call-keeps (a .contacts) (me .place) (w .long) (w .bytes) (h .good .contacts) id client addresses)) h
   asking-held w a (box.settle head id client addresses answered) h =
-      with-contacts a _ _ (unless-ours (ownFits me) (a .contacts) (settleCallTable (a .contacts) (me .place) head id client addresses answered) (h .good .contacts)
+      with-contacts a _ _
+      (unless-ours (ownFits me) (a .contacts) (settleCallTable (a .contacts) (me .place) head id client addresses answered) (h .good .contacts)
       (settle-call-keeps (a .contacts) (me .place) (w .long) (w .bytes) (h .good .contacts) head id client addresses answered)) h
   asking-held w a (box.remove id) h =
-      with-contacts a _ _ (unless-ours (ownFits me) (a .contacts) (removeCallTable (a .contacts) (me .place) id) (h .good .contacts)
+      with-contacts a _ _
+      (unless-ours (ownFits me) (a .contacts) (removeCallTable (a .contacts) (me .place) id) (h .good .contacts)
       (remove-call-keeps (a .contacts) (me .place) (w .long) (w .bytes) (h .good .contacts) id)) h
-  asking-held w a (box.nearest key) h = record { good = record { contacts = h .good .contacts; records = h .good .records; room = h .good .room }; offers = h .offers }
+  asking-held w a (box.nearest key) h = logs a _ h
   asking-held w a (box.start j key limit) h = same-memory a j _ h
   asking-held w a (box.next j) h = same-memory a j _ h
   asking-held w a (box.reply j id body view) h = same-memory a j _ h

@@ -1,8 +1,8 @@
 -- "A refused call changes no contact, record, lookup or reply byte; at most it takes bytes and shuts its connection."
 use Prim.Native.Nat.{ℕ}
-use mathlib.Core.Path.{_≡_, refl, sym, ap, _∙_, subst}
-use mathlib.Core.Logic.{_⊎_, inl, inr}
-use mathlib.Core.Bool.{Bool, true, false, cond, not, true≢false, false≢true}
+use mathlib.Core.Path.{_≡_, refl, ap}
+use mathlib.Core.Logic.{inl, inr}
+use mathlib.Core.Bool.{Bool, true, false, cond, not}
 use mathlib.Core.List.{List}
 use native.Mathlib.Omega.{arith}
 use lib.ListN.{length, take}
@@ -11,7 +11,6 @@ use lib.Dec.{ltb}
 use Rattle.octets.proofs.Bools.{cond-ind, cond-yes}
 use Rattle.refusal.specs.declared.Refusal.{Refusal}
 use Rattle.refusal.specs.declared.Refusal.the-variants.{OutOfForm, SmallBuffer, Unwritable}
-use Rattle.place.specs.Place.{placeOf}
 use Rattle.peer.specs.declared.Peer.{Peer}
 use Rattle.contacts.specs.Form.{inForm}
 use Rattle.contact_calls.specs.declared.SeenOutcome.the-variants as seenAnswer
@@ -26,11 +25,9 @@ use Rattle.records_history.proofs.Stays.{put-refused}
 use Rattle.message.specs.Message.{Message, encode, frame}
 use Rattle.message.specs.Limits.{leastReply}
 use Rattle.message.specs.Writable.{writable}
-use Rattle.writer.specs.declared.Written.{Written}
 use Rattle.writer.specs.declared.Written.the-variants as writer
 use Rattle.writer.specs.Writer.{answerOf, outAfter}
 use Rattle.stream.specs.declared.Framing.{Framing}
-use Rattle.stream.specs.declared.Framing.the-variants.{Shut}
 use Rattle.stream.specs.declared.Answer as stream
 use Rattle.stream.specs.declared.Answer.the-variants as framed
 use Rattle.stream.specs.Stream.{receiveOf as framedOf}
@@ -39,7 +36,7 @@ use Rattle.answer.specs.declared.Answered.the-variants as told
 use Rattle.answer.specs.Answers.{Dealt, dealOf}
 use Rattle.node.specs.declared.Conn.{Conn}
 use Rattle.node.specs.declared.Answer.{Answer}
-use Rattle.node.specs.declared.Answer.the-variants.{Reply, Refused, More}
+use Rattle.node.specs.declared.Answer.the-variants.{Refused}
 use Rattle.node.specs.declared.Gate.{Gate}
 use Rattle.node.specs.declared.Gate.the-variants.{Open, Closed}
 use Rattle.node.specs.Box.{ownFits, withFraming}
@@ -59,7 +56,8 @@ abbrev OnRefusal : List ℕ → List ℕ → List ℕ → Dealing → Type 0
 OnRefusal t k y d = (r : Refusal) → d .answer ≡ Refused r → Untouched t k y d
 
 module _ (G : Given) (me : Peer) where
-  served-refused : (c : Conn) (t k y : List ℕ) (d : Dealt) (x : Answered) → ((q : Refusal) → x ≡ told.Refused q → (d .records ≡ k) × (d .reply ≡ y)) → OnRefusal t k y (byAnswer x d me c t)
+  served-refused : (c : Conn) (t k y : List ℕ) (d : Dealt) (x : Answered) → ((q : Refusal) → x ≡ told.Refused q → (d .records ≡ k) × (d .reply ≡ y))
+      → OnRefusal t k y (byAnswer x d me c t)
   served-refused c t k y d (told.Refused q) h r e = record { contacts = refl; records = h q refl .0; reply = h q refl .1 }
   served-refused c t k y d (told.Reply n) h r e = absurd (let z : _≡_ {A = ℕ} 0 1 = cc in omega arith)
 
@@ -70,18 +68,21 @@ module _ (G : Given) (me : Peer) where
       cond-ind (OnRefusal t k y) (c .asking) _ _ (λ a r e. record { contacts = refl; records = refl; reply = refl })
       (λ a. served-refused c t k y d (d .told) (deal-leaves G me (c .peer) body t k y .refused))
 
-  done-refused : (c : Conn) (f : Framing) (n : ℕ) (m t k y : List ℕ) (r : Refusal) (d : Dealing) → d .answer ≡ Refused r → Untouched t k y d → LeavesAll c t k y (done (withFraming c f) n m d)
+  done-refused : (c : Conn) (f : Framing) (n : ℕ) (m t k y : List ℕ) (r : Refusal) (d : Dealing) → d .answer ≡ Refused r → Untouched t k y d
+      → LeavesAll c t k y (done (withFraming c f) n m d)
   done-refused c f n m t k y r d e u =
       record { contacts = u .contacts; records = u .records; reply = u .reply; conn = inr (ap (λ (a : Answer). shutIf a (withFraming c f)) e) }
 
-  event-refused : (w : stream.Answer) (c : Conn) (f : Framing) (n : ℕ) (m t k y : List ℕ) (r : Refusal) → byEvent w me (withFraming c f) n m t k y .got .answer ≡ Refused r
+  event-refused : (w : stream.Answer) (c : Conn) (f : Framing) (n : ℕ) (m t k y : List ℕ) (r : Refusal)
+      → byEvent w me (withFraming c f) n m t k y .got .answer ≡ Refused r
       → LeavesAll c t k y (byEvent w me (withFraming c f) n m t k y)
   event-refused (framed.Message v) c f n m t k y r e =
       done-refused c f n m t k y r (dealingOf me (withFraming c f) (take v m) t k y) e (dealing-refused (withFraming c f) (take v m) t k y r e)
   event-refused (framed.Refused q) c f n m t k y r e = record { contacts = refl; records = refl; reply = refl; conn = inr refl }
   event-refused framed.More c f n m t k y r e = absurd (let z : _≡_ {A = ℕ} 0 1 = cc in omega arith)
 
-  receive-refused : (c : Conn) (m bs t k y : List ℕ) (r : Refusal) → receiveOf me c m bs t k y .got .answer ≡ Refused r → LeavesAll c t k y (receiveOf me c m bs t k y)
+  receive-refused : (c : Conn) (m bs t k y : List ℕ) (r : Refusal) → receiveOf me c m bs t k y .got .answer ≡ Refused r
+      → LeavesAll c t k y (receiveOf me c m bs t k y)
   unfolding receiveOf takenOf
   receive-refused c m bs t k y r = go (gateOf me c m t k y)
     where
@@ -92,7 +93,8 @@ module _ (G : Given) (me : Peer) where
           event-refused (o .got .answer) c (o .got .framing) (o .got .taken) (o .buffer) t k y r e
 
 -- ---- the host's calls on contacts: a box that no start gave leaves all, and so does the call below where its table is out of form
-gated-leaves : {A : Type 0} (me : Peer) (t u : List ℕ) (zero twelve rest x : A) → (inForm t (me .place) ≡ false → u ≡ t) → (rest ≡ x → u ≡ t) → gated me t zero twelve rest ≡ x
+gated-leaves : {A : Type 0} (me : Peer) (t u : List ℕ) (zero twelve rest x : A) → (inForm t (me .place) ≡ false → u ≡ t) → (rest ≡ x → u ≡ t)
+    → gated me t zero twelve rest ≡ x
     → cond (ownFits me) u t ≡ t
 gated-leaves {A} me t u zero twelve rest x h g = go (inForm t (me .place)) refl (ownFits me)
   where
@@ -106,7 +108,8 @@ module _ (me : Peer) (t id : List ℕ) where
   unfolding seenCall
   seen-formless client f = cond-yes _ _ _ (ap not f)
 
-  settle-formless : (head : List ℕ) (client answered : Bool) → inForm t (me .place) ≡ false → settleCall t (me .place) head id client answered ≡ settleAnswer.Refused OutOfForm
+  settle-formless : (head : List ℕ) (client answered : Bool) → inForm t (me .place) ≡ false
+      → settleCall t (me .place) head id client answered ≡ settleAnswer.Refused OutOfForm
   unfolding settleCall
   settle-formless head client answered f = cond-yes _ _ _ (ap not f)
 
@@ -126,7 +129,8 @@ module _ (me : Peer) (t id : List ℕ) where
       gated-leaves me t (seenCallTable t (me .place) id client addresses) _ _ (seenCall t (me .place) id client) _
       (λ f. seen-refused t (me .place) id client addresses OutOfForm (seen-formless client f)) (seen-probe t (me .place) id client addresses h) e
 
-  settle-leaves : (head : List ℕ) (client : Bool) (addresses : List ℕ) (answered : Bool) (r : Refusal) → settleOf me t head id client answered ≡ settleAnswer.Refused r
+  settle-leaves : (head : List ℕ) (client : Bool) (addresses : List ℕ) (answered : Bool) (r : Refusal)
+      → settleOf me t head id client answered ≡ settleAnswer.Refused r
       → settleAfter me t head id client addresses answered ≡ t
   unfolding settleOf settleAfter
   settle-leaves head client addresses answered r e =

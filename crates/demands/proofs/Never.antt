@@ -1,14 +1,13 @@
 -- Memory in form stays so, and then no call gives 0.
 use Prim.Native.Nat.{ℕ, _≤_}
-use mathlib.Core.Path.{_≡_, refl, sym, ap, _∙_, subst}
+use mathlib.Core.Path.{_≡_, sym, _∙_, subst}
 use mathlib.Core.Logic.{⊎-elim}
 use mathlib.Core.Bool.{Bool, true, false, cond, not}
 use mathlib.Core.List.{List}
 use native.Mathlib.Omega.{arith}
 use lib.Dec.{ltb}
 use borrow.Author.Tests.{not-true}
-use Rattle.octets.proofs.Bools.{either, not-both, cond-ind, cond-yes, cond-no}
-use Rattle.refusal.specs.declared.Refusal.{Refusal}
+use Rattle.octets.proofs.Bools.{either, not-both, cond-ind, cond-yes}
 use Rattle.refusal.specs.declared.Refusal.the-variants.{OutOfForm}
 use Rattle.place.specs.Place.{placeOf}
 use Rattle.peer.specs.declared.Peer.{Peer}
@@ -32,7 +31,7 @@ use Rattle.lookup.specs.declared.Answer.{Answer as LookupAnswer}
 use Rattle.lookup.specs.declared.Answer.the-variants as lookupAnswer
 use Rattle.lookup.specs.declared.Step.{Step}
 use Rattle.lookup.specs.declared.Lookup.{Lookup}
-use Rattle.lookup.specs.Lookup.{keyFits as lookupKeyFits, limitFits, idFits, marksOf, ends as endsWith, settled, begun, startOf}
+use Rattle.lookup.specs.Lookup.{keyFits as lookupKeyFits, limitFits, idFits, marksOf, settled, begun, startOf}
 use Rattle.lookup_marks.specs.Marks.{isOver}
 use Rattle.stream.specs.declared.Framing.{Framing}
 use Rattle.stream.specs.declared.Framing.the-variants.{Shut, Prefix, Body}
@@ -45,7 +44,6 @@ use Rattle.stream.specs.Stream.{isShut, inForm, runOf, endIn, endOf}
 use Rattle.stream.proofs.Steps.{call-runs}
 use Rattle.cutting.specs.World.{Line, Fine}
 use Rattle.answer.specs.Answers.{keyFits}
-use Rattle.node.specs.declared.Answer.{Answer}
 use Rattle.node.specs.declared.Answer.the-variants.{Refused}
 use Rattle.node.specs.declared.Ended.{Ended}
 use Rattle.node.specs.declared.Gate.{Gate}
@@ -53,10 +51,10 @@ use Rattle.node.specs.declared.Nearby.{Nearby}
 use Rattle.node.specs.declared.Told.{Told}
 use Rattle.node.specs.declared.Told.the-variants as nodeTold
 use Rattle.node.specs.Box.{ownFits, endConn}
-use Rattle.node.specs.Node.{Out, gateOf, takenOf, unless, receiveOf}
+use Rattle.node.specs.Node.{Out, takenOf, unless, receiveOf}
 use Rattle.node.specs.Hosts.{seenOf, settleOf, removeOf, nearestTo, ownId, lookupStart}
 use Rattle.demands.specs.Box as box
-use Rattle.demands.specs.Box.{Box, Who, connOf, Fits, Own, Allowed, Good}
+use Rattle.demands.specs.Box.{Box, Who, connOf, Own, Allowed, Good}
 use Rattle.demands.specs.Demands.{NeverOutOfForm}
 use Rattle.demands.proofs.Given.{Given}
 use Rattle.demands.proofs.Connections.{conn-form, gate-shut, gate-open}
@@ -76,7 +74,8 @@ module _ (G : Given) (me : Peer) where
   unfolding receiveOf
   shut-answer l a bs f g e =
       subst (λ (x : Gate). AnswerAbove (unless x (connOf (l .who) (l .framing)) (l .buffer) (a .contacts) (a .records) (a .reply)
-      (takenOf me (connOf (l .who) (l .framing)) (l .buffer) bs (a .contacts) (a .records) (a .reply)) .got .answer)) (sym (gate-shut me l a f e g)) (omega arith)
+      (takenOf me (connOf (l .who) (l .framing)) (l .buffer) bs (a .contacts) (a .records) (a .reply)) .got .answer))
+      (sym (gate-shut me l a f e g)) (omega arith)
 
   open-answer : Own me → (l : Line Who) (a : Box) (bs : List ℕ) → Fine (Allowed me) l → Good me a → isShut (l .framing) ≡ false
       → AnswerAbove (receiveOf me (connOf (l .who) (l .framing)) (l .buffer) bs (a .contacts) (a .records) (a .reply) .got .answer)
@@ -85,7 +84,8 @@ module _ (G : Given) (me : Peer) where
       subst (λ (x : Out). AnswerAbove (x .got .answer))
       (sym (let-through me l bs (a .contacts) (a .records) (a .reply) (gate-open me w l a f e g)
       ∙ runs-as me l bs (a .contacts) (a .records) (a .reply) o (call-runs (l .framing) (l .buffer) bs (f .form) (f .room) e)))
-      (event-above G me (o .got .answer) (connOf (l .who) (o .got .framing)) (o .got .taken) (o .buffer) (a .contacts) (a .records) (a .reply) (run-above bs (l .framing) (l .buffer)))
+      (event-above G me (o .got .answer) (connOf (l .who) (o .got .framing)) (o .got .taken) (o .buffer) (a .contacts) (a .records) (a .reply)
+      (run-above bs (l .framing) (l .buffer)))
 
   receive-never : Own me → (l : Line Who) (a : Box) (bs : List ℕ) → Fine (Allowed me) l → Good me a
       → receiveOf me (connOf (l .who) (l .framing)) (l .buffer) bs (a .contacts) (a .records) (a .reply) .got .answer ≡ Refused OutOfForm → ⊥
@@ -108,7 +108,8 @@ end-above : (me : Peer) (l : Line Who) → Fine (Allowed me) l → EndAbove (end
 unfolding endConn endOf
 end-above me l f =
     subst (λ (x : Ended). EndAbove (x .answer)) (sym (cond-yes _ _ _ (conn-form me l f)))
-    (cond-ind (λ (x : streamEnd.Ended). EndAbove (x .answer)) (not (inForm (l .framing))) _ _ (passes (inForm (l .framing)) (f .form)) (λ e. end-in (l .framing)))
+    (cond-ind (λ (x : streamEnd.Ended). EndAbove (x .answer)) (not (inForm (l .framing))) _ _ (passes (inForm (l .framing)) (f .form))
+    (λ e. end-in (l .framing)))
 
 end-never : (me : Peer) (l : Line Who) → Fine (Allowed me) l → endConn me (connOf (l .who) (l .framing)) .answer ≡ ends.Refused OutOfForm → ⊥
 end-never me l f e = let h : 1 ≤ 0 = subst EndAbove e (end-above me l f) in omega arith
@@ -139,6 +140,20 @@ outcome-above (sighting.Joined i) = tt
 outcome-above (sighting.Full h) = tt
 outcome-above sighting.NoSlot = omega arith
 
+-- ---- lookups
+abbrev LookupAbove : LookupAnswer → Type 0
+LookupAbove (lookupAnswer.Refused r) = Above r
+LookupAbove (lookupAnswer.Complete n) = Unit {0}
+LookupAbove (lookupAnswer.CutShort n) = Unit {0}
+LookupAbove lookupAnswer.Wait = Unit {0}
+LookupAbove (lookupAnswer.Ask i) = Unit {0}
+LookupAbove lookupAnswer.Going = Unit {0}
+
+settled-above : (l : Lookup) → LookupAbove (settled l .answer)
+unfolding settled
+settled-above l =
+    cond-ind (λ (s : Step). LookupAbove (s .answer)) (isOver (marksOf l)) _ _ (λ e. cond-ind LookupAbove (l .turned) _ _ (λ e. tt) (λ e. tt)) (λ e. tt)
+
 module _ (me : Peer) (t : List ℕ) (form : contactsForm t (me .place) ≡ true) where
   seen-above : (id : List ℕ) (client : Bool) → SeenAbove (seenOf me t id client)
   unfolding seenOf seenCall
@@ -166,7 +181,8 @@ module _ (me : Peer) (t : List ℕ) (form : contactsForm t (me .place) ≡ true)
       cond-ind RemoveAbove (not (contactsForm t (me .place))) _ _ (passes (contactsForm t (me .place)) form)
       (λ e. cond-ind RemoveAbove (not (ownFits me)) _ _ (λ e. omega arith)
       (λ e. cond-ind RemoveAbove (not (contactsForm t (me .place))) _ _ (passes (contactsForm t (me .place)) form)
-      (λ e. cond-ind RemoveAbove (badPeer (me .place) id) _ _ (λ e. omega arith) (λ e. cond-ind RemoveAbove (not (held t (placeOf id))) _ _ (λ e. omega arith) (λ e. tt)))))
+      (λ e. cond-ind RemoveAbove (badPeer (me .place) id) _ _ (λ e. omega arith)
+      (λ e. cond-ind RemoveAbove (not (held t (placeOf id))) _ _ (λ e. omega arith) (λ e. tt)))))
 
   nearest-above : (key : List ℕ) → ToldAbove (nearestTo me t key .told)
   unfolding nearestTo
@@ -178,25 +194,13 @@ module _ (me : Peer) (t : List ℕ) (form : contactsForm t (me .place) ≡ true)
       step = cond-ind (λ (n : Nearby). ToldAbove (n .told))
 
   -- ---- a lookup's start
-  abbrev LookupAbove : LookupAnswer → Type 0
-  LookupAbove (lookupAnswer.Refused r) = Above r
-  LookupAbove (lookupAnswer.Complete n) = Unit {0}
-  LookupAbove (lookupAnswer.CutShort n) = Unit {0}
-  LookupAbove lookupAnswer.Wait = Unit {0}
-  LookupAbove (lookupAnswer.Ask i) = Unit {0}
-  LookupAbove lookupAnswer.Going = Unit {0}
-
-  settled-above : (l : Lookup) → LookupAbove (settled l .answer)
-  unfolding settled
-  settled-above l =
-      cond-ind (λ (s : Step). LookupAbove (s .answer)) (isOver (marksOf l)) _ _ (λ e. cond-ind LookupAbove (l .turned) _ _ (λ e. tt) (λ e. tt)) (λ e. tt)
-
   start-above : (key : List ℕ) (limit : ℕ) → LookupAbove (lookupStart me t key limit .answer)
   unfolding lookupStart startOf
   start-above key limit =
       go (not (contactsForm t (me .place))) _ _ (passes (contactsForm t (me .place)) form)
       (λ e. go (not (lookupKeyFits key)) _ _ (λ e. omega arith)
-      (λ e. go (not (idFits (ownId me))) _ _ (λ e. omega arith) (λ e. go (not (limitFits limit)) _ _ (λ e. omega arith) (λ e. settled-above (begun t key limit)))))
+      (λ e. go (not (idFits (ownId me))) _ _ (λ e. omega arith)
+      (λ e. go (not (limitFits limit)) _ _ (λ e. omega arith) (λ e. settled-above (begun t key limit)))))
     where
       go : (b : Bool) (x y : Step) → (b ≡ true → LookupAbove (x .answer)) → (b ≡ false → LookupAbove (y .answer)) → LookupAbove (cond b x y .answer)
       go = cond-ind (λ (s : Step). LookupAbove (s .answer))
@@ -210,20 +214,24 @@ FoundAbove (findTold.Refused r) = Above r
 find-above : (k key : List ℕ) → recordsForm k ≡ true → FoundAbove (findOf k key)
 unfolding findOf found heldAt
 find-above k key form =
-    cond-ind FoundAbove (not (recordsForm k)) _ _ (passes (recordsForm k) form) (λ e. cond-ind FoundAbove (ltb (slotWith k key) (slotsOf k)) _ _ (λ e. tt) (λ e. tt))
+    cond-ind FoundAbove (not (recordsForm k)) _ _ (passes (recordsForm k) form)
+    (λ e. cond-ind FoundAbove (ltb (slotWith k key) (slotsOf k)) _ _ (λ e. tt) (λ e. tt))
 
 -- ---- all of them
+no-zero : 1 ≤ 0 → ⊥
+no-zero h = omega arith
+
 pub never-out-of-form : Given → (me : Peer) → Own me → NeverOutOfForm me
 never-out-of-form G me w =
     record {
       kept = λ s r cs f. calls-ready (box.box me) (sound me G w) cs s r f;
       receive = λ l a bs f g e. receive-never G me w l a bs f g e;
       end = λ l f e. end-never me l f e;
-      seen = λ a id client g e. let h : 1 ≤ 0 = subst SeenAbove e (seen-above me (a .contacts) (g .contacts) id client) in omega arith;
-      settle = λ a head id client answered g e. let h : 1 ≤ 0 = subst SettleAbove e (settle-above me (a .contacts) (g .contacts) head id client answered) in omega arith;
-      remove = λ a id g e. let h : 1 ≤ 0 = subst RemoveAbove e (remove-above me (a .contacts) (g .contacts) id) in omega arith;
-      nearest = λ a key g e. let h : 1 ≤ 0 = subst ToldAbove e (nearest-above me (a .contacts) (g .contacts) key) in omega arith;
+      seen = λ a id client g e. no-zero (subst SeenAbove e (seen-above me (a .contacts) (g .contacts) id client));
+      settle = λ a head id client answered g e. no-zero (subst SettleAbove e (settle-above me (a .contacts) (g .contacts) head id client answered));
+      remove = λ a id g e. no-zero (subst RemoveAbove e (remove-above me (a .contacts) (g .contacts) id));
+      nearest = λ a key g e. no-zero (subst ToldAbove e (nearest-above me (a .contacts) (g .contacts) key));
       put = λ a key value g e. never-0 (a .records) key value (g .records) e;
-      find = λ a key g e. let h : 1 ≤ 0 = subst FoundAbove e (find-above (a .records) key (g .records)) in omega arith;
-      start = λ a key limit g e. let h : 1 ≤ 0 = subst (LookupAbove me (a .contacts) (g .contacts)) e (start-above me (a .contacts) (g .contacts) key limit) in omega arith;
+      find = λ a key g e. no-zero (subst FoundAbove e (find-above (a .records) key (g .records)));
+      start = λ a key limit g e. no-zero (subst LookupAbove e (start-above me (a .contacts) (g .contacts) key limit));
     }

@@ -1,7 +1,7 @@
 -- The box's calls are the plain reading of what its connections are given: by the tamed box, with which it agrees from a ready world on.
 use Prim.Native.Nat.{ℕ, zero, suc}
-use mathlib.Core.Path.{_≡_, refl, sym, ap, _∙_, subst}
-use mathlib.Core.Bool.{Bool, true, false, cond, true≢false}
+use mathlib.Core.Path.{_≡_, refl, ap, _∙_, subst}
+use mathlib.Core.Bool.{false, cond, true≢false}
 use mathlib.Core.List.{List, [], _∷_}
 use lib.ListN.{drop}
 use lib.Dec.{eqb}
@@ -11,7 +11,7 @@ use Rattle.stream.specs.declared.Framing.{Framing}
 use Rattle.stream.specs.declared.Framing.the-variants.{Shut, Prefix, Body}
 use Rattle.stream.specs.Stream.{fresh, isShut, endOf}
 use Rattle.cutting.specs.Frames.{Head, partly, whole, bad, headOf, framingOf}
-use Rattle.cutting.specs.World.{Did, Sys, Mark, happened, asked, setAt, here, putBack, Line, Shared, World, Called, Call, hand, does, asks, Act, takes, acts, noteIf, answered, feed, call, calls, Fine, Ready, AllFit}
+use Rattle.cutting.specs.World.{Did, Sys, Mark, happened, asked, here, putBack, Line, Shared, World, Called, Call, hand, does, asks, Act, takes, acts, noteIf, answered, feed, call, calls, Ready, AllFit}
 use Rattle.cutting.specs.Plain.{Wire, leading, pending, standing, actNext, byHead, next, plainly, unread, ReadOut}
 use Rattle.cutting.proofs.Claims.{several-plainly}
 use Rattle.node.specs.declared.Ended.{Ended}
@@ -21,7 +21,7 @@ use Rattle.demands.specs.Box.{Box, Who, connOf, whoIn, Turn, Ask, Fits, 
 use Rattle.demands.proofs.Given.{Given}
 use Rattle.demands.proofs.Sound.{opens-known, sound}
 use Rattle.demands.proofs.Ready.{call-ready}
-use Rattle.demands.proofs.Tamed.{tame, tamed, Known, agree, tame-sound, tame-blunt}
+use Rattle.demands.proofs.Tamed.{tame, Known, agree, tame-sound, tame-blunt}
 
 module _ (me : Peer) where
   -- ---- the same calls
@@ -40,11 +40,13 @@ module _ (me : Peer) where
   unfolding call
   call-same s (hand i p) k = ap (putBack s i) (feed-same _ i (here s i) p)
   call-same s (does i b) k =
-      ap (λ (e : Did (Line Who) Box). putBack s i (record { line = e .line; shared = noteIf (box.box me) false i (s .shared) (e .shared) })) (agree me i b (s .lines i) (s .shared .state) (k i))
+      ap (λ (e : Did (Line Who) Box). putBack s i (record { line = e .line; shared = noteIf (box.box me) false i (s .shared) (e .shared) }))
+      (agree me i b (s .lines i) (s .shared .state) (k i))
   call-same s (asks o) k = refl
 
   module _ (G : Given) (w : Own me) where
-    calls-same : (cs : List (Call Turn Ask)) (s : World Who Box Ask) → Ready (Allowed me) (Good me) s → AllFit Fits cs → calls (tame me) s cs ≡ calls (box.box me) s cs
+    calls-same : (cs : List (Call Turn Ask)) (s : World Who Box Ask) → Ready (Allowed me) (Good me) s → AllFit Fits cs
+        → calls (tame me) s cs ≡ calls (box.box me) s cs
     unfolding calls AllFit
     calls-same [] s r f = refl
     calls-same (hand i p ∷ cs) s r f =
@@ -63,13 +65,15 @@ module _ (me : Peer) where
 
   stands-known : (w : Wire Who Turn) → KnownWire w → Known me (standing w [])
   stands-known w k =
-      cond-ind (λ (f : Framing). isShut f ≡ false → Allowed me (w .who)) (w .shut) Shut (framingOf (leading (w .left))) (λ e z. absurd (true≢false z)) (λ e z. k e)
+      cond-ind (λ (f : Framing). isShut f ≡ false → Allowed me (w .who)) (w .shut) Shut (framingOf (leading (w .left)))
+      (λ e z. absurd (true≢false z)) (λ e z. k e)
 
   act-same : (x : List (Act Turn)) (i : ℕ) (w : Wire Who Turn) (a : Box) → KnownWire w → actNext (tame me) x i w a ≡ actNext (box.box me) x i w a
   act-same [] i w a k = refl
   act-same (takes b ∷ r) i w a k = refl
   act-same (acts b ∷ r) i w a k =
-      ap (λ (d : Did (Line Who) Box). record { line = record { who = d .line .who; shut = isShut (d .line .framing); taken = d .line .taken; left = r }; shared = d .shared })
+      ap (λ (d : Did (Line Who) Box).
+      record { line = record { who = d .line .who; shut = isShut (d .line .framing); taken = d .line .taken; left = r }; shared = d .shared })
       (agree me i b (standing w []) a (stands-known w k))
 
   head-same : (h : Head) (i : ℕ) (w : Wire Who Turn) (a : Box) → KnownWire w → byHead (tame me) h i w a ≡ byHead (box.box me) h i w a
@@ -78,15 +82,18 @@ module _ (me : Peer) where
   head-same (whole n m) i w a k = refl
 
   -- an end leaves who was there, and no connection open that was shut
+  abbrev KnownEnd : Ended → Type 0
+  KnownEnd e = isShut (e .conn .framing) ≡ false → Allowed me (whoIn (e .conn))
+
   end-known : (f : Framing) (w : Who) (m : List ℕ) (n i : ℕ) (a : Box) → (isShut f ≡ false → Allowed me w)
       → Known me (turning me i box.ends (record { who = w; framing = f; buffer = m; taken = n }) a .line)
   unfolding endConn endOf
   end-known Shut w m n i a k =
-      cond-ind (λ (e : Ended). isShut (e .conn .framing) ≡ false → Allowed me (whoIn (e .conn))) (connForm me (connOf w Shut)) _ _ (λ e z. absurd (true≢false z)) (λ e z. absurd (true≢false z))
+      cond-ind KnownEnd (connForm me (connOf w Shut)) _ _ (λ e z. absurd (true≢false z)) (λ e z. absurd (true≢false z))
   end-known (Prefix h) w m n i a k =
-      cond-ind (λ (e : Ended). isShut (e .conn .framing) ≡ false → Allowed me (whoIn (e .conn))) (connForm me (connOf w (Prefix h))) _ _ (λ e z. k refl) (λ e z. k refl)
+      cond-ind KnownEnd (connForm me (connOf w (Prefix h))) _ _ (λ e z. k refl) (λ e z. k refl)
   end-known (Body want have) w m n i a k =
-      cond-ind (λ (e : Ended). isShut (e .conn .framing) ≡ false → Allowed me (whoIn (e .conn))) (connForm me (connOf w (Body want have))) _ _ (λ e z. k refl) (λ e z. k refl)
+      cond-ind KnownEnd (connForm me (connOf w (Body want have))) _ _ (λ e z. k refl) (λ e z. k refl)
 
   module _ (own : Own me) where
     turn-known : (i : ℕ) (b : Turn) (l : Line Who) (a : Box) → Known me l → Known me (turning me i b l a .line)
@@ -119,10 +126,13 @@ module _ (me : Peer) where
     plain-same (asked o ∷ ms) w k = plain-same ms (record { lines = w .lines; shared = box.asking me (w .shared) o }) k
 
   -- ---- what the box's calls leave
-  pub read-plainly : Given → Own me → (s : World Who Box Ask) → Ready (Allowed me) (Good me) s → ((i : ℕ) → isShut (s .lines i .framing) ≡ false → s .lines i .framing ≡ fresh)
-      → s .shared .order ≡ [] → (cs : List (Call Turn Ask)) → AllFit Fits cs → ReadOut (plainly (box.box me) (unread s cs) (calls (box.box me) s cs .shared .order)) (calls (box.box me) s cs)
+  pub read-plainly : Given → Own me → (s : World Who Box Ask) → Ready (Allowed me) (Good me) s
+      → ((i : ℕ) → isShut (s .lines i .framing) ≡ false → s .lines i .framing ≡ fresh)
+      → s .shared .order ≡ [] → (cs : List (Call Turn Ask)) → AllFit Fits cs
+      → ReadOut (plainly (box.box me) (unread s cs) (calls (box.box me) s cs .shared .order)) (calls (box.box me) s cs)
   read-plainly G w s r f n cs h =
       let e : calls (tame me) s cs ≡ calls (box.box me) s cs = calls-same G w cs s r h in
-      subst (λ (x : Sys (Wire Who Turn) Box). ReadOut x (calls (box.box me) s cs)) (plain-same w (calls (box.box me) s cs .shared .order) (unread s cs) (λ i. r .lines i .peer))
+      subst (λ (x : Sys (Wire Who Turn) Box). ReadOut x (calls (box.box me) s cs))
+      (plain-same w (calls (box.box me) s cs .shared .order) (unread s cs) (λ i. r .lines i .peer))
       (subst (λ (z : World Who Box Ask). ReadOut (plainly (tame me) (unread s cs) (z .shared .order)) z) e
       (several-plainly Who Box Turn Ask (tame me) (Allowed me) (Good me) Fits (tame-sound me G w) (tame-blunt me) s r f n cs h))

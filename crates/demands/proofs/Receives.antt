@@ -1,12 +1,11 @@
 -- A call of `receive` does what the framing's answer comes to, as the plain reading deals with it. Assumes nothing.
 use Prim.Native.Nat.{ℕ, suc, _+_}
-use mathlib.Core.Path.{_≡_, refl, sym, ap, ap₂, _∙_, subst}
-use mathlib.Core.Bool.{Bool, true, false, cond, true≢false, false≢true}
+use mathlib.Core.Path.{_≡_, refl, sym, ap, ap₂, _∙_}
+use mathlib.Core.Bool.{true, false, cond, true≢false}
 use mathlib.Core.List.{List, [], _∷_, _++_, append-nil}
 use lib.ListN.{length, take}
 use lib.Dec.{eqb}
 use Rattle.octets.proofs.Bools.{cond-ind}
-use Rattle.refusal.specs.declared.Refusal.{Refusal}
 use Rattle.peer.specs.declared.Peer.{Peer}
 use Rattle.message.specs.View.{readingOf}
 use Rattle.message.specs.declared.Reading.{Reading}
@@ -20,7 +19,6 @@ use Rattle.stream.specs.declared.Answer.the-variants as framed
 use Rattle.stream.specs.Stream as streams
 use Rattle.stream.specs.Stream.{fresh, isShut, Stepped, led, stepOf, storeOf, after, runOf, receiveOf as framedOf}
 use Rattle.stream.proofs.Steps.{call-runs}
-use Rattle.cutting.specs.Frames.{Event, message, refused as broken}
 use Rattle.cutting.specs.World as world
 use Rattle.cutting.specs.World.{Line, Called, Fine}
 use Rattle.answer.specs.declared.Answered.{Answered}
@@ -30,7 +28,6 @@ use Rattle.node.specs.declared.Gate.{Gate}
 use Rattle.node.specs.declared.Sight.{Sight}
 use Rattle.node.specs.declared.Answer.{Answer}
 use Rattle.node.specs.declared.Answer.the-variants.{Reply, Heard, Refused, More}
-use Rattle.node.specs.Box.{withFraming}
 use Rattle.node.specs.declared.Gate.the-variants.{Open}
 use Rattle.node.specs.Node.{Dealing, sightOf, contactsAfter, byAnswer, served, heardAs, heard, dealingOf, Out, done, byEvent, takenOf, gateOf, unless, receiveOf}
 use Rattle.demands.specs.Box.{refused, event, Box, Who, connOf, whoIn, isRefused, isMore, offerIn, bodyIn, offersIn, noted, dealing, happens, stopsAt, receiving, Own, Allowed, Good}
@@ -64,7 +61,9 @@ after-shuts framed.More f m o h g = g
 run-shuts : (bs : List ℕ) (f : Framing) (m : List ℕ) → ShutBy (runOf f m bs .got .answer) (runOf f m bs .got .framing)
 unfolding runOf
 run-shuts [] f m = tt
-run-shuts (b ∷ bs) f m = after-shuts (stepOf f b .answer) (stepOf f b .framing) (storeOf f m b) (runOf (stepOf f b .framing) (storeOf f m b) bs) (step-shuts f b) (run-shuts bs (stepOf f b .framing) (storeOf f m b))
+run-shuts (b ∷ bs) f m =
+    after-shuts (stepOf f b .answer) (stepOf f b .framing) (storeOf f m b) (runOf (stepOf f b .framing) (storeOf f m b) bs) (step-shuts f b)
+    (run-shuts bs (stepOf f b .framing) (storeOf f m b))
 
 module _ (me : Peer) where
   -- ---- a whole message is dealt with by who is at the other end, wherever the framing stands, and never by asking for more
@@ -75,7 +74,9 @@ module _ (me : Peer) where
 
   dealing-any : (w : Who) (f : Framing) (body t k y : List ℕ) → dealingOf me (connOf w f) body t k y ≡ dealingOf me (connOf w fresh) body t k y
   unfolding dealingOf served
-  dealing-any w f body t k y = let d = dealOf me (w .peer) body t k y in ap (λ (x : Dealing). cond (w .asking) (heard body t k y) x) (told-any (d .told) d w f t)
+  dealing-any w f body t k y =
+      let d = dealOf me (w .peer) body t k y in
+      ap (λ (x : Dealing). cond (w .asking) (heard body t k y) x) (told-any (d .told) d w f t)
 
   heard-some : (n : ℕ) (r : Reading) → isMore (heardAs n r) ≡ false
   heard-some n (reading.Whole f) = refl
@@ -89,7 +90,8 @@ module _ (me : Peer) where
   unfolding dealingOf served heard
   dealing-some w a body =
       let d = dealOf me (w .peer) body (a .contacts) (a .records) (a .reply) in
-      cond-ind (λ (x : Dealing). isMore (x .answer) ≡ false) (w .asking) _ _ (λ e. heard-some (length body) (readingOf body)) (λ e. served-some (d .told) d w (a .contacts))
+      cond-ind (λ (x : Dealing). isMore (x .answer) ≡ false) (w .asking) _ _ (λ e. heard-some (length body) (readingOf body))
+      (λ e. served-some (d .told) d w (a .contacts))
 
   -- ---- what a call leaves, by the framing's answer and by what the call gives
   abbrev left : ℕ → Line Who → Box → stream.Answer → Out → Called Who Box
@@ -97,8 +99,8 @@ module _ (me : Peer) where
       record {
         line = record { who = whoIn (o .got .conn); framing = o .got .conn .framing; buffer = o .buffer; taken = l .taken + o .got .taken };
         state =
-          noted i (l .taken + o .got .taken) (o .got .answer) (o .got .sight) (bodyIn e (o .buffer)) (o .contacts) (o .records) (o .reply)
-          (offersIn (l .who) e (o .buffer)) a;
+            noted i (l .taken + o .got .taken) (o .got .answer) (o .got .sight) (bodyIn e (o .buffer)) (o .contacts) (o .records) (o .reply)
+            (offersIn (l .who) e (o .buffer)) a;
         count = o .got .taken;
         more = isMore (o .got .answer);
       }
@@ -114,17 +116,20 @@ module _ (me : Peer) where
         more = false;
       }
 
-  settles : (i : ℕ) (l : Line Who) (a : Box) (v : ℕ) (f : Framing) (n : ℕ) (m : List ℕ) (x : Answer) (s : Sight) (t k y : List ℕ) → isMore x ≡ false → Settles i l a v f n m x s t k y
+  settles : (i : ℕ) (l : Line Who) (a : Box) (v : ℕ) (f : Framing) (n : ℕ) (m : List ℕ) (x : Answer) (s : Sight) (t k y : List ℕ) → isMore x ≡ false
+      → Settles i l a v f n m x s t k y
   settles i l a v f n m (Reply z) s t k y h = refl
   settles i l a v f n m (Heard z g) s t k y h = refl
   settles i l a v f n m (Refused r) s t k y h = refl
   settles i l a v f n m More s t k y h = absurd (true≢false h)
 
   lands : (i : ℕ) (l : Line Who) (a : Box) (w : stream.Answer) (f : Framing) (n : ℕ) (m : List ℕ) → ShutBy w f
-      → left i l a w (byEvent w me (connOf (l .who) f) n m (a .contacts) (a .records) (a .reply)) ≡ world.called (happens me) (stopsAt me) i l a (streams.out f n w m)
+      → left i l a w (byEvent w me (connOf (l .who) f) n m (a .contacts) (a .records) (a .reply))
+      ≡ world.called (happens me) (stopsAt me) i l a (streams.out f n w m)
   lands i l a (framed.Message v) f n m h =
       let d = dealing me (l .who) a (take v m) in
-      ap (λ (x : Dealing). left i l a (framed.Message v) (done (connOf (l .who) f) n m x)) (dealing-any (l .who) f (take v m) (a .contacts) (a .records) (a .reply))
+      ap (λ (x : Dealing). left i l a (framed.Message v) (done (connOf (l .who) f) n m x))
+      (dealing-any (l .who) f (take v m) (a .contacts) (a .records) (a .reply))
       ∙ settles i l a v f n m (d .answer) (d .sight) (d .contacts) (d .records) (d .reply) (dealing-some (l .who) a (take v m))
   lands i l a (framed.Refused r) f n m h =
       λ j. record {
@@ -159,7 +164,8 @@ module _ (me : Peer) where
 
   -- ---- the call
   pub runs-as : (l : Line Who) (bs t k y : List ℕ) (o : streams.Out) → framedOf (l .framing) (l .buffer) bs ≡ o
-      → takenOf me (connOf (l .who) (l .framing)) (l .buffer) bs t k y ≡ byEvent (o .got .answer) me (connOf (l .who) (o .got .framing)) (o .got .taken) (o .buffer) t k y
+      → takenOf me (connOf (l .who) (l .framing)) (l .buffer) bs t k y
+      ≡ byEvent (o .got .answer) me (connOf (l .who) (o .got .framing)) (o .got .taken) (o .buffer) t k y
   unfolding takenOf
   runs-as l bs t k y o e = ap (λ (x : streams.Out). byEvent (x .got .answer) me (connOf (l .who) (x .got .framing)) (x .got .taken) (x .buffer) t k y) e
 

@@ -1,7 +1,7 @@
 -- Which refusals each part gives: none but the tests of form gives 0. Assumes nothing of its own.
 use Prim.Native.Nat.{ℕ, suc, _*_, _+_, _%_, _≤_}
-use mathlib.Core.Path.{_≡_, refl, sym, ap, subst}
-use mathlib.Core.Bool.{Bool, true, false, cond, not, _||_}
+use mathlib.Core.Path.{sym, subst}
+use mathlib.Core.Bool.{not}
 use mathlib.Core.List.{List, [], _∷_}
 use mathlib.Core.Option.{Option, none, some}
 use native.Mathlib.Omega.{arith}
@@ -83,7 +83,8 @@ step-above Shut b = tt
 step-above (Prefix h) b = led-above (prefixStep h b) (prefix-above h b)
 step-above (Body want have) b = cond-ind StepAbove (eqb (suc have) want) _ _ (λ h. tt) (λ h. tt)
 
-after-above : (w : stream.Answer) (f : Framing) (m : List ℕ) (o : streams.Out) → FramedAbove w → FramedAbove (o .got .answer) → FramedAbove (streams.after w f m o .got .answer)
+after-above : (w : stream.Answer) (f : Framing) (m : List ℕ) (o : streams.Out) → FramedAbove w → FramedAbove (o .got .answer)
+    → FramedAbove (streams.after w f m o .got .answer)
 after-above (framed.Message n) f m o h g = h
 after-above (framed.Refused r) f m o h g = h
 after-above framed.More f m o h g = g
@@ -91,7 +92,9 @@ after-above framed.More f m o h g = g
 pub run-above : (bs : List ℕ) (f : Framing) (m : List ℕ) → FramedAbove (runOf f m bs .got .answer)
 unfolding runOf
 run-above [] f m = tt
-run-above (b ∷ bs) f m = after-above (stepOf f b .answer) (stepOf f b .framing) (storeOf f m b) (runOf (stepOf f b .framing) (storeOf f m b) bs) (step-above f b) (run-above bs (stepOf f b .framing) (storeOf f m b))
+run-above (b ∷ bs) f m =
+    after-above (stepOf f b .answer) (stepOf f b .framing) (storeOf f m b) (runOf (stepOf f b .framing) (storeOf f m b) bs) (step-above f b)
+    (run-above bs (stepOf f b .framing) (storeOf f m b))
 
 -- ---- the reader: 4 to 6
 abbrev ReadAbove : Reading → Type 0
@@ -102,7 +105,8 @@ read-above : (body : List ℕ) → ReadAbove (readingOf body)
 unfolding readingOf
 read-above body =
     cond-ind ReadAbove (ltb mostBody (length body)) _ _ (λ e. omega arith)
-    (λ e. cond-ind ReadAbove (not (wellMessage body)) _ _ (λ e. omega arith) (λ e. cond-ind ReadAbove (ltb mostKind (fieldsOf body .kind)) _ _ (λ e. omega arith) (λ e. tt)))
+    (λ e. cond-ind ReadAbove (not (wellMessage body)) _ _ (λ e. omega arith)
+    (λ e. cond-ind ReadAbove (ltb mostKind (fieldsOf body .kind)) _ _ (λ e. omega arith) (λ e. tt)))
 
 -- ---- the store: 8 to 11
 abbrev PlanAbove : Plan → Type 0
@@ -116,7 +120,8 @@ plan-above k key v =
     cond-ind PlanAbove (not (isKey key)) _ _ (λ e. omega arith)
     (λ e. cond-ind PlanAbove (not (isRecipe v)) _ _ (λ e. omega arith)
     (λ e. cond-ind PlanAbove (ltb (slotWith k key) (slotsOf k)) _ _
-    (λ e. cond-ind PlanAbove (same (valueOf (slot k (slotWith k key))) v) _ _ (λ e. tt) (λ e. cond-ind PlanAbove (outranks (valueOf (slot k (slotWith k key))) v) _ _ (λ e. omega arith) (λ e. tt)))
+    (λ e. cond-ind PlanAbove (same (valueOf (slot k (slotWith k key))) v) _ _ (λ e. tt)
+    (λ e. cond-ind PlanAbove (outranks (valueOf (slot k (slotWith k key))) v) _ _ (λ e. omega arith) (λ e. tt)))
     (λ e. cond-ind PlanAbove (ltb (freeSlot k) (slotsOf k)) _ _ (λ e. tt) (λ e. omega arith))))
 
 -- ---- the verdict: 7 to 11
@@ -163,7 +168,8 @@ by-reading-above (reading.Whole f) me who m t k y a = by-verdict-above (verdictO
 
 deal-above : Given → (me who : Peer) (body t k y : List ℕ) → ToldAbove (dealOf me who body t k y .told)
 deal-above G me who body t k y =
-    subst (λ (d : Dealt). ToldAbove (d .told)) (sym (G .deal-is me who body t k y)) (by-reading-above (readingOf body) me who (messageOf body) t k y (read-above body))
+    subst (λ (d : Dealt). ToldAbove (d .told)) (sym (G .deal-is me who body t k y))
+    (by-reading-above (readingOf body) me who (messageOf body) t k y (read-above body))
 
 -- ---- an event on a connection: 3 to 11
 abbrev pub AnswerAbove : Answer → Type 0
@@ -187,7 +193,8 @@ dealing-above G me c body t k y =
     cond-ind (λ (x : Dealing). AnswerAbove (x .answer)) (c .asking) _ _ (λ e. heard-above (length body) (readingOf body) (read-above body))
     (λ e. served-above (d .told) d me c t (deal-above G me (c .peer) body t k y))
 
-pub event-above : Given → (me : Peer) (w : stream.Answer) (c : Conn) (n : ℕ) (m t k y : List ℕ) → FramedAbove w → AnswerAbove (byEvent w me c n m t k y .got .answer)
+pub event-above : Given → (me : Peer) (w : stream.Answer) (c : Conn) (n : ℕ) (m t k y : List ℕ) → FramedAbove w
+    → AnswerAbove (byEvent w me c n m t k y .got .answer)
 event-above G me (framed.Message l) c n m t k y a = dealing-above G me c (take l m) t k y
 event-above G me (framed.Refused r) c n m t k y a = a
 event-above G me framed.More c n m t k y a = tt

@@ -1,22 +1,15 @@
 -- The box is a layer as `cutting` asks for: its `receive` is the plain reading's, and peers and memory stay such that 0 and 1 refuse nothing.
-use Prim.Native.Nat.{ℕ, _≤_}
+use Prim.Native.Nat.{ℕ}
 use mathlib.Core.Path.{_≡_, refl, sym, ap, _∙_}
 use mathlib.Core.Bool.{Bool, true, false, not, _||_, true≢false}
-use mathlib.Core.List.{List, []}
-use lib.ListN.{length}
-use borrow.Author.Tests.{not-true, not-false}
-use Rattle.octets.proofs.Bools.{cond-ind, cond-yes, or-r, to-false, not-both}
-use Rattle.place.specs.Place.{placeOf}
+use mathlib.Core.List.{List}
+use Rattle.octets.proofs.Bools.{cond-ind, or-r, to-false, not-both}
 use Rattle.peer.specs.declared.Peer.{Peer}
-use Rattle.peer.specs.Peers.{badPeer, peerOf}
+use Rattle.peer.specs.Peers.{badPeer}
 use Rattle.contact_calls.proofs.Theorems.{fair}
-use Rattle.message.specs.Limits.{mostBody}
 use Rattle.records_history.specs.History.{Offer}
-use Rattle.stream.specs.declared.Framing.{Framing}
-use Rattle.stream.specs.declared.Framing.the-variants.{Shut}
 use Rattle.stream.specs.Stream.{isShut, inForm}
 use Rattle.cutting.specs.World.{Line, Fine, Sound}
-use Rattle.cutting.specs.Plain.{Wire, standing, Blunt}
 use Rattle.cutting.proofs.Kept.{end-shuts, end-form}
 use Rattle.node.specs.declared.Conn.{Conn}
 use Rattle.node.specs.declared.Opened.{Opened}
@@ -25,7 +18,6 @@ use Rattle.node.specs.Box.{ownFits, openOf, connForm, endConn}
 use Rattle.demands.specs.Box as box
 use Rattle.demands.specs.Box.{Box, Who, connOf, whoIn, Turn, Fits, turning, Own, Allowed, Good}
 use Rattle.demands.proofs.Given.{Given}
-use Rattle.demands.proofs.Connections.{conn-form}
 use Rattle.demands.proofs.Receives.{receives}
 use Rattle.demands.proofs.Kept.{Lasting, Held, happens-held, turning-held, asking-held}
 

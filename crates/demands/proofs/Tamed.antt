@@ -1,16 +1,13 @@
--- What the plain reading asks of acts holds of the box only on connections whose peer may be: an end refuses 0 on others and leaves them open. So it is proved of
--- the tamed box, whose ends shut those too; and where a peer that may be stands at every open connection, the two are the same.
-use Prim.Native.Nat.{ℕ, zero, suc, _≤_}
+-- What the plain reading asks of acts holds of the box only on connections whose peer may be: an end refuses 0 on others and leaves them open.
+-- So it is proved of the tamed box, whose ends shut those too; and where a peer that may be stands at every open connection, the two are the same.
+use Prim.Native.Nat.{ℕ}
 use mathlib.Core.Path.{_≡_, refl, sym, ap, _∙_, subst}
-use mathlib.Core.Bool.{Bool, true, false, cond, not, _&&_, _||_, true≢false, false≢true}
-use mathlib.Core.List.{List, [], _∷_}
-use lib.ListN.{length, drop}
-use lib.Dec.{eqb}
+use mathlib.Core.Bool.{Bool, true, false, cond, not, _&&_, _||_, true≢false}
+use mathlib.Core.List.{List, []}
 use Rattle.octets.specs.Octets.{same}
 use Rattle.octets.proofs.Bools.{and-i, and-l, and-r, cond-ind, cond-yes}
 use Rattle.peer.specs.declared.Peer.{Peer}
 use Rattle.peer.specs.Peers.{badPeer}
-use Rattle.message.specs.Limits.{mostBody}
 use Rattle.stream.specs.declared.Framing.{Framing}
 use Rattle.stream.specs.declared.Framing.the-variants.{Shut, Prefix, Body}
 use Rattle.stream.specs.Stream.{isShut, inForm, endOf, fresh}
@@ -21,7 +18,7 @@ use Rattle.node.specs.declared.Opened.{Opened}
 use Rattle.node.specs.declared.Ended.{Ended}
 use Rattle.node.specs.Box.{ownFits, openOf, peerForm, connForm, endConn}
 use Rattle.demands.specs.Box as box
-use Rattle.demands.specs.Box.{Box, Who, connOf, whoIn, Turn, Ask, Fits, happens, stopsAt, receiving, turning, asking, Own, Allowed, Good}
+use Rattle.demands.specs.Box.{Box, Who, connOf, Turn, Ask, Fits, happens, stopsAt, receiving, turning, asking, Own, Allowed, Good}
 use Rattle.demands.proofs.Given.{Given}
 use Rattle.demands.proofs.Connections.{in-form, peer-form, other-place}
 use Rattle.demands.proofs.Sound.{sound}
@@ -47,7 +44,8 @@ module _ (me : Peer) where
   Known l = isShut (l .framing) ≡ false → Allowed me (l .who)
 
   ends-agree : (f : Framing) (w : Who) (m : List ℕ) (n i : ℕ) (a : Box) → (isShut f ≡ false → Allowed me w)
-      → tamed i box.ends (record { who = w; framing = f; buffer = m; taken = n }) a ≡ turning me i box.ends (record { who = w; framing = f; buffer = m; taken = n }) a
+      → tamed i box.ends (record { who = w; framing = f; buffer = m; taken = n }) a
+      ≡ turning me i box.ends (record { who = w; framing = f; buffer = m; taken = n }) a
   unfolding endConn connForm endOf
   ends-agree Shut w m n i a k =
       let l : Line Who = record { who = w; framing = Shut; buffer = m; taken = n } in
@@ -72,7 +70,8 @@ module _ (me : Peer) where
       }
 
   -- ---- opening and ending don't look at the receive buffer, and leave a connection shut or at the start of a message
-  either-way : {X : Type 0} (b : Bool) (d e d′ e′ : Did (Line Who) Box) (f : Did (Line Who) Box → X) → f d ≡ f d′ → f e ≡ f e′ → f (cond b d e) ≡ f (cond b d′ e′)
+  either-way : {X : Type 0} (b : Bool) (d e d′ e′ : Did (Line Who) Box) (f : Did (Line Who) Box → X) → f d ≡ f d′ → f e ≡ f e′
+      → f (cond b d e) ≡ f (cond b d′ e′)
   either-way true d e d′ e′ f p q = p
   either-way false d e d′ e′ f p q = q
 
@@ -114,7 +113,8 @@ module _ (me : Peer) where
   turn-anew : (i : ℕ) (b : Turn) (l : Line Who) (a : Box) → inForm (l .framing) ≡ true → Anew (tamed i b l a .line .framing)
   turn-anew i (box.opens id server side addresses m) l a f = open-anew id server side addresses
   turn-anew i box.ends l a f =
-      cond-ind (λ (d : Did (Line Who) Box). Anew (d .line .framing)) (allowed (l .who)) _ _ (λ y. shut-anew _ (allowed-shuts l a i f y)) (λ y. shut-anew Shut refl)
+      cond-ind (λ (d : Did (Line Who) Box). Anew (d .line .framing)) (allowed (l .who)) _ _
+      (λ y. shut-anew _ (allowed-shuts l a i f y)) (λ y. shut-anew Shut refl)
 
   pub tame-blunt : Blunt tame Fits
   tame-blunt =

@@ -1,6 +1,6 @@
 -- The three demands, proved of every box that a start gave.
 use Prim.Native.Nat.{ℕ}
-use mathlib.Core.Path.{_≡_, refl, sym, ap, _∙_, subst}
+use mathlib.Core.Path.{_≡_, sym, ap, _∙_, subst}
 use mathlib.Core.Bool.{false}
 use mathlib.Core.List.{List, []}
 use Rattle.place.specs.Place.{placeOf}
@@ -8,7 +8,7 @@ use Rattle.place.proofs.Places.{length-placeOf}
 use Rattle.peer.specs.declared.Peer.{Peer}
 use Rattle.contacts.proofs.TwentyNearest.{nearest-are}
 use Rattle.recipe.specs.Recipe.{outranks}
-use Rattle.records_history.specs.History.{Has, got, after, Accepted, Unbeaten}
+use Rattle.records_history.specs.History.{Has, got, after}
 use Rattle.records_history.proofs.Stays.{highest, holds-on}
 use Rattle.message.proofs.Views.{read-whole, read-malformed, malformed-read}
 use Rattle.message.proofs.RoundTrip.{round-trip}
@@ -40,7 +40,8 @@ module _ (G : Given) where
       }
 
   -- the store after any calls is what their offers made of it
-  made : (me : Peer) → Own me → (s : World Who Box Ask) → Ready (Allowed me) (Good me) s → s .shared .state .offers ≡ [] → (cs : List (Call Turn Ask)) → AllFit Fits cs
+  made : (me : Peer) → Own me → (s : World Who Box Ask) → Ready (Allowed me) (Good me) s → s .shared .state .offers ≡ [] → (cs : List (Call Turn Ask))
+      → AllFit Fits cs
       → calls (box me) s cs .shared .state .records ≡ after (s .shared .state .records) (calls (box me) s cs .shared .state .offers)
   unfolding after
   made me w s r e cs f =

@@ -34,7 +34,7 @@ use Rattle.stream.specs.declared.Answer as stream
 use Rattle.stream.specs.declared.Answer.the-variants as framed
 use Rattle.stream.specs.Stream.{fresh, receiveOf as framedOf}
 use Rattle.cutting.specs.Frames.{Event, message, refused as broken}
-use Rattle.cutting.specs.World.{Did, Line, World, Called, Layer, setAt}
+use Rattle.cutting.specs.World.{Did, Line, Called, Layer, setAt}
 use Rattle.answer.specs.Replies.{putValue}
 use Rattle.node.specs.declared.Conn.{Conn}
 use Rattle.node.specs.declared.Told.{Told}
@@ -43,7 +43,7 @@ use Rattle.node.specs.declared.Sight.{Sight}
 use Rattle.node.specs.declared.Answer.{Answer}
 use Rattle.node.specs.declared.Answer.the-variants.{Reply, Heard, Refused, More}
 use Rattle.node.specs.Box.{ownFits, openOf, endConn}
-use Rattle.node.specs.Node.{Dealing, dealingOf, Out, receiveOf}
+use Rattle.node.specs.Node.{Dealing, dealingOf, receiveOf}
 use Rattle.node.specs.Hosts.{seenOf, seenAfter, settleOf, settleAfter, removeOf, removeAfter, nearestTo, lookupStart, lookupReply, lookupFailure}
 
 -- ---- what there is to see
@@ -242,8 +242,8 @@ module _ (me : Peer) where
       record {
         line = record { who = whoIn (o .got .conn); framing = o .got .conn .framing; buffer = o .buffer; taken = l .taken + o .got .taken };
         state =
-          noted i (l .taken + o .got .taken) (o .got .answer) (o .got .sight) (bodyIn e (o .buffer)) (o .contacts) (o .records) (o .reply)
-          (offersIn (l .who) e (o .buffer)) a;
+            noted i (l .taken + o .got .taken) (o .got .answer) (o .got .sight) (bodyIn e (o .buffer)) (o .contacts) (o .records) (o .reply)
+            (offersIn (l .who) e (o .buffer)) a;
         count = o .got .taken;
         more = isMore (o .got .answer);
       }

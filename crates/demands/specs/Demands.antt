@@ -4,7 +4,7 @@ use Prim.Native.Nat.{ℕ, _≤_}
 use mathlib.Core.Path.{_≡_}
 use mathlib.Core.Logic.{_⊎_}
 use mathlib.Core.Bool.{Bool, true, false}
-use mathlib.Core.List.{List, [], _++_}
+use mathlib.Core.List.{List, []}
 use mathlib.Core.Option.{none, some}
 use lib.ListN.{length, take, drop}
 use Rattle.refusal.specs.declared.Refusal.{Refusal}
@@ -31,7 +31,6 @@ use Rattle.writer.specs.declared.Written.the-variants as writer
 use Rattle.writer.specs.Writer.{answerOf, outAfter}
 use Rattle.lookup.specs.declared.Lookup.{Lookup}
 use Rattle.lookup.specs.declared.Answer.the-variants as lookupAnswer
-use Rattle.lookup.specs.Lookup.{noLookup}
 use Rattle.lookup_runs.specs.Runs.{Started, Call as Step, step}
 use Rattle.lookup_runs.specs.Claims.{Claims}
 use Rattle.stream.specs.declared.Framing.the-variants.{Shut}
@@ -40,10 +39,9 @@ use Rattle.stream.specs.Stream.{fresh, isShut}
 use Rattle.cutting.specs.World.{Line, World, Call, given, calls, Fine, Ready, AllFit}
 use Rattle.cutting.specs.Plain.{ReadOut, plainly, unread}
 use Rattle.answer.specs.declared.Answered.the-variants as told
-use Rattle.answer.specs.Answers.{Verdict, replies, verdictOf, dealOf}
+use Rattle.answer.specs.Answers.{replies, verdictOf, dealOf}
 use Rattle.node.specs.declared.Conn.{Conn}
 use Rattle.node.specs.declared.Answer.the-variants.{Refused}
-use Rattle.node.specs.declared.Told as node
 use Rattle.node.specs.declared.Told.the-variants as nodeTold
 use Rattle.node.specs.Box.{withFraming, endConn}
 use Rattle.node.specs.Node.{Out, receiveOf}
