@@ -10,4 +10,5 @@ pub mod Plainly
 pub mod Refusals
 pub mod Leaving
 pub mod Never
+pub mod Beginning
 pub mod Theorems

@@ -20,7 +20,7 @@ use Rattle.recipe.specs.Recipe.{outranks}
 use Rattle.records.specs.declared.Answer.the-variants as putTold
 use Rattle.records.specs.declared.Found.the-variants as findTold
 use Rattle.records.specs.Store.{putAnswer, putAfter, findOf}
-use Rattle.records_history.specs.History.{Has, got, after, Accepted, Unbeaten}
+use Rattle.records_history.specs.History.{Has, got, after, cleared, Accepted, Unbeaten}
 use Rattle.message.specs.Limits.{mostBody, leastReply}
 use Rattle.message.specs.Message.{Message, messageOf, decode, encode, frame}
 use Rattle.message.specs.Writable.{writable}
@@ -43,7 +43,7 @@ use Rattle.answer.specs.Answers.{replies, verdictOf, dealOf}
 use Rattle.node.specs.declared.Conn.{Conn}
 use Rattle.node.specs.declared.Answer.the-variants.{Refused}
 use Rattle.node.specs.declared.Told.the-variants as nodeTold
-use Rattle.node.specs.Box.{withFraming, endConn}
+use Rattle.node.specs.Box.{startOf, withFraming, endConn}
 use Rattle.node.specs.Node.{Out, receiveOf}
 use Rattle.node.specs.Hosts.{seenOf, seenAfter, settleOf, settleAfter, removeOf, removeAfter, nearestTo, lookupStart}
 use Rattle.demands.specs.Box.{Box, Who, connOf, Turn, Fits, Ask, box, Own, Allowed, Good}
@@ -137,3 +137,18 @@ pub record Third (me : Peer) : Type 0 where
 -- ==== all three, of every box that a start gave
 abbrev pub Demands : Type 0
 Demands = (me : Peer) → Own me → First me × Second me × Third me
+
+-- ==== and there are such boxes and such worlds: a start that isn't refused gives one, and so does "memory once cleared"
+-- as a host begins: memory cleared, every connection shut, buffers that 1 doesn't refuse
+pub record Begun (s : World Who Box Ask) : Type 0 where
+  pub contactBytes : ℕ
+  pub recordBytes : ℕ
+  pub contacts : s .shared .state .contacts ≡ cleared contactBytes
+  pub records : s .shared .state .records ≡ cleared recordBytes
+  pub reply : leastReply ≤ length (s .shared .state .reply)
+  pub shut : (i : ℕ) → s .lines i .framing ≡ Shut
+  pub buffers : (i : ℕ) → mostBody ≤ length (s .lines i .buffer)
+
+pub record Beginnings : Type 0 where
+  pub own : (id addresses : List ℕ) → startOf id addresses .told ≡ nodeTold.Fine → Own (startOf id addresses .me)
+  pub ready : (me : Peer) (s : World Who Box Ask) → Begun s → Ready (Allowed me) (Good me) s
