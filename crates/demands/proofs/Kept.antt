@@ -1,0 +1,157 @@
+-- What messages, openings, ends and host calls keep: memory in form, the reply buffer's room, and that the store is what the offers made of it.
+use Prim.Native.Nat.{ℕ, _≤_}
+use mathlib.Core.Path.{_≡_, refl, sym, ap, _∙_, subst}
+use mathlib.Core.Bool.{Bool, true, false, cond}
+use mathlib.Core.List.{List, [], _∷_, _++_}
+use native.Mathlib.Omega.{arith}
+use lib.ListN.{length}
+use Rattle.octets.proofs.Bools.{cond-ind}
+use Rattle.peer.specs.declared.Peer.{Peer}
+use Rattle.contacts.specs.Form.{inForm as contactsForm}
+use Rattle.records.specs.Store.{inForm as recordsForm}
+use Rattle.records_history.specs.History.{Offer, offered, after}
+use Rattle.records_history.proofs.Stays.{form-kept, put-form}
+use Rattle.sightings_kept.specs.Promises.{Fair}
+use Rattle.sightings_kept.proofs.Forms.{seen-keeps}
+use Rattle.contact_calls.specs.Calls.{seenCallTable, settleCallTable, removeCallTable}
+use Rattle.contact_calls.proofs.Theorems.{seen-call-keeps, settle-call-keeps, remove-call-keeps}
+use Rattle.message.specs.Limits.{leastReply}
+use Rattle.message.specs.Message.{messageOf}
+use Rattle.message.specs.View.{readingOf}
+use Rattle.stream.specs.Stream.{fresh}
+use Rattle.cutting.specs.Frames.{Event, message, refused as broken}
+use Rattle.cutting.specs.World.{Line}
+use Rattle.answer.specs.declared.Answered.{Answered}
+use Rattle.answer.specs.declared.Answered.the-variants as told
+use Rattle.answer.specs.Answers.{Dealt, dealOf}
+use Rattle.node.specs.declared.Conn.{Conn}
+use Rattle.node.specs.declared.Sight.{Sight}
+use Rattle.node.specs.declared.Answer.{Answer}
+use Rattle.node.specs.declared.Answer.the-variants.{Reply, Heard, Refused, More}
+use Rattle.node.specs.Box.{ownFits}
+use Rattle.node.specs.Node.{Dealing, contactsAfter, byAnswer, served, heard, dealingOf}
+use Rattle.node.specs.Hosts.{seenAfter, settleAfter, removeAfter}
+use Rattle.demands.specs.Box as box
+use Rattle.demands.specs.Box.{Box, Who, connOf, offerBy, offerIn, noted, Turn, Ask, dealing, happens, turning, asking, Own, Allowed, Good}
+use Rattle.demands.proofs.Given.{Given}
+use Rattle.demands.proofs.Deal.{Leaves, deal-leaves}
+
+after-more : (k : List ℕ) (os ps : List Offer) → after k (os ++ ps) ≡ after (after k os) ps
+unfolding after
+after-more k [] ps = refl
+after-more k (o ∷ os) ps = after-more (offered k o) os ps
+
+-- a fact of a store and of the offers so far, which more offers keep
+pub record Lasting (Q : List ℕ → List Offer → Type 0) : Type 0 where
+  pub on : (k : List ℕ) (os ps : List Offer) → Q k os → Q (after k ps) (os ++ ps)
+
+-- the store is what the offers made of the store k
+abbrev pub MadeFrom : List ℕ → List ℕ → List Offer → Type 0
+MadeFrom k now os = now ≡ after k os
+
+pub made-lasting : (k : List ℕ) → Lasting (MadeFrom k)
+made-lasting k = record { on = λ now os ps e. ap (λ (x : List ℕ). after x ps) e ∙ sym (after-more k os ps) }
+
+-- memory in form and room for a reply, and such a fact
+pub record Held (me : Peer) (Q : List ℕ → List Offer → Type 0) (a : Box) : Type 0 where
+  pub good : Good me a
+  pub offers : Q (a .records) (a .offers)
+
+module _ (me : Peer) (Q : List ℕ → List Offer → Type 0) (L : Lasting Q) where
+  -- ---- a message
+  -- what it leaves, with the contacts t, records k and reply buffer y before
+  record Keeps (k y : List ℕ) (os : List Offer) (d : Dealing) : Type 0 where
+    contacts : contactsForm (d .contacts) (me .place) ≡ true
+    records : d .records ≡ after k os
+    room : length (d .reply) ≡ length y
+
+  seen-after : (c : Conn) (t : List ℕ) → Fair (me .place) (c .peer) → contactsForm t (me .place) ≡ true → contactsForm (contactsAfter me c t) (me .place) ≡ true
+  unfolding contactsAfter
+  seen-after c t p h = cond-ind (λ (x : List ℕ). contactsForm x (me .place) ≡ true) (c .server) _ _ (λ e. seen-keeps t (me .place) (c .peer) p h) (λ e. h)
+
+  answer-keeps : (x : Answered) (d : Dealt) (c : Conn) (t k y : List ℕ) (os : List Offer) → Fair (me .place) (c .peer) → contactsForm t (me .place) ≡ true
+      → recordsForm k ≡ true → Leaves k y os d
+      → Keeps k y os (byAnswer x d me c t)
+  answer-keeps (told.Refused r) d c t k y os p h g l = record { contacts = h; records = l .offers g; room = l .room }
+  answer-keeps (told.Reply n) d c t k y os p h g l = record { contacts = seen-after c t p h; records = l .offers g; room = l .room }
+
+  dealing-keeps : Given → (w : Who) (a : Box) (body : List ℕ) → Allowed me w → Good me a → Keeps (a .records) (a .reply) (offerIn w body) (dealing me w a body)
+  unfolding dealingOf served heard after
+  dealing-keeps G w a body p g = go (w .asking)
+    where
+      d : Dealt
+      d = dealOf me (w .peer) body (a .contacts) (a .records) (a .reply)
+
+      os : List Offer
+      os = offerBy (readingOf body) (messageOf body) (messageOf body .held)
+
+      go : (b : Bool)
+          → Keeps (a .records) (a .reply) (cond b [] os)
+          (cond b (heard body (a .contacts) (a .records) (a .reply)) (byAnswer (d .told) d me (connOf w fresh) (a .contacts)))
+      go true = record { contacts = g .contacts; records = refl; room = refl }
+      go false =
+          answer-keeps (d .told) d (connOf w fresh) (a .contacts) (a .records) (a .reply) os p (g .contacts) (g .records)
+          (deal-leaves G me (w .peer) body (a .contacts) (a .records) (a .reply))
+
+  -- a line of the log more
+  logs : (a : Box) (e : box.Entry) → Held me Q a → Held me Q (box.logged a e)
+  logs a e h = record { good = record { contacts = h .good .contacts; records = h .good .records; room = h .good .room }; offers = h .offers }
+
+  noted-held : (i at : ℕ) (x : Answer) (s : Sight) (body t k y : List ℕ) (os : List Offer) (a : Box) → contactsForm t (me .place) ≡ true → recordsForm k ≡ true
+      → leastReply ≤ length y → Q k (a .offers ++ os) → Held me Q (noted i at x s body t k y os a)
+  noted-held i at (Reply n) s body t k y os a c r l e = record { good = record { contacts = c; records = r; room = l }; offers = e }
+  noted-held i at (Heard n f) s body t k y os a c r l e = record { good = record { contacts = c; records = r; room = l }; offers = e }
+  noted-held i at (Refused q) s body t k y os a c r l e = record { good = record { contacts = c; records = r; room = l }; offers = e }
+  noted-held i at More s body t k y os a c r l e = record { good = record { contacts = c; records = r; room = l }; offers = e }
+
+  pub happens-held : Given → (i : ℕ) (w : Who) (a : Box) (e : Event) → Allowed me w → Held me Q a → Held me Q (happens me i w a e)
+  happens-held G i w a (message at body) p h =
+      let d = dealing me w a body in
+      let q = dealing-keeps G w a body p (h .good) in
+      noted-held i at (d .answer) (d .sight) body (d .contacts) (d .records) (d .reply) (offerIn w body) a (q .contacts)
+      (ap recordsForm (q .records) ∙ form-kept (a .records) (offerIn w body) (h .good .records))
+      (let m : leastReply ≤ length (a .reply) = h .good .room in omega (arith, q .room, m))
+      (subst (λ (x : List ℕ). Q x (a .offers ++ offerIn w body)) (sym (q .records)) (L .on (a .records) (a .offers) (offerIn w body) (h .offers)))
+  happens-held G i w a (broken at r) p h = logs a _ h
+
+  -- ---- opening, ending
+  pub turning-held : (i : ℕ) (b : Turn) (l : Line Who) (a : Box) → Held me Q a → Held me Q (turning me i b l a .shared)
+  turning-held i (box.opens id server side addresses m) l a h = logs a _ h
+  turning-held i box.ends l a h = logs a _ h
+
+  -- ---- the host's other calls
+  with-contacts : (a : Box) (t : List ℕ) (e : box.Entry) → contactsForm t (me .place) ≡ true → Held me Q a → Held me Q (box.logged (box.withContacts a t) e)
+  with-contacts a t e c h = record { good = record { contacts = c; records = h .good .records; room = h .good .room }; offers = h .offers }
+
+  unless-ours : (b : Bool) (t u : List ℕ) → contactsForm t (me .place) ≡ true → contactsForm u (me .place) ≡ true → contactsForm (cond b u t) (me .place) ≡ true
+  unless-ours b t u h g = cond-ind (λ (x : List ℕ). contactsForm x (me .place) ≡ true) b u t (λ e. g) (λ e. h)
+
+  same-memory : (a : Box) (j : ℕ) (s : _) → Held me Q a → Held me Q (box.stepping me j s a)
+  same-memory a j s h = record { good = record { contacts = h .good .contacts; records = h .good .records; room = h .good .room }; offers = h .offers }
+
+  pub asking-held : Own me → (a : Box) (o : Ask) → Held me Q a → Held me Q (asking me a o)
+  unfolding seenAfter settleAfter removeAfter after offered
+  asking-held w a (box.put key value) h =
+      record {
+        good = record { contacts = h .good .contacts; records = put-form (a .records) key value (h .good .records); room = h .good .room };
+        offers = L .on (a .records) (a .offers) (record { key = key; value = value } ∷ []) (h .offers);
+      }
+  asking-held w a (box.find key) h = logs a _ h
+  asking-held w a (box.seen id client addresses) h =
+      with-contacts a _ _
+      (unless-ours (ownFits me) (a .contacts) (seenCallTable (a .contacts) (me .place) id client addresses) (h .good .contacts)
+      (seen-call-keeps (a .contacts) (me .place) (w .long) (w .bytes) (h .good .contacts) id client addresses)) h
+  asking-held w a (box.settle head id client addresses answered) h =
+      with-contacts a _ _
+      (unless-ours (ownFits me) (a .contacts) (settleCallTable (a .contacts) (me .place) head id client addresses answered) (h .good .contacts)
+      (settle-call-keeps (a .contacts) (me .place) (w .long) (w .bytes) (h .good .contacts) head id client addresses answered)) h
+  asking-held w a (box.remove id) h =
+      with-contacts a _ _
+      (unless-ours (ownFits me) (a .contacts) (removeCallTable (a .contacts) (me .place) id) (h .good .contacts)
+      (remove-call-keeps (a .contacts) (me .place) (w .long) (w .bytes) (h .good .contacts) id)) h
+  asking-held w a (box.nearest key) h = logs a _ h
+  asking-held w a (box.start j key limit) h = same-memory a j _ h
+  asking-held w a (box.next j) h = same-memory a j _ h
+  asking-held w a (box.reply j id body view) h = same-memory a j _ h
+  asking-held w a (box.replyFrom i j id) h = same-memory a j _ h
+  asking-held w a (box.failure j id) h = same-memory a j _ h

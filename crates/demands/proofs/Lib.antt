@@ -1,0 +1,14 @@
+pub mod Given
+pub mod Deal
+pub mod Connections
+pub mod Receives
+pub mod Kept
+pub mod Sound
+pub mod Ready
+pub mod Tamed
+pub mod Plainly
+pub mod Refusals
+pub mod Leaving
+pub mod Never
+pub mod Beginning
+pub mod Theorems

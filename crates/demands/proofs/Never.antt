@@ -1,0 +1,237 @@
+-- Memory in form stays so, and then no call gives 0.
+use Prim.Native.Nat.{ℕ, _≤_}
+use mathlib.Core.Path.{_≡_, sym, _∙_, subst}
+use mathlib.Core.Logic.{⊎-elim}
+use mathlib.Core.Bool.{Bool, true, false, cond, not}
+use mathlib.Core.List.{List}
+use native.Mathlib.Omega.{arith}
+use lib.Dec.{ltb}
+use borrow.Author.Tests.{not-true}
+use Rattle.octets.proofs.Bools.{either, not-both, cond-ind, cond-yes}
+use Rattle.refusal.specs.declared.Refusal.the-variants.{OutOfForm}
+use Rattle.place.specs.Place.{placeOf}
+use Rattle.peer.specs.declared.Peer.{Peer}
+use Rattle.peer.specs.Peers.{badPeer}
+use Rattle.contacts.specs.Form.{inForm as contactsForm}
+use Rattle.sightings.specs.declared.Sighting.{Sighting}
+use Rattle.sightings.specs.declared.Sighting.the-variants as sighting
+use Rattle.sightings.specs.Sightings.{held, sightingOf, fits}
+use Rattle.contact_calls.specs.declared.SeenOutcome.{SeenOutcome}
+use Rattle.contact_calls.specs.declared.SeenOutcome.the-variants as seenAnswer
+use Rattle.contact_calls.specs.declared.SettleOutcome.{SettleOutcome}
+use Rattle.contact_calls.specs.declared.SettleOutcome.the-variants as settleAnswer
+use Rattle.contact_calls.specs.declared.RemoveOutcome.{RemoveOutcome}
+use Rattle.contact_calls.specs.declared.RemoveOutcome.the-variants as removeAnswer
+use Rattle.contact_calls.specs.Calls.{outcomeOf, seenCall, settleCall, removeCall}
+use Rattle.records.specs.declared.Found.{Found}
+use Rattle.records.specs.declared.Found.the-variants as findTold
+use Rattle.records.specs.Store.{inForm as recordsForm, slotsOf, slotWith, heldAt, found, findOf}
+use Rattle.records_history.proofs.Stays.{never-0}
+use Rattle.lookup.specs.declared.Answer.{Answer as LookupAnswer}
+use Rattle.lookup.specs.declared.Answer.the-variants as lookupAnswer
+use Rattle.lookup.specs.declared.Step.{Step}
+use Rattle.lookup.specs.declared.Lookup.{Lookup}
+use Rattle.lookup.specs.Lookup.{keyFits as lookupKeyFits, limitFits, idFits, marksOf, settled, begun, startOf}
+use Rattle.lookup_marks.specs.Marks.{isOver}
+use Rattle.stream.specs.declared.Framing.{Framing}
+use Rattle.stream.specs.declared.Framing.the-variants.{Shut, Prefix, Body}
+use Rattle.stream.specs.declared.Held.the-variants.{Nothing, One, Two}
+use Rattle.stream.specs.declared.Ending.{Ending}
+use Rattle.stream.specs.declared.Ending.the-variants as ends
+use Rattle.stream.specs.declared.Ended as streamEnd
+use Rattle.stream.specs.Stream as streams
+use Rattle.stream.specs.Stream.{isShut, inForm, runOf, endIn, endOf}
+use Rattle.stream.proofs.Steps.{call-runs}
+use Rattle.cutting.specs.World.{Line, Fine}
+use Rattle.answer.specs.Answers.{keyFits}
+use Rattle.node.specs.declared.Answer.the-variants.{Refused}
+use Rattle.node.specs.declared.Ended.{Ended}
+use Rattle.node.specs.declared.Gate.{Gate}
+use Rattle.node.specs.declared.Nearby.{Nearby}
+use Rattle.node.specs.declared.Told.{Told}
+use Rattle.node.specs.declared.Told.the-variants as nodeTold
+use Rattle.node.specs.Box.{ownFits, endConn}
+use Rattle.node.specs.Node.{Out, takenOf, unless, receiveOf}
+use Rattle.node.specs.Hosts.{seenOf, settleOf, removeOf, nearestTo, ownId, lookupStart}
+use Rattle.demands.specs.Box as box
+use Rattle.demands.specs.Box.{Box, Who, connOf, Own, Allowed, Good}
+use Rattle.demands.specs.Demands.{NeverOutOfForm}
+use Rattle.demands.proofs.Given.{Given}
+use Rattle.demands.proofs.Connections.{conn-form, gate-shut, gate-open}
+use Rattle.demands.proofs.Receives.{let-through, runs-as}
+use Rattle.demands.proofs.Refusals.{Above, AnswerAbove, run-above, event-above}
+use Rattle.demands.proofs.Sound.{sound}
+use Rattle.demands.proofs.Ready.{calls-ready}
+
+-- a test of form that passes
+passes : {X : Type 0} (b : Bool) → b ≡ true → not b ≡ true → X
+passes b h e = absurd (not-both b h (not-true b e))
+
+-- ---- receiving
+module _ (G : Given) (me : Peer) where
+  shut-answer : (l : Line Who) (a : Box) (bs : List ℕ) → Fine (Allowed me) l → Good me a → isShut (l .framing) ≡ true
+      → AnswerAbove (receiveOf me (connOf (l .who) (l .framing)) (l .buffer) bs (a .contacts) (a .records) (a .reply) .got .answer)
+  unfolding receiveOf
+  shut-answer l a bs f g e =
+      subst (λ (x : Gate). AnswerAbove (unless x (connOf (l .who) (l .framing)) (l .buffer) (a .contacts) (a .records) (a .reply)
+      (takenOf me (connOf (l .who) (l .framing)) (l .buffer) bs (a .contacts) (a .records) (a .reply)) .got .answer))
+      (sym (gate-shut me l a f e g)) (omega arith)
+
+  open-answer : Own me → (l : Line Who) (a : Box) (bs : List ℕ) → Fine (Allowed me) l → Good me a → isShut (l .framing) ≡ false
+      → AnswerAbove (receiveOf me (connOf (l .who) (l .framing)) (l .buffer) bs (a .contacts) (a .records) (a .reply) .got .answer)
+  open-answer w l a bs f g e =
+      let o : streams.Out = runOf (l .framing) (l .buffer) bs in
+      subst (λ (x : Out). AnswerAbove (x .got .answer))
+      (sym (let-through me l bs (a .contacts) (a .records) (a .reply) (gate-open me w l a f e g)
+      ∙ runs-as me l bs (a .contacts) (a .records) (a .reply) o (call-runs (l .framing) (l .buffer) bs (f .form) (f .room) e)))
+      (event-above G me (o .got .answer) (connOf (l .who) (o .got .framing)) (o .got .taken) (o .buffer) (a .contacts) (a .records) (a .reply)
+      (run-above bs (l .framing) (l .buffer)))
+
+  receive-never : Own me → (l : Line Who) (a : Box) (bs : List ℕ) → Fine (Allowed me) l → Good me a
+      → receiveOf me (connOf (l .who) (l .framing)) (l .buffer) bs (a .contacts) (a .records) (a .reply) .got .answer ≡ Refused OutOfForm → ⊥
+  receive-never w l a bs f g e =
+      let h : 1 ≤ 0 = subst AnswerAbove e (⊎-elim (shut-answer l a bs f g) (open-answer w l a bs f g) (either (isShut (l .framing)))) in omega arith
+
+-- ---- ending
+abbrev EndAbove : Ending → Type 0
+EndAbove ends.Clean = Unit {0}
+EndAbove (ends.Refused r) = Above r
+
+end-in : (f : Framing) → EndAbove (endIn f .answer)
+end-in Shut = omega arith
+end-in (Prefix Nothing) = tt
+end-in (Prefix (One a)) = omega arith
+end-in (Prefix (Two a b)) = omega arith
+end-in (Body want have) = omega arith
+
+end-above : (me : Peer) (l : Line Who) → Fine (Allowed me) l → EndAbove (endConn me (connOf (l .who) (l .framing)) .answer)
+unfolding endConn endOf
+end-above me l f =
+    subst (λ (x : Ended). EndAbove (x .answer)) (sym (cond-yes _ _ _ (conn-form me l f)))
+    (cond-ind (λ (x : streamEnd.Ended). EndAbove (x .answer)) (not (inForm (l .framing))) _ _ (passes (inForm (l .framing)) (f .form))
+    (λ e. end-in (l .framing)))
+
+end-never : (me : Peer) (l : Line Who) → Fine (Allowed me) l → endConn me (connOf (l .who) (l .framing)) .answer ≡ ends.Refused OutOfForm → ⊥
+end-never me l f e = let h : 1 ≤ 0 = subst EndAbove e (end-above me l f) in omega arith
+
+-- ---- contacts
+abbrev SeenAbove : SeenOutcome → Type 0
+SeenAbove (seenAnswer.Moved i) = Unit {0}
+SeenAbove (seenAnswer.Joined i) = Unit {0}
+SeenAbove (seenAnswer.Probe h) = Unit {0}
+SeenAbove (seenAnswer.Refused r) = Above r
+
+abbrev SettleAbove : SettleOutcome → Type 0
+SettleAbove settleAnswer.Kept = Unit {0}
+SettleAbove settleAnswer.Swapped = Unit {0}
+SettleAbove (settleAnswer.Refused r) = Above r
+
+abbrev RemoveAbove : RemoveOutcome → Type 0
+RemoveAbove removeAnswer.Gone = Unit {0}
+RemoveAbove (removeAnswer.Refused r) = Above r
+
+abbrev ToldAbove : Told → Type 0
+ToldAbove nodeTold.Fine = Unit {0}
+ToldAbove (nodeTold.Refused r) = Above r
+
+outcome-above : (s : Sighting) → SeenAbove (outcomeOf s)
+outcome-above (sighting.Moved i) = tt
+outcome-above (sighting.Joined i) = tt
+outcome-above (sighting.Full h) = tt
+outcome-above sighting.NoSlot = omega arith
+
+-- ---- lookups
+abbrev LookupAbove : LookupAnswer → Type 0
+LookupAbove (lookupAnswer.Refused r) = Above r
+LookupAbove (lookupAnswer.Complete n) = Unit {0}
+LookupAbove (lookupAnswer.CutShort n) = Unit {0}
+LookupAbove lookupAnswer.Wait = Unit {0}
+LookupAbove (lookupAnswer.Ask i) = Unit {0}
+LookupAbove lookupAnswer.Going = Unit {0}
+
+settled-above : (l : Lookup) → LookupAbove (settled l .answer)
+unfolding settled
+settled-above l =
+    cond-ind (λ (s : Step). LookupAbove (s .answer)) (isOver (marksOf l)) _ _ (λ e. cond-ind LookupAbove (l .turned) _ _ (λ e. tt) (λ e. tt)) (λ e. tt)
+
+module _ (me : Peer) (t : List ℕ) (form : contactsForm t (me .place) ≡ true) where
+  seen-above : (id : List ℕ) (client : Bool) → SeenAbove (seenOf me t id client)
+  unfolding seenOf seenCall
+  seen-above id client =
+      cond-ind SeenAbove (not (contactsForm t (me .place))) _ _ (passes (contactsForm t (me .place)) form)
+      (λ e. cond-ind SeenAbove (not (ownFits me)) _ _ (λ e. omega arith)
+      (λ e. cond-ind SeenAbove (not (contactsForm t (me .place))) _ _ (passes (contactsForm t (me .place)) form)
+      (λ e. cond-ind SeenAbove (badPeer (me .place) id) _ _ (λ e. omega arith)
+      (λ e. cond-ind SeenAbove client _ _ (λ e. omega arith) (λ e. outcome-above (sightingOf t (me .place) (placeOf id)))))))
+
+  settle-above : (head id : List ℕ) (client answered : Bool) → SettleAbove (settleOf me t head id client answered)
+  unfolding settleOf settleCall
+  settle-above head id client answered =
+      cond-ind SettleAbove (not (contactsForm t (me .place))) _ _ (passes (contactsForm t (me .place)) form)
+      (λ e. cond-ind SettleAbove (not (ownFits me)) _ _ (λ e. omega arith)
+      (λ e. cond-ind SettleAbove (not (contactsForm t (me .place))) _ _ (passes (contactsForm t (me .place)) form)
+      (λ e. cond-ind SettleAbove (badPeer (me .place) head) _ _ (λ e. omega arith)
+      (λ e. cond-ind SettleAbove (badPeer (me .place) id) _ _ (λ e. omega arith)
+      (λ e. cond-ind SettleAbove (not (fits t (me .place) (placeOf head) (placeOf id))) _ _ (λ e. omega arith)
+      (λ e. cond-ind SettleAbove client _ _ (λ e. omega arith) (λ e. cond-ind SettleAbove answered _ _ (λ e. tt) (λ e. tt))))))))
+
+  remove-above : (id : List ℕ) → RemoveAbove (removeOf me t id)
+  unfolding removeOf removeCall
+  remove-above id =
+      cond-ind RemoveAbove (not (contactsForm t (me .place))) _ _ (passes (contactsForm t (me .place)) form)
+      (λ e. cond-ind RemoveAbove (not (ownFits me)) _ _ (λ e. omega arith)
+      (λ e. cond-ind RemoveAbove (not (contactsForm t (me .place))) _ _ (passes (contactsForm t (me .place)) form)
+      (λ e. cond-ind RemoveAbove (badPeer (me .place) id) _ _ (λ e. omega arith)
+      (λ e. cond-ind RemoveAbove (not (held t (placeOf id))) _ _ (λ e. omega arith) (λ e. tt)))))
+
+  nearest-above : (key : List ℕ) → ToldAbove (nearestTo me t key .told)
+  unfolding nearestTo
+  nearest-above key =
+      step (not (contactsForm t (me .place))) _ _ (passes (contactsForm t (me .place)) form)
+      (λ e. step (not (keyFits key)) _ _ (λ e. omega arith) (λ e. step (not (ownFits me)) _ _ (λ e. omega arith) (λ e. tt)))
+    where
+      step : (b : Bool) (x y : Nearby) → (b ≡ true → ToldAbove (x .told)) → (b ≡ false → ToldAbove (y .told)) → ToldAbove (cond b x y .told)
+      step = cond-ind (λ (n : Nearby). ToldAbove (n .told))
+
+  -- ---- a lookup's start
+  start-above : (key : List ℕ) (limit : ℕ) → LookupAbove (lookupStart me t key limit .answer)
+  unfolding lookupStart startOf
+  start-above key limit =
+      go (not (contactsForm t (me .place))) _ _ (passes (contactsForm t (me .place)) form)
+      (λ e. go (not (lookupKeyFits key)) _ _ (λ e. omega arith)
+      (λ e. go (not (idFits (ownId me))) _ _ (λ e. omega arith)
+      (λ e. go (not (limitFits limit)) _ _ (λ e. omega arith) (λ e. settled-above (begun t key limit)))))
+    where
+      go : (b : Bool) (x y : Step) → (b ≡ true → LookupAbove (x .answer)) → (b ≡ false → LookupAbove (y .answer)) → LookupAbove (cond b x y .answer)
+      go = cond-ind (λ (s : Step). LookupAbove (s .answer))
+
+-- ---- records
+abbrev FoundAbove : Found → Type 0
+FoundAbove (findTold.Held a e) = Unit {0}
+FoundAbove findTold.NotHeld = Unit {0}
+FoundAbove (findTold.Refused r) = Above r
+
+find-above : (k key : List ℕ) → recordsForm k ≡ true → FoundAbove (findOf k key)
+unfolding findOf found heldAt
+find-above k key form =
+    cond-ind FoundAbove (not (recordsForm k)) _ _ (passes (recordsForm k) form)
+    (λ e. cond-ind FoundAbove (ltb (slotWith k key) (slotsOf k)) _ _ (λ e. tt) (λ e. tt))
+
+-- ---- all of them
+no-zero : 1 ≤ 0 → ⊥
+no-zero h = omega arith
+
+pub never-out-of-form : Given → (me : Peer) → Own me → NeverOutOfForm me
+never-out-of-form G me w =
+    record {
+      kept = λ s r cs f. calls-ready (box.box me) (sound me G w) cs s r f;
+      receive = λ l a bs f g e. receive-never G me w l a bs f g e;
+      end = λ l f e. end-never me l f e;
+      seen = λ a id client g e. no-zero (subst SeenAbove e (seen-above me (a .contacts) (g .contacts) id client));
+      settle = λ a head id client answered g e. no-zero (subst SettleAbove e (settle-above me (a .contacts) (g .contacts) head id client answered));
+      remove = λ a id g e. no-zero (subst RemoveAbove e (remove-above me (a .contacts) (g .contacts) id));
+      nearest = λ a key g e. no-zero (subst ToldAbove e (nearest-above me (a .contacts) (g .contacts) key));
+      put = λ a key value g e. never-0 (a .records) key value (g .records) e;
+      find = λ a key g e. no-zero (subst FoundAbove e (find-above (a .records) key (g .records)));
+      start = λ a key limit g e. no-zero (subst LookupAbove e (start-above me (a .contacts) (g .contacts) key limit));
+    }

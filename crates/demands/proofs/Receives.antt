@@ -1,0 +1,185 @@
+-- A call of `receive` does what the framing's answer comes to, as the plain reading deals with it. Assumes nothing.
+use Prim.Native.Nat.{ℕ, suc, _+_}
+use mathlib.Core.Path.{_≡_, refl, sym, ap, ap₂, _∙_}
+use mathlib.Core.Bool.{true, false, cond, true≢false}
+use mathlib.Core.List.{List, [], _∷_, _++_, append-nil}
+use lib.ListN.{length, take}
+use lib.Dec.{eqb}
+use Rattle.octets.proofs.Bools.{cond-ind}
+use Rattle.peer.specs.declared.Peer.{Peer}
+use Rattle.message.specs.View.{readingOf}
+use Rattle.message.specs.declared.Reading.{Reading}
+use Rattle.message.specs.declared.Reading.the-variants as reading
+use Rattle.stream.specs.declared.Framing.{Framing}
+use Rattle.stream.specs.declared.Framing.the-variants.{Shut, Prefix, Body}
+use Rattle.stream.specs.declared.Lead.{Lead}
+use Rattle.stream.specs.declared.Lead.the-variants.{On, Length, Bad}
+use Rattle.stream.specs.declared.Answer as stream
+use Rattle.stream.specs.declared.Answer.the-variants as framed
+use Rattle.stream.specs.Stream as streams
+use Rattle.stream.specs.Stream.{fresh, isShut, Stepped, led, stepOf, storeOf, after, runOf, receiveOf as framedOf}
+use Rattle.stream.proofs.Steps.{call-runs}
+use Rattle.cutting.specs.World as world
+use Rattle.cutting.specs.World.{Line, Called, Fine}
+use Rattle.answer.specs.declared.Answered.{Answered}
+use Rattle.answer.specs.declared.Answered.the-variants as told
+use Rattle.answer.specs.Answers.{Dealt, dealOf}
+use Rattle.node.specs.declared.Gate.{Gate}
+use Rattle.node.specs.declared.Sight.{Sight}
+use Rattle.node.specs.declared.Answer.{Answer}
+use Rattle.node.specs.declared.Answer.the-variants.{Reply, Heard, Refused, More}
+use Rattle.node.specs.declared.Gate.the-variants.{Open}
+use Rattle.node.specs.Node.{Dealing, sightOf, contactsAfter, byAnswer, served, heardAs, heard, dealingOf, Out, done, byEvent, takenOf, gateOf, unless, receiveOf}
+use Rattle.demands.specs.Box.{refused, event, Box, Who, connOf, whoIn, isRefused, isMore, offerIn, bodyIn, offersIn, noted, dealing, happens, stopsAt, receiving, Own, Allowed, Good}
+use Rattle.demands.proofs.Connections.{gate-open}
+
+-- ---- a refused prefix shuts its connection
+abbrev ShutBy : stream.Answer → Framing → Type 0
+ShutBy (framed.Message n) f = Unit {0}
+ShutBy (framed.Refused r) f = f ≡ Shut
+ShutBy framed.More f = Unit {0}
+
+abbrev Shuts : Stepped → Type 0
+Shuts s = ShutBy (s .answer) (s .framing)
+
+led-shuts : (l : Lead) → Shuts (led l)
+led-shuts (On h) = tt
+led-shuts (Length n) = cond-ind Shuts (eqb n 0) _ _ (λ h. tt) (λ h. tt)
+led-shuts (Bad r) = refl
+
+step-shuts : (f : Framing) (b : ℕ) → Shuts (stepOf f b)
+step-shuts Shut b = tt
+step-shuts (Prefix h) b = led-shuts (streams.prefixStep h b)
+step-shuts (Body want have) b = cond-ind Shuts (eqb (suc have) want) _ _ (λ h. tt) (λ h. tt)
+
+after-shuts : (w : stream.Answer) (f : Framing) (m : List ℕ) (o : streams.Out) → ShutBy w f → ShutBy (o .got .answer) (o .got .framing)
+    → ShutBy (after w f m o .got .answer) (after w f m o .got .framing)
+after-shuts (framed.Message n) f m o h g = h
+after-shuts (framed.Refused r) f m o h g = h
+after-shuts framed.More f m o h g = g
+
+run-shuts : (bs : List ℕ) (f : Framing) (m : List ℕ) → ShutBy (runOf f m bs .got .answer) (runOf f m bs .got .framing)
+unfolding runOf
+run-shuts [] f m = tt
+run-shuts (b ∷ bs) f m =
+    after-shuts (stepOf f b .answer) (stepOf f b .framing) (storeOf f m b) (runOf (stepOf f b .framing) (storeOf f m b) bs) (step-shuts f b)
+    (run-shuts bs (stepOf f b .framing) (storeOf f m b))
+
+module _ (me : Peer) where
+  -- ---- a whole message is dealt with by who is at the other end, wherever the framing stands, and never by asking for more
+  told-any : (x : Answered) (d : Dealt) (w : Who) (f : Framing) (t : List ℕ) → byAnswer x d me (connOf w f) t ≡ byAnswer x d me (connOf w fresh) t
+  unfolding sightOf contactsAfter
+  told-any (told.Refused r) d w f t = refl
+  told-any (told.Reply n) d w f t = refl
+
+  dealing-any : (w : Who) (f : Framing) (body t k y : List ℕ) → dealingOf me (connOf w f) body t k y ≡ dealingOf me (connOf w fresh) body t k y
+  unfolding dealingOf served
+  dealing-any w f body t k y =
+      let d = dealOf me (w .peer) body t k y in
+      ap (λ (x : Dealing). cond (w .asking) (heard body t k y) x) (told-any (d .told) d w f t)
+
+  heard-some : (n : ℕ) (r : Reading) → isMore (heardAs n r) ≡ false
+  heard-some n (reading.Whole f) = refl
+  heard-some n (reading.Refused r) = refl
+
+  served-some : (x : Answered) (d : Dealt) (w : Who) (t : List ℕ) → isMore (byAnswer x d me (connOf w fresh) t .answer) ≡ false
+  served-some (told.Refused r) d w t = refl
+  served-some (told.Reply n) d w t = refl
+
+  dealing-some : (w : Who) (a : Box) (body : List ℕ) → isMore (dealing me w a body .answer) ≡ false
+  unfolding dealingOf served heard
+  dealing-some w a body =
+      let d = dealOf me (w .peer) body (a .contacts) (a .records) (a .reply) in
+      cond-ind (λ (x : Dealing). isMore (x .answer) ≡ false) (w .asking) _ _ (λ e. heard-some (length body) (readingOf body))
+      (λ e. served-some (d .told) d w (a .contacts))
+
+  -- ---- what a call leaves, by the framing's answer and by what the call gives
+  abbrev left : ℕ → Line Who → Box → stream.Answer → Out → Called Who Box
+  left i l a e o =
+      record {
+        line = record { who = whoIn (o .got .conn); framing = o .got .conn .framing; buffer = o .buffer; taken = l .taken + o .got .taken };
+        state =
+            noted i (l .taken + o .got .taken) (o .got .answer) (o .got .sight) (bodyIn e (o .buffer)) (o .contacts) (o .records) (o .reply)
+            (offersIn (l .who) e (o .buffer)) a;
+        count = o .got .taken;
+        more = isMore (o .got .answer);
+      }
+
+  -- a whole message
+  abbrev Settles : ℕ → Line Who → Box → ℕ → Framing → ℕ → List ℕ → Answer → Sight → List ℕ → List ℕ → List ℕ → Type 0
+  Settles i l a v f n m x s t k y =
+      left i l a (framed.Message v) (done (connOf (l .who) f) n m (record { answer = x; sight = s; contacts = t; records = k; reply = y }))
+      ≡ record {
+        line = record { who = l .who; framing = cond (isRefused x) Shut f; buffer = m; taken = l .taken + n };
+        state = noted i (l .taken + n) x s (take v m) t k y (offerIn (l .who) (take v m)) a;
+        count = n;
+        more = false;
+      }
+
+  settles : (i : ℕ) (l : Line Who) (a : Box) (v : ℕ) (f : Framing) (n : ℕ) (m : List ℕ) (x : Answer) (s : Sight) (t k y : List ℕ) → isMore x ≡ false
+      → Settles i l a v f n m x s t k y
+  settles i l a v f n m (Reply z) s t k y h = refl
+  settles i l a v f n m (Heard z g) s t k y h = refl
+  settles i l a v f n m (Refused r) s t k y h = refl
+  settles i l a v f n m More s t k y h = absurd (true≢false h)
+
+  lands : (i : ℕ) (l : Line Who) (a : Box) (w : stream.Answer) (f : Framing) (n : ℕ) (m : List ℕ) → ShutBy w f
+      → left i l a w (byEvent w me (connOf (l .who) f) n m (a .contacts) (a .records) (a .reply))
+      ≡ world.called (happens me) (stopsAt me) i l a (streams.out f n w m)
+  lands i l a (framed.Message v) f n m h =
+      let d = dealing me (l .who) a (take v m) in
+      ap (λ (x : Dealing). left i l a (framed.Message v) (done (connOf (l .who) f) n m x))
+      (dealing-any (l .who) f (take v m) (a .contacts) (a .records) (a .reply))
+      ∙ settles i l a v f n m (d .answer) (d .sight) (d .contacts) (d .records) (d .reply) (dealing-some (l .who) a (take v m))
+  lands i l a (framed.Refused r) f n m h =
+      λ j. record {
+        line = record { who = l .who; framing = sym h j; buffer = m; taken = l .taken + n };
+        state = record {
+          contacts = a .contacts;
+          records = a .records;
+          reply = a .reply;
+          lookups = a .lookups;
+          inbox = a .inbox;
+          log = a .log ++ (event i (l .taken + n) (refused r) ∷ []);
+          offers = append-nil (a .offers) j;
+        };
+        count = n;
+        more = false;
+      }
+  lands i l a framed.More f n m h =
+      λ j. record {
+        line = record { who = l .who; framing = f; buffer = m; taken = l .taken + n };
+        state = record {
+          contacts = a .contacts;
+          records = a .records;
+          reply = a .reply;
+          lookups = a .lookups;
+          inbox = a .inbox;
+          log = a .log;
+          offers = append-nil (a .offers) j;
+        };
+        count = n;
+        more = true;
+      }
+
+  -- ---- the call
+  pub runs-as : (l : Line Who) (bs t k y : List ℕ) (o : streams.Out) → framedOf (l .framing) (l .buffer) bs ≡ o
+      → takenOf me (connOf (l .who) (l .framing)) (l .buffer) bs t k y
+      ≡ byEvent (o .got .answer) me (connOf (l .who) (o .got .framing)) (o .got .taken) (o .buffer) t k y
+  unfolding takenOf
+  runs-as l bs t k y o e = ap (λ (x : streams.Out). byEvent (x .got .answer) me (connOf (l .who) (x .got .framing)) (x .got .taken) (x .buffer) t k y) e
+
+  pub let-through : (l : Line Who) (bs t k y : List ℕ) → gateOf me (connOf (l .who) (l .framing)) (l .buffer) t k y ≡ Open
+      → receiveOf me (connOf (l .who) (l .framing)) (l .buffer) bs t k y ≡ takenOf me (connOf (l .who) (l .framing)) (l .buffer) bs t k y
+  unfolding receiveOf
+  let-through l bs t k y e =
+      ap (λ (x : Gate). unless x (connOf (l .who) (l .framing)) (l .buffer) t k y (takenOf me (connOf (l .who) (l .framing)) (l .buffer) bs t k y)) e
+
+  pub receives : Own me → (i : ℕ) (l : Line Who) (a : Box) (bs : List ℕ) → Fine (Allowed me) l → isShut (l .framing) ≡ false → Good me a
+      → receiving me i l a bs ≡ world.called (happens me) (stopsAt me) i l a (runOf (l .framing) (l .buffer) bs)
+  receives w i l a bs f o g =
+      let r : streams.Out = runOf (l .framing) (l .buffer) bs in
+      let e : framedOf (l .framing) (l .buffer) bs ≡ r = call-runs (l .framing) (l .buffer) bs (f .form) (f .room) o in
+      let p = let-through l bs (a .contacts) (a .records) (a .reply) (gate-open me w l a f o g) ∙ runs-as l bs (a .contacts) (a .records) (a .reply) r e in
+      ap₂ (λ (x : stream.Answer) (y : Out). left i l a x y) (ap (λ (x : streams.Out). x .got .answer) e) p
+      ∙ lands i l a (r .got .answer) (r .got .framing) (r .got .taken) (r .buffer) (run-shuts bs (l .framing) (l .buffer))

@@ -1,0 +1,497 @@
+// The box's entry points. Nothing is kept inside: contacts and records lie in memory that the host lends, and the box's own identity, connections
+// and lookups are values that go in and come back. Every function takes any numbers and any buffers, and refuses by number.
+use answer::Answered;
+use contact_calls::RemoveOutcome;
+use contact_calls::SeenOutcome;
+use contact_calls::SettleOutcome;
+use contacts::Closest;
+use lookup::Lookup;
+use lookup::Step;
+use message::Fields;
+use message::Reading;
+use peer::Peer;
+use refusal::Refusal;
+use sightings::Sighting;
+use stream::Ending;
+use stream::Framing;
+ghost use mathlib.Core.Path.{_≡_};
+ghost use mathlib.Core.Bool.{true, false};
+ghost use lib.ListN.{length, take};
+ghost use Rattle.message.specs.View.{readingOf};
+ghost use Rattle.records.specs.Store.{putAnswer, putAfter, findOf};
+ghost use Rattle.writer.specs.Writer.{messageWith, answerOf, outAfter};
+ghost use Rattle.lookup.specs.Lookup.{nextOf};
+ghost use Rattle.node.specs.Box.{ownFits, nobody, startOf, withFraming, openOf, sizeFits, peerForm, connForm, endConn};
+ghost use Rattle.node.specs.Node.{Dealing, sightOf, contactsAfter, served, heardAs, dealingOf, gateOf, received, shutIf, done, takenOf, receiveOf, Gives};
+ghost use Rattle.node.specs.Hosts.{seenOf, seenAfter, settleOf, settleAfter, removeOf, removeAfter, noneNear, nearestTo, ownId, lookupStart, lookupReply, lookupFailure};
+
+// A connection: its peer, where its framing stands, whether the peer is a server, and whether we are the side that asks.
+pub struct Conn {
+    pub peer: Peer,
+    pub framing: Framing,
+    pub server: bool,
+    pub asking: bool,
+}
+
+// Whether a start or an open was refused.
+pub enum Told {
+    Fine,
+    Refused(Refusal),
+}
+
+pub struct Started {
+    pub me: Peer,
+    pub told: Told,
+}
+
+pub struct Opened {
+    pub conn: Conn,
+    pub told: Told,
+}
+
+pub struct Ended {
+    pub conn: Conn,
+    pub answer: Ending,
+}
+
+pub enum Answer {
+    // A request was answered: so many bytes stand at the reply buffer's start.
+    Reply(usize),
+    // A message for a lookup: so many bytes stand at the receive buffer's start, with the places of its fields.
+    Heard(usize, Fields),
+    Refused(Refusal),
+    More,
+}
+
+// What came of the sender's sighting, beside a reply.
+pub enum Sight {
+    NotSeen,
+    Seen(Sighting),
+}
+
+pub struct Received {
+    pub conn: Conn,
+    pub taken: usize,
+    pub answer: Answer,
+    pub sight: Sight,
+}
+
+// Whether a call goes on to take bytes.
+pub enum Gate {
+    Open,
+    Closed(Refusal),
+}
+
+// The contacts nearest to a key; none where the call was refused.
+pub struct Nearby {
+    pub closest: Closest,
+    pub told: Told,
+}
+
+// ---- the box and its connections
+
+// Whether the box handed in has an id that a start gives.
+fn own_fits(me: Peer) -> bool
+    ensures { λ r. ⌜ r ≡ ownFits me ⌝ }
+{
+    let n = me.size as usize;
+    if n == 0 {
+        return false;
+    }
+    n <= peer::ID
+}
+
+// Nobody: no id and no addresses.
+fn no_peer() -> Peer
+    ensures { λ r. ⌜ r ≡ nobody ⌝ }
+{
+    let nothing = [0u8; 0];
+    let place = [0u8; 32];
+    peer::peer_of(&nothing, place, &nothing)
+}
+
+// The box with an id of 1 to 64 bytes, its place, and its first four usable addresses.
+pub fn start(id: &[u8], addresses: &[u8]) -> Started
+    ensures { λ r. ⌜ r ≡ startOf (now (id .entry)) (now (addresses .entry)) ⌝ }
+{
+    if peer::id_fits(id) {
+        let me = peer::peer_of(id, place::place_of(id), addresses);
+        let fine = Told::Fine;
+        return Started { me, told: fine };
+    }
+    let me = no_peer();
+    let told = Told::Refused(Refusal::BadPeer);
+    Started { me, told }
+}
+
+// A connection that starts shut, since its peer can't be one.
+fn refuse_open(server: bool, asking: bool) -> Opened {
+    let peer = no_peer();
+    let framing = stream::shut();
+    let conn = Conn {
+        peer,
+        framing,
+        server,
+        asking,
+    };
+    let told = Told::Refused(Refusal::BadPeer);
+    Opened { conn, told }
+}
+
+// Opens a connection to a peer: its id, whether it is a server, whether we ask on it, and the peer's addresses.
+pub fn open(me: Peer, id: &[u8], server: bool, asking: bool, addresses: &[u8]) -> Opened
+    ensures { λ r. ⌜ r ≡ openOf me (now (id .entry)) server asking (now (addresses .entry)) ⌝ }
+{
+    if !own_fits(me) {
+        return refuse_open(server, asking);
+    }
+    if !peer::id_fits(id) {
+        return refuse_open(server, asking);
+    }
+    let at = place::place_of(id);
+    let ours = me.place;
+    if octets::same_bytes(&at, &ours) {
+        return refuse_open(server, asking);
+    }
+    let peer = peer::peer_of(id, at, addresses);
+    let framing = stream::open();
+    let conn = Conn {
+        peer,
+        framing,
+        server,
+        asking,
+    };
+    let told = Told::Fine;
+    Opened { conn, told }
+}
+
+// Whether each of the peer's addresses has 1 to 128 bytes.
+fn sizes_fit(p: Peer) -> bool {
+    let lens = p.lens;
+    let n = p.count as usize;
+    let mut k: usize = 0;
+    while k < n {
+        let size = lens[k] as usize;
+        if size == 0 {
+            return false;
+        }
+        if peer::ADDRESS < size {
+            return false;
+        }
+        k += 1;
+    }
+    true
+}
+
+// Whether a peer is one that an open gives.
+fn peer_form(p: Peer) -> bool
+    ensures { λ r. ⌜ r ≡ peerForm p ⌝ }
+{
+    if !own_fits(p) {
+        return false;
+    }
+    if peer::ADDRESSES < p.count as usize {
+        return false;
+    }
+    sizes_fit(p)
+}
+
+// Whether a connection is in form. A shut one is.
+fn conn_form(me: Peer, conn: Conn) -> bool
+    ensures { λ r. ⌜ r ≡ connForm me conn ⌝ }
+{
+    let f = conn.framing;
+    if stream::is_shut(f) {
+        return true;
+    }
+    let p = conn.peer;
+    if !peer_form(p) {
+        return false;
+    }
+    let at = p.place;
+    let ours = me.place;
+    if octets::same_bytes(&at, &ours) {
+        return false;
+    }
+    stream::in_form(f)
+}
+
+fn with_framing(conn: Conn, framing: Framing) -> Conn
+    ensures { λ r. ⌜ r ≡ withFraming conn framing ⌝ }
+{
+    let p = conn.peer;
+    Conn {
+        peer: p,
+        framing,
+        server: conn.server,
+        asking: conn.asking,
+    }
+}
+
+// The peer's bytes are over.
+pub fn end(me: Peer, conn: Conn) -> Ended
+    ensures { λ r. ⌜ r ≡ endConn me conn ⌝ }
+{
+    if !conn_form(me, conn) {
+        let answer = Ending::Refused(Refusal::OutOfForm);
+        return Ended { conn, answer };
+    }
+    let f = conn.framing;
+    let e = stream::end(f);
+    let g = e.framing;
+    let answer = e.answer;
+    Ended {
+        conn: with_framing(conn, g),
+        answer,
+    }
+}
+
+// ---- receiving
+
+// 0 to 2, and 12 for a box that no start gives.
+fn gate_of(
+    me: Peer,
+    conn: Conn,
+    buffer: &[u8],
+    contacts: &[u8],
+    records: &[u8],
+    reply: &[u8],
+) -> Gate
+    ensures { λ r. ⌜ r ≡ gateOf me conn (now (buffer .entry)) (now (contacts .entry)) (now (records .entry)) (now (reply .entry)) ⌝ }
+{
+    let ours = me.place;
+    if !contacts::in_form(contacts, &ours) {
+        return Gate::Closed(Refusal::OutOfForm);
+    }
+    if !records::in_form(records) {
+        return Gate::Closed(Refusal::OutOfForm);
+    }
+    if !conn_form(me, conn) {
+        return Gate::Closed(Refusal::OutOfForm);
+    }
+    if buffer.len() < message::MOST_BODY {
+        return Gate::Closed(Refusal::SmallBuffer);
+    }
+    if reply.len() < writer::LEAST_REPLY {
+        return Gate::Closed(Refusal::SmallBuffer);
+    }
+    let f = conn.framing;
+    if stream::is_shut(f) {
+        return Gate::Closed(Refusal::Shut);
+    }
+    if !own_fits(me) {
+        return Gate::Closed(Refusal::BadPeer);
+    }
+    Gate::Open
+}
+
+// A sender that is a server is seen.
+fn see_sender(me: Peer, conn: Conn, contacts: &mut [u8]) -> Sight
+    ensures { λ r. ⌜ (r ≡ sightOf me conn (now (contacts .entry))) × (now (contacts .exit) ≡ contactsAfter me conn (now (contacts .entry))) ⌝ }
+{
+    if !conn.server {
+        return Sight::NotSeen;
+    }
+    let ours = me.place;
+    let p = conn.peer;
+    let s = sightings::seen(contacts, &ours, p);
+    Sight::Seen(s)
+}
+
+fn hand_back(conn: Conn, taken: usize, answer: Answer, sight: Sight) -> Received
+    ensures { λ r. ⌜ r ≡ received conn taken answer sight ⌝ }
+{
+    Received {
+        conn,
+        taken,
+        answer,
+        sight,
+    }
+}
+
+// A refusal that shuts the connection.
+fn refuse(conn: Conn, taken: usize, r: Refusal) -> Received
+    ensures { λ x. ⌜ x ≡ received (withFraming conn Framing.Shut) taken (Answer.Refused r) Sight.NotSeen ⌝ }
+{
+    let shut = stream::shut();
+    let c = with_framing(conn, shut);
+    hand_back(c, taken, Answer::Refused(r), Sight::NotSeen)
+}
+
+// A message on the asking side goes to the host.
+fn hear(conn: Conn, taken: usize, body: &[u8]) -> Received {
+    match message::read(body) {
+        Reading::Whole(f) => hand_back(conn, taken, Answer::Heard(body.len(), f), Sight::NotSeen),
+        Reading::Refused(r) => refuse(conn, taken, r),
+    }
+}
+
+// A request: the reply first, then the sighting.
+fn serve(
+    me: Peer,
+    conn: Conn,
+    taken: usize,
+    body: &[u8],
+    contacts: &mut [u8],
+    records: &mut [u8],
+    reply: &mut [u8],
+) -> Received {
+    let who = conn.peer;
+    match answer::answer(me, who, body, contacts, records, reply) {
+        Answered::Refused(r) => refuse(conn, taken, r),
+        Answered::Reply(n) => {
+            let s = see_sender(me, conn, contacts);
+            hand_back(conn, taken, Answer::Reply(n), s)
+        }
+    }
+}
+
+// A message is whole.
+fn whole(
+    me: Peer,
+    conn: Conn,
+    taken: usize,
+    body: &[u8],
+    contacts: &mut [u8],
+    records: &mut [u8],
+    reply: &mut [u8],
+) -> Received {
+    if conn.asking {
+        return hear(conn, taken, body);
+    }
+    serve(me, conn, taken, body, contacts, records, reply)
+}
+
+// The bytes up to the first event.
+fn take_bytes(
+    me: Peer,
+    conn: Conn,
+    buffer: &mut [u8],
+    piece: &[u8],
+    contacts: &mut [u8],
+    records: &mut [u8],
+    reply: &mut [u8],
+) -> Received
+    ensures { λ r. ⌜ Gives (takenOf me conn (now (buffer .entry)) (now (piece .entry)) (now (contacts .entry)) (now (records .entry)) (now (reply .entry))) r (now (buffer .exit)) (now (contacts .exit)) (now (records .exit)) (now (reply .exit)) ⌝ }
+{
+    let f = conn.framing;
+    let got = stream::receive(f, buffer, piece);
+    let g = got.framing;
+    let c = with_framing(conn, g);
+    let event = got.answer;
+    match event {
+        stream::Answer::Message(n) => whole(
+            me,
+            c,
+            got.taken,
+            &buffer[..n],
+            contacts,
+            records,
+            reply,
+        ),
+        stream::Answer::Refused(r) => refuse(c, got.taken, r),
+        stream::Answer::More => hand_back(c, got.taken, Answer::More, Sight::NotSeen),
+    }
+}
+
+// Takes bytes of a piece up to the first event, and answers it.
+pub fn receive(
+    me: Peer,
+    conn: Conn,
+    buffer: &mut [u8],
+    piece: &[u8],
+    contacts: &mut [u8],
+    records: &mut [u8],
+    reply: &mut [u8],
+) -> Received
+    ensures { λ r. ⌜ Gives (receiveOf me conn (now (buffer .entry)) (now (piece .entry)) (now (contacts .entry)) (now (records .entry)) (now (reply .entry))) r (now (buffer .exit)) (now (contacts .exit)) (now (records .exit)) (now (reply .exit)) ⌝ }
+{
+    match gate_of(me, conn, buffer, contacts, records, reply) {
+        Gate::Closed(r) => hand_back(conn, 0, Answer::Refused(r), Sight::NotSeen),
+        Gate::Open => take_bytes(me, conn, buffer, piece, contacts, records, reply),
+    }
+}
+
+// ---- the host's other calls
+
+// What a call on the contacts gives a box that no start gives: 0, then 12.
+fn refusal_of_box(contacts: &[u8], ours: &[u8]) -> Refusal {
+    if contacts::in_form(contacts, ours) {
+        return Refusal::BadPeer;
+    }
+    Refusal::OutOfForm
+}
+
+// A peer was seen.
+pub fn seen(me: Peer, contacts: &mut [u8], id: &[u8], client: bool, addresses: &[u8]) -> SeenOutcome
+    ensures { λ r. ⌜ (r ≡ seenOf me (now (contacts .entry)) (now (id .entry)) client) × (now (contacts .exit) ≡ seenAfter me (now (contacts .entry)) (now (id .entry)) client (now (addresses .entry))) ⌝ }
+{
+    let ours = me.place;
+    if !own_fits(me) {
+        return SeenOutcome::Refused(refusal_of_box(contacts, &ours));
+    }
+    contact_calls::seen(contacts, &ours, id, client, addresses)
+}
+
+// The probe of a head came back: it answered, or it was silent, and the newcomer takes its place.
+pub fn settle(
+    me: Peer,
+    contacts: &mut [u8],
+    head: &[u8],
+    id: &[u8],
+    client: bool,
+    addresses: &[u8],
+    answered: bool,
+) -> SettleOutcome
+    ensures { λ r. ⌜ (r ≡ settleOf me (now (contacts .entry)) (now (head .entry)) (now (id .entry)) client answered) × (now (contacts .exit) ≡ settleAfter me (now (contacts .entry)) (now (head .entry)) (now (id .entry)) client (now (addresses .entry)) answered) ⌝ }
+{
+    let ours = me.place;
+    if !own_fits(me) {
+        return SettleOutcome::Refused(refusal_of_box(contacts, &ours));
+    }
+    contact_calls::settle(contacts, &ours, head, id, client, addresses, answered)
+}
+
+// Takes a contact out.
+pub fn remove(me: Peer, contacts: &mut [u8], id: &[u8]) -> RemoveOutcome
+    ensures { λ r. ⌜ (r ≡ removeOf me (now (contacts .entry)) (now (id .entry))) × (now (contacts .exit) ≡ removeAfter me (now (contacts .entry)) (now (id .entry))) ⌝ }
+{
+    let ours = me.place;
+    if !own_fits(me) {
+        return RemoveOutcome::Refused(refusal_of_box(contacts, &ours));
+    }
+    contact_calls::remove(contacts, &ours, id)
+}
+
+// No contacts, and a refusal.
+fn none_near(r: Refusal) -> Nearby
+    ensures { λ x. ⌜ x ≡ noneNear r ⌝ }
+{
+    let at = [0usize; contacts::NEAREST];
+    let closest = Closest { at, n: 0 };
+    let told = Told::Refused(r);
+    Nearby { closest, told }
+}
+
+// The contacts nearest to a key.
+pub fn nearest(me: Peer, contacts: &[u8], key: &[u8]) -> Nearby
+    ensures { λ r. ⌜ r ≡ nearestTo me (now (contacts .entry)) (now (key .entry)) ⌝ }
+{
+    let ours = me.place;
+    if !contacts::in_form(contacts, &ours) {
+        return none_near(Refusal::OutOfForm);
+    }
+    if key.len() == 0 {
+        return none_near(Refusal::BreaksRules);
+    }
+    if message::MOST_KEY < key.len() {
+        return none_near(Refusal::BreaksRules);
+    }
+    if !own_fits(me) {
+        return none_near(Refusal::BadPeer);
+    }
+    let target = place::place_of(key);
+    let closest = contacts::nearest(contacts, &target);
+    let told = Told::Fine;
+    Nearby { closest, told }
+}
