@@ -101,10 +101,10 @@ module _ (p : peers.Peer) where
       fewer (x ∷ y ∷ z ∷ w ∷ l) a h = refl
 
   abbrev roomed : ℕ → List ℕ
-  roomed k = take addressRoom (addressIn p k)
+  roomed k = take addressRoom (part (p .addrs) (k * addressRoom) (k * addressRoom + getD (p .lens) k 0))
 
   four-rooms : (n : ℕ) → take n (roomed 0 ∷ roomed 1 ∷ roomed 2 ∷ roomed 3 ∷ []) ≡ map (take addressRoom) (take mostAddresses (addressesTo p n))
-  unfolding addressesTo
+  unfolding addressesTo addressIn
   four-rooms zero = refl
   four-rooms (suc zero) = refl
   four-rooms (suc (suc zero)) = refl
@@ -117,7 +117,7 @@ module _ (p : peers.Peer) where
   own-is = rw (four-rooms (p .count))
 
   room-most : (k : ℕ) → length (roomed k) ≤ mostAddress
-  room-most k = omega (arith, length-take addressRoom (addressIn p k))
+  room-most k = omega (arith, length-take addressRoom (part (p .addrs) (k * addressRoom) (k * addressRoom + getD (p .lens) k 0)))
 
   pub own-fits : length (idIn p) ≤ mostId → peerFits (peerEntry p) ≡ true
   own-fits h =

@@ -1,3 +1,4 @@
 pub mod Entries
 pub mod Whole
 pub mod Serving
+pub mod Promised

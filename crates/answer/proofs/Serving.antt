@@ -53,18 +53,18 @@ pub key-some : (key : List ℕ) → (length key ≡ 0 → ⊥) → leb (length k
 unfolding keyFits
 key-some key h = sym (and-on (leb 1 (length key)) (leb (length key) mostKey) (le-leb 1 (length key) (omega (arith, h))))
 
-module _ (key : List ℕ) (m : Message) (buf buf₁ : List ℕ) (b : Bool) (e : b ≡ keyFits key) where
+module _ (key : List ℕ) (b : Bool) (e : b ≡ keyFits key) where
   pub fits-most : b ≡ true → length key ≤ 128
   unfolding keyFits
   fits-most y = leb-true (length key) mostKey (and-r (leb 1 (length key)) (leb (length key) mostKey) (sym e ∙ y))
 
-  pub told-yes : b ≡ true → (r : ℕ) → Framed m buf buf₁ r → Told (keyed key m) buf buf₁ (Reply r)
+  pub told-yes : b ≡ true → (m : Message) (buf buf₁ : List ℕ) (r : ℕ) → Framed m buf buf₁ r → Told (keyed key m) buf buf₁ (Reply r)
   unfolding keyed
-  told-yes y r f = rw (← e, y) (record { answer = ap Reply (f .size); same = f .same })
+  told-yes y m buf buf₁ r f = rw (← e, y) (record { answer = ap Reply (f .size); same = f .same })
 
-  pub told-no : b ≡ false → Told (keyed key m) buf buf (Refused BreaksRules)
+  pub told-no : b ≡ false → (m : Message) (buf : List ℕ) → Told (keyed key m) buf buf (Refused BreaksRules)
   unfolding keyed
-  told-no n = rw (← e, n) (record { answer = refl; same = refl })
+  told-no n m buf = rw (← e, n) (record { answer = refl; same = refl })
 
 -- ---- the store
 module _ (k key : List ℕ) (a z : ℕ) where

@@ -42,12 +42,12 @@ module _ (m : Message) (n : ℕ) (en : n ≡ length (encode m)) where
 
   pub framed : (kind : ℕ) (rest : List ℕ) → encode m ≡ written1 (num 1 kind) ++ rest → (buf b₁ : List ℕ) (r₁ : ℕ) (b₂ : List ℕ) (r₂ : ℕ)
       → Put buf 0 (minimal n ++ written1 (num 1 kind)) b₁ r₁ → Put b₁ r₁ rest b₂ r₂ → (s : ℕ) → s ≡ length (minimal n) + n → Framed m buf b₂ s
+  unfolding frame
   framed kind rest e buf b₁ r₁ b₂ r₂ p q s es =
       let w = put-on buf 0 (minimal n ++ written1 (num 1 kind)) b₁ r₁ rest b₂ r₂ p q in
       record { size = es ∙ frame-size; same = w .same ∙ ap (sets buf 0) whole }
     where
       whole : (minimal n ++ written1 (num 1 kind)) ++ rest ≡ frame (encode m)
-      unfolding frame
       whole = append-assoc (minimal n) (written1 (num 1 kind)) rest ∙ rw (← e, en)
 
 pub framed-is : (m n : Message) (buf buf₁ : List ℕ) (r : ℕ) → m ≡ n → Framed m buf buf₁ r → Framed n buf buf₁ r
@@ -111,10 +111,10 @@ module _ (buf b₁ : List ℕ) (r₁ : ℕ) (b₂ : List ℕ) (r₂ s : ℕ) whe
       omega (arith, ap length (closer-bytes kind l), length-append (written1 (num 1 kind)) (entryBytes l), two-bytes kind h, q .0) in
       framed (replyWith kind none l) (2 + e) n kind (entryBytes l) (closer-bytes kind l) buf b₁ r₁ b₂ r₂ p₁ p₂ s es
 
-  pub ping-done : (r : ℕ) → Put buf 0 (minimal 2 ++ written1 (num 1 5)) b₁ r₁ → s ≡ length (minimal 2) + 2 → Framed pingReply buf b₁ s
-  ping-done r p es =
-      let n : 2 ≡ length (encode pingReply) = omega (arith, ap length ping-bytes, length-append (written1 (num 1 5)) [], two-bytes 5 (omega arith)) in
-      framed pingReply 2 n 5 [] ping-bytes buf b₁ r₁ b₁ r₁ p (put-start b₁ r₁) s es
+pub ping-done : (buf b₁ : List ℕ) (r₁ s : ℕ) → Put buf 0 (minimal 2 ++ written1 (num 1 5)) b₁ r₁ → s ≡ length (minimal 2) + 2 → Framed pingReply buf b₁ s
+ping-done buf b₁ r₁ s p es =
+    let n : 2 ≡ length (encode pingReply) = omega (arith, ap length ping-bytes, length-append (written1 (num 1 5)) [], two-bytes 5 (omega arith)) in
+    framed pingReply 2 n 5 [] ping-bytes buf b₁ r₁ b₁ r₁ p (put-start b₁ r₁) s es
 
 module _ (buf b₁ : List ℕ) (r₁ : ℕ) (b₂ : List ℕ) (r₂ : ℕ) (b₃ : List ℕ) (r₃ s : ℕ) where
   pub last-done : (l : List Peer) (e o : ℕ) (p : Peer) → (e ≡ length (entryBytes l)) × (e ≤ 11900) → (o ≡ length (peerPiece 8 p)) × (o ≤ 595) × (peerFits p ≡ true)

@@ -1,3 +1,4 @@
 pub mod Replies
 pub mod Answers
+pub mod Promises
 pub mod Inner

@@ -1,55 +1,42 @@
+-- `answer_put`: the keys first, then what the store says.
+use mathlib.Core.Path.{sym, _∙_}
+use Rattle.answer.proofs.Serving.{taken-fits, put-other, put-taken, put-refused}
 use borrow.Author.Needs.{needs}
 use Rattle.answer.proofs.answer_put.Statement.{statement}
 use Rattle.answer.proofs.answer_put.Tie as tie
-use Rattle.answer.proofs.answer_put.Reads as reads
-use Rattle.answer.proofs.answer_put.Lts as lts
-use Rattle.answer.proofs.echo.Reads as echo-reads
-use Rattle.octets.proofs.same_bytes.Reads as same-bytes-reads
-use Rattle.records.proofs.offer.Reads as offer-reads
 
--- src/lib.rt:327:9
 same-bytes-requires : tie.Need-same-bytes-requires
 same-bytes-requires c κs = search needs
 
--- src/lib.rt:328:9
 returns : tie.Need-returns
-returns c = ?
+returns c = put-other _ _ _ _ _ _ (c .before .same-bytes .ensures) (c .if1 .taken)
 
--- src/lib.rt:330:11
 offer-requires : tie.Need-offer-requires
 offer-requires c κs = search needs
 
--- src/lib.rt:331:56
 enum-told : tie.Need-enum-told
 enum-told c = search needs
 
--- src/lib.rt:331:51
 echo-requires : tie.Need-echo-requires
-echo-requires c κs = ?
+echo-requires c κs = taken-fits (c .before .before .before .before .before .before .before .before .before .before .before .before .before .before .args .records .now) (c .before .before .before .before .before .before .before .before .before .before .before .before .before .before .args .key .now) (c .before .before .before .before .before .before .before .before .before .before .before .before .before .before .args .value .now) (sym (c .before .before .before .before .before .offer .ensures .0) ∙ c .before .enum-told .given .1)
 
--- src/lib.rt:332:34
 enum-known-r : tie.Need-enum-known-r
 enum-known-r c = search needs
 
--- src/lib.rt:324:1
 same-length : tie.Need-same-length
 same-length c = search needs
 
--- src/lib.rt:324:1
 same-length-2 : tie.Need-same-length-2
 same-length-2 c = search needs
 
--- src/lib.rt:324:1
 returns-2 : tie.Need-returns-2
-returns-2 c = ?
+returns-2 c = put-taken _ _ _ _ _ _ (c .before .before .before .before .before .before .before .before .before .before .before .same-bytes .ensures) (c .before .before .before .before .before .before .before .before .before .before .if1 .left) _ (c .before .before .before .before .before .before .before .before .offer .ensures .1) (sym (c .before .before .before .before .before .before .before .before .offer .ensures .0) ∙ c .before .before .before .before .enum-told .given .1) _ _ (c .before .before .echo .ensures)
 
--- src/lib.rt:324:1
 same-length-3 : tie.Need-same-length-3
 same-length-3 c = search needs
 
--- src/lib.rt:324:1
 returns-3 : tie.Need-returns-3
-returns-3 c = ?
+returns-3 c = put-refused _ _ _ _ _ _ (c .before .before .before .before .before .before .before .before .same-bytes .ensures) (c .before .before .before .before .before .before .before .if1 .left) _ (c .before .before .before .before .before .offer .ensures .1) _ (sym (c .before .before .before .before .before .offer .ensures .0) ∙ c .before .r .given .1)
 
 pub answer-put-spec : {M : Type 1} → statement M
 answer-put-spec =

@@ -1,15 +1,17 @@
+-- `key_fits`: 1 to 128 bytes.
+use Rattle.answer.proofs.Serving.{key-none, key-some}
 use Rattle.answer.proofs.key_fits.Statement.{statement}
 use Rattle.answer.proofs.key_fits.Tie as tie
-use Rattle.answer.proofs.key_fits.Reads as reads
-use Rattle.answer.proofs.key_fits.Lts as lts
 
--- src/lib.rt:262:9
 returns : tie.Need-returns
-returns c = ?
+returns c = key-none _ (c .if1 .taken)
 
--- src/lib.rt:258:1
 returns-2 : tie.Need-returns-2
-returns-2 c = ?
+returns-2 c = key-some _ (c .if1 .left)
 
 pub key-fits-spec : {M : Type 1} → statement M
-key-fits-spec = tie.close (tie.spec returns returns-2)
+key-fits-spec =
+    tie.close
+    (tie.spec
+    returns
+    returns-2)

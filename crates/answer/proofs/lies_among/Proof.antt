@@ -1,55 +1,46 @@
+-- `lies_among`: none of the first k lies there.
+use Prim.Native.Nat.{_-_}
+use native.Mathlib.Omega.{arith}
+use Rattle.answer.proofs.Entries.{Searching, search-none, search-on, search-hit, search-miss}
+use borrow.Author.Needs.{needs}
 use Rattle.answer.proofs.lies_among.Statement.{statement}
 use Rattle.answer.proofs.lies_among.Tie as tie
-use Rattle.answer.proofs.lies_among.Reads as reads
-use Rattle.answer.proofs.lies_among.Lts as lts
-use Rattle.contacts.proofs.place_of.Reads as place-of-reads
-use Rattle.octets.proofs.same_bytes.Reads as same-bytes-reads
 
 abbrev Inv-loop : tie.InvT-loop
-Inv-loop table near n x k₀ k = ?
+Inv-loop table near n x k₀ k = Searching table near x n k
 
 abbrev μ-loop : tie.MeasureT-loop
-μ-loop table near n x k₀ k = ?
+μ-loop table near n x k₀ k = n - k
 
--- src/lib.rt:114:5
 loop-holds : tie.Need-loop-holds Inv-loop μ-loop
-loop-holds c = ?
+loop-holds c = search-none _ _ _ _
 
--- src/lib.rt:115:57
 mul-place-of : tie.Need-mul-place-of Inv-loop μ-loop
-mul-place-of c = ?
+mul-place-of c = omega (arith, c .loop-test .taken, c .before .before .before .before .before .pre)
 
--- src/lib.rt:115:57
 shared-slice-read-place-of : tie.Need-shared-slice-read-place-of Inv-loop μ-loop
-shared-slice-read-place-of c = ?
+shared-slice-read-place-of c = omega (arith, c .before .loop-test .taken, c .before .before .before .before .before .before .pre)
 
--- src/lib.rt:115:31
 place-of-requires : tie.Need-place-of-requires Inv-loop μ-loop
-place-of-requires c κs = ?
+place-of-requires c κs = search needs
 
--- src/lib.rt:115:12
 same-bytes-requires : tie.Need-same-bytes-requires Inv-loop μ-loop
-same-bytes-requires c κs = ?
+same-bytes-requires c κs = search needs
 
--- src/lib.rt:116:13
 returns : tie.Need-returns Inv-loop μ-loop
-returns c = ?
+returns c = search-hit _ _ _ _ _ _ _ (c .before .before .before .before .loop-test .taken) (c .before .before .place-of .ensures) (c .before .same-bytes .ensures) (c .if1 .taken)
 
--- src/lib.rt:118:9
 add-k : tie.Need-add-k Inv-loop μ-loop
-add-k c = ?
+add-k c = omega (arith, c .before .before .before .before .loop-test .taken, c .before .before .before .before .before .before .before .before .before .pre)
 
--- src/lib.rt:114:5
 loop-less : tie.Need-loop-less Inv-loop μ-loop
-loop-less c = ?
+loop-less c = omega (arith, c .before .before .before .before .loop-test .taken)
 
--- src/lib.rt:114:5
 loop-again : tie.Need-loop-again Inv-loop μ-loop
-loop-again c = ?
+loop-again c = search-on _ _ _ _ _ _ _ (c .before .before .before .before .before .loop .inv) (c .before .before .before .before .loop-test .taken) (c .before .before .place-of .ensures) (c .before .same-bytes .ensures) (c .if1 .left)
 
--- src/lib.rt:109:1
 returns-2 : tie.Need-returns-2 Inv-loop μ-loop
-returns-2 c = ?
+returns-2 c = search-miss _ _ _ _ _ (c .before .loop .inv) (c .loop-test .left)
 
 pub lies-among-spec : {M : Type 1} → statement M
 lies-among-spec =

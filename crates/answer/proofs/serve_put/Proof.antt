@@ -1,42 +1,32 @@
+-- `serve_put`: the parts of the body that the reader found.
+use Rattle.answer.proofs.Serving.{key-inside, record-key-inside, value-inside, put-with, put-without}
 use borrow.Author.Needs.{needs}
 use Rattle.answer.proofs.serve_put.Statement.{statement}
 use Rattle.answer.proofs.serve_put.Tie as tie
-use Rattle.answer.proofs.serve_put.Reads as reads
-use Rattle.answer.proofs.serve_put.Lts as lts
-use Rattle.answer.proofs.answer_put.Reads as answer-put-reads
-use Rattle.answer.proofs.cut.Reads as cut-reads
 
--- src/lib.rt:354:43
 cut-requires : tie.Need-cut-requires
-cut-requires c κs = ?
+cut-requires c κs = key-inside _ _ (c .before .before .before .before .before .before .before .before .pre)
 
--- src/lib.rt:354:59
 cut-requires-2 : tie.Need-cut-requires-2
-cut-requires-2 c κs = ?
+cut-requires-2 c κs = record-key-inside _ _ (c .before .before .before .before .before .before .before .before .before .pre)
 
--- src/lib.rt:354:80
 cut-requires-3 : tie.Need-cut-requires-3
-cut-requires-3 c κs = ?
+cut-requires-3 c κs = value-inside _ _ (c .before .before .before .before .before .before .before .before .before .before .pre)
 
--- src/lib.rt:354:9
 answer-put-requires : tie.Need-answer-put-requires
 answer-put-requires c κs = search needs
 
--- src/lib.rt:354:9
 same-length : tie.Need-same-length
 same-length c = search needs
 
--- src/lib.rt:354:9
 same-length-2 : tie.Need-same-length-2
 same-length-2 c = search needs
 
--- src/lib.rt:354:9
 returns : tie.Need-returns
-returns c = ?
+returns c = put-with _ _ (c .before .before .before .before .before .before .before .before .before .before .before .before .before .before .before .before .pre) _ _ (c .before .before .before .before .before .before .before .before .before .before .if1 .taken) _ _ _ (c .before .before .before .before .before .before .before .cut .ensures) (c .before .before .before .before .before .before .cut2 .ensures) (c .before .before .before .before .before .cut3 .ensures) _ _ _ (c .before .before .before .before .answer-put .ensures)
 
--- src/lib.rt:347:1
 returns-2 : tie.Need-returns-2
-returns-2 c = ?
+returns-2 c = put-without _ _ (c .before .before .before .before .before .before .pre) _ _ (c .if1 .left)
 
 pub serve-put-spec : {M : Type 1} → statement M
 serve-put-spec =
