@@ -1,5 +1,5 @@
 -- The promises of the answers. Assumes nothing.
-use Prim.Native.Nat.{ℕ, zero, suc, _+_, _*_, _≤_, _<_}
+use Prim.Native.Nat.{ℕ, zero, suc, _+_, _-_, _*_, _≤_, _<_}
 use mathlib.Core.Path.{_≡_, refl, sym, ap, ap₂, subst, _∙_}
 use mathlib.Core.Bool.{Bool, true, false, cond}
 use mathlib.Core.List.{List, [], _∷_, _++_, map}
@@ -111,8 +111,10 @@ two-bytes kind h = omega (arith, number-length 1 kind (omega arith), minimal-one
 good : (m : Message) → m .kind ≤ 5 → length (m .key) ≤ 128 → heldFits (m .held) ≡ true → every peerFits (m .closer) ≡ true → m .providers ≡ [] → length (encode m) ≤ 14087 → Good m
 unfolding writable
 good m k l h c p b =
+    let q : every peerFits (m .providers) ≡ true = rw p (every-nil peerFits) in
+    let z : leb (length (encode m)) mostBody ≡ true = le-leb (length (encode m)) mostBody (omega arith) in
     record {
-      fits = all-one-more _ _ (le-leb _ _ k) (all-one-more _ _ (le-leb _ _ l) (all-one-more _ _ h (all-one-more _ _ c (all-one-more _ _ (rw p (every-nil peerFits)) (all-one-more _ _ (le-leb _ _ (omega arith)) all-none)))));
+      fits = all-one-more _ _ (le-leb _ _ k) (all-one-more _ _ (le-leb _ _ l) (all-one-more _ _ h (all-one-more _ _ c (all-one-more _ _ q (all-one-more _ _ z all-none)))));
       short = b;
     }
 
@@ -219,17 +221,21 @@ verdict-good me who h g m t k =
     (λ e. cond-ind GoodVerdict (eqb (m .kind) findNode) _ _ (λ e. keyed-good (m .key) (findNodeReply me who t (m .key)) (λ l. good-find me who h g t (m .key)))
     (λ e. cond-ind GoodVerdict (eqb (m .kind) ping) _ _ (λ e. good-ping) (λ e. tt))))
 
-replied-back : (m : Message) (k y : List ℕ) (n : ℕ) → Good m → leastReply ≤ length y → replied m k y .told ≡ Reply n → ReadsBack (replied m k y) y n
+frame-short : (m : Message) → length (encode m) ≤ 14087 → length (frame (encode m)) ≤ leastReply
 unfolding frame
+frame-short m h = omega (arith, length-append (minimal (length (encode m))) (encode m), minimal-three (length (encode m)) (omega arith))
+
+replied-back : (m : Message) (k y : List ℕ) (n : ℕ) → Good m → leastReply ≤ length y → replied m k y .told ≡ Reply n → ReadsBack (replied m k y) y n
 replied-back m k y n g l e =
     let q : length (frame (encode m)) ≡ n = cc in
-    let f : length (frame (encode m)) ≤ leastReply = omega (arith, g .short, length-append (minimal (length (encode m))) (encode m), minimal-three (length (encode m)) (omega (arith, g .short))) in
+    let f = frame-short m (g .short) in
+    let z : 0 + length (frame (encode m)) - 0 ≡ n = omega arith in
     record {
       says = m;
-      stands = rw (← q) (part-sets y 0 (frame (encode m)) (omega arith));
+      stands = sym (ap (λ (i : ℕ). take i (sets y 0 (frame (encode m)))) z) ∙ part-sets y 0 (frame (encode m)) (omega arith);
       back = round-trip m (g .fits);
       short = g .short;
-      rest = rw (← q) (drop-sets (length (frame (encode m))) y 0 (frame (encode m)) (omega arith));
+      rest = drop-sets n y 0 (frame (encode m)) (omega arith);
     }
 
 verdict-back : (v : Verdict) (k after y : List ℕ) (n : ℕ) → GoodVerdict v → leastReply ≤ length y → byVerdict v k after y .told ≡ Reply n → ReadsBack (byVerdict v k after y) y n

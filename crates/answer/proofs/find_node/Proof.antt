@@ -1,9 +1,15 @@
 -- `find_node`: the contacts, and one last entry where it is due.
 use native.Mathlib.Omega.{arith}
+use mathlib.Core.Path.{_≡_, sym}
+use lib.ListN.{length, length-map}
 use Rattle.answer.proofs.Whole.{framed-is, near-few, near-long, find-listed, find-me, find-who, find-none}
 use borrow.Author.Needs.{needs}
 use Rattle.answer.proofs.find_node.Statement.{statement}
 use Rattle.answer.proofs.find_node.Tie as tie
+
+-- the requester's place has 32 bytes
+theirs-long : (c : tie.Start) → length (c .args .who .place) ≡ 32
+theirs-long c = simp length-map at (c .good .1 .1 .0 .1 .1 .1 .1 .0 .1 .0 .1)
 
 place-of-requires : tie.Need-place-of-requires
 place-of-requires c κs = search needs
@@ -60,7 +66,7 @@ slice-aggregate-same-bytes-3 : tie.Need-slice-aggregate-same-bytes-3
 slice-aggregate-same-bytes-3 c = search needs
 
 slice-aggregate-same-bytes-4 : tie.Need-slice-aggregate-same-bytes-4
-slice-aggregate-same-bytes-4 c = search needs
+slice-aggregate-same-bytes-4 c = sym (theirs-long (c .before .before .before .before .before .before .before .before .before .before .before .before .before .before .before .before .before .before .before))
 
 same-bytes-requires-2 : tie.Need-same-bytes-requires-2
 same-bytes-requires-2 c κs = search needs
