@@ -183,17 +183,19 @@ good-get t k key h =
     good (getValueReply t k key) (omega arith) (omega arith) r f refl
     (omega (arith, size-of (getValueReply t k key) (omega arith) refl f refl, held-most (recordAt k key (found k key)) r, closer-few t (placeOf key)))
 
+no-entries : (f : ℕ) → length (written (repeated f (map encodePeer []))) ≡ 0
+unfolding repeated written
+no-entries f = refl
+
 good-put : (k key value : List ℕ) → offerAnswer k key value ≡ store.Taken → Good (putValueReply key value)
-unfolding putValueReply heldFits
+unfolding putValueReply heldFits recordWith
 good-put k key value e =
     let f = taken-fits k key value e in
-    let r : heldFits (some (recordWith key value)) ≡ true = record-fits key value (f .1) (f .2) in
+    let r : heldFits (putValueReply key value .held) ≡ true = record-fits key value (f .1) (f .2) in
     let b : length (written (single 2 key)) ≤ 131 = rw (single-full 2 key (λ z. omega (arith, f .0))) (omega (arith, f .1, bytes-short 2 key (omega arith) (omega (arith, f .1)))) in
-    good (putValueReply key value) (omega arith) (f .1) (unfold recordWith in r) (every-nil peerFits) refl
-    (omega (arith, message-length (putValueReply key value), two-bytes 0 (omega arith), (unfold recordWith in held-most (some (recordWith key value)) r), none-at 8, none-at 9))
-  where
-    none-at : (f : ℕ) → length (written (repeated f (map encodePeer []))) ≡ 0
-    none-at f = unfold repeated written in refl
+    let h : length (written (heldItems (putValueReply key value .held))) ≤ 2185 = held-most (putValueReply key value .held) r in
+    good (putValueReply key value) (omega arith) (f .1) r (every-nil peerFits) refl
+    (omega (arith, message-length (putValueReply key value), two-bytes 0 (omega arith), no-entries 8, no-entries 9))
 
 -- ---- every verdict that replies
 abbrev GoodVerdict : Verdict → Type 0

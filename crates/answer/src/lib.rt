@@ -222,7 +222,14 @@ fn reply_last(reply: &mut [u8], table: &[u8], near: &[usize], n: usize, p: Peer)
 }
 
 // GET_VALUE's reply with the record.
-fn reply_held(reply: &mut [u8], key: &[u8], value: &[u8], table: &[u8], near: &[usize], n: usize) -> usize
+fn reply_held(
+    reply: &mut [u8],
+    key: &[u8],
+    value: &[u8],
+    table: &[u8],
+    near: &[usize],
+    n: usize,
+) -> usize
     requires { ⌜ (n ≤ 20) × (n ≤ length (now near)) × (length (now key) ≤ 128) × (length (now value) ≤ 2048) ⌝ }
     ensures { λ r. ⌜ Framed (replyWith 1 (some (recordWith (now (key .entry)) (now (value .entry)))) (entriesTo (now (table .entry)) (now (near .entry)) n)) (now (reply .entry)) (now (reply .exit)) r ⌝ }
 {
@@ -321,7 +328,13 @@ fn answer_get(reply: &mut [u8], key: &[u8], table: &[u8], records: &[u8]) -> Ans
 }
 
 // Answers PUT_VALUE with a record: stores it, unless the store refuses it.
-fn answer_put(reply: &mut [u8], records: &mut [u8], key: &[u8], record_key: &[u8], value: &[u8]) -> Answered
+fn answer_put(
+    reply: &mut [u8],
+    records: &mut [u8],
+    key: &[u8],
+    record_key: &[u8],
+    value: &[u8],
+) -> Answered
     ensures { λ r. ⌜ Gives (byVerdict (putVerdict (now (key .entry)) (some (recordWith (now (record_key .entry)) (now (value .entry)))) (now (records .entry))) (now (records .entry)) (putAfter (now (key .entry)) (some (recordWith (now (record_key .entry)) (now (value .entry)))) (now (records .entry))) (now (reply .entry))) r (now (records .exit)) (now (reply .exit)) ⌝ }
 {
     if !octets::same_bytes(record_key, key) {
@@ -351,13 +364,27 @@ fn serve_put(m: Fields, body: &[u8], records: &mut [u8], reply: &mut [u8]) -> An
     let key = m.key;
     let held = m.held;
     if held.there {
-        return answer_put(reply, records, cut(body, key), cut(body, held.key), cut(body, held.value));
+        return answer_put(
+            reply,
+            records,
+            cut(body, key),
+            cut(body, held.key),
+            cut(body, held.value),
+        );
     }
     Answered::Refused(Refusal::BreaksRules)
 }
 
 // Answers the request that was read from the body.
-fn serve(me: Peer, who: Peer, m: Fields, body: &[u8], contacts: &[u8], records: &mut [u8], reply: &mut [u8]) -> Answered
+fn serve(
+    me: Peer,
+    who: Peer,
+    m: Fields,
+    body: &[u8],
+    contacts: &[u8],
+    records: &mut [u8],
+    reply: &mut [u8],
+) -> Answered
     requires { ⌜ readingOf (now body) ≡ Whole m ⌝ }
     ensures { λ r. ⌜ Gives (byVerdict (verdictOf me who (messageOf (now (body .entry))) (now (contacts .entry)) (now (records .entry))) (now (records .entry)) (recordsAfter (messageOf (now (body .entry))) (now (records .entry))) (now (reply .entry))) r (now (records .exit)) (now (reply .exit)) ⌝ }
 {
@@ -379,7 +406,14 @@ fn serve(me: Peer, who: Peer, m: Fields, body: &[u8], contacts: &[u8], records: 
 }
 
 // Answers the request whose body is here: who sent it, and who we are.
-pub fn answer(me: Peer, who: Peer, body: &[u8], contacts: &[u8], records: &mut [u8], reply: &mut [u8]) -> Answered
+pub fn answer(
+    me: Peer,
+    who: Peer,
+    body: &[u8],
+    contacts: &[u8],
+    records: &mut [u8],
+    reply: &mut [u8],
+) -> Answered
     ensures { λ r. ⌜ Gives (dealOf me who (now (body .entry)) (now (contacts .entry)) (now (records .entry)) (now (reply .entry))) r (now (records .exit)) (now (reply .exit)) ⌝ }
 {
     match message::read(body) {
