@@ -1,29 +1,29 @@
 -- Entries of closerPeers: a contact in a slot, a peer by value, and runs of contacts. Each is within the limits, whatever the bytes. Assumes nothing.
 use Prim.Native.Nat.{ℕ, zero, suc, _+_, _-_, _*_, _≤_, _<_, min}
-use mathlib.Core.Path.{_≡_, refl, sym, ap, ap₂, subst, _∙_}
+use mathlib.Core.Path.{_≡_, refl, sym, ap, subst, _∙_}
 use mathlib.Core.Logic.{⊎-elim}
-use mathlib.Core.Bool.{Bool, true, false, cond}
+use mathlib.Core.Bool.{Bool, true, false}
 use mathlib.Core.List.{List, [], _∷_, _++_, map}
 use native.Mathlib.Omega.{arith}
 use native.Mathlib.Numerals.{add-one}
-use lib.ListN.{length, getD, take, drop, length-append, length-take, length-map}
-use lib.Seq.{take-suc, take-all, take-take, take-append-seam}
+use lib.ListN.{length, getD, take, drop, length-append, length-take}
+use lib.Seq.{take-suc, take-all, take-take}
 use lib.Dec.{ltb}
 use borrow.Author.Tests.{ltb-true, ltb-false, le-ltb}
 use Rattle.octets.specs.Octets.{part, same}
 use Rattle.octets.specs.Search.{every, some as someBelow}
 use Rattle.octets.proofs.Bools.{either, to-false, not-both}
-use Rattle.octets.proofs.Searching.{some-at, some-intro, every-nil, every-cons, every-append}
+use Rattle.octets.proofs.Searching.{some-at, some-intro, every-nil, every-cons}
 use Rattle.contacts.specs.Table.{slot, place}
 use Rattle.contacts.specs.Contact.{entryId, entryAddress, entryCount, entryAddressesTo, entryAddresses}
 use Rattle.contacts.proofs.EntryFacts.{entry-id-most, entry-address-most, entry-count-most}
 use Rattle.peer.specs.declared.Peer as peers
 use Rattle.peer.specs.Addresses.{addressRoom, mostAddresses}
 use Rattle.peer.specs.Peers.{idIn, addressIn, addressesTo, addressesIn}
-use Rattle.wire.specs.Items.{Put, bytes, written, written1, repeated}
+use Rattle.wire.specs.Items.{Put, bytes, written, repeated}
 use Rattle.wire.proofs.Putting.{put-start, put-is, put-on}
 use Rattle.message.specs.Limits.{mostId, mostAddress}
-use Rattle.message.specs.Message.{Peer, encodePeer}
+use Rattle.message.specs.Message.{Peer}
 use Rattle.message.specs.Writable.{peerFits, peerPiece, peerWith}
 use Rattle.message.specs.Inner.{nthOver}
 use Rattle.message.proofs.Pieces.{over-none, over-some, fits-by-connection, peer-piece, entries-more}
@@ -169,9 +169,6 @@ room-cut s k n m e =
 
 -- ---- runs of contacts
 module _ (t near : List ℕ) where
-  entry : ℕ → Peer
-  entry i = contactEntry (slot t i)
-
   map-snoc : (l : List ℕ) (i : ℕ) → map (λ i. contactEntry (slot t i)) (l ++ (i ∷ [])) ≡ map (λ i. contactEntry (slot t i)) l ++ (contactEntry (slot t i) ∷ [])
   map-snoc [] i = refl
   map-snoc (j ∷ l) i = ap (λ (m : List Peer). contactEntry (slot t j) ∷ m) (map-snoc l i)

@@ -1,17 +1,16 @@
 -- From what a request says to its answer: keys, the store's answers, the reader's positions. Assumes nothing.
 use Prim.Native.Nat.{ℕ, _+_, _-_, _*_, _≤_, _<_}
-use mathlib.Core.Path.{_≡_, refl, sym, ap, subst, _∙_}
+use mathlib.Core.Path.{_≡_, refl, sym, ap, _∙_}
 use mathlib.Core.Logic.{⊎-elim}
-use mathlib.Core.Bool.{Bool, true, false, cond, not, _&&_}
-use mathlib.Core.List.{List, [], _∷_}
-use mathlib.Core.Option.{Option, none, some}
+use mathlib.Core.Bool.{Bool, true, false, cond, not}
+use mathlib.Core.List.{List}
+use mathlib.Core.Option.{none, some}
 use native.Mathlib.Omega.{arith}
 use lib.ListN.{length}
-use lib.Seq.{sets}
 use lib.Dec.{leb, ltb, eqb}
 use borrow.Author.Tests.{leb-true, le-leb, lt-leb, ltb-true, ne-eqb}
 use Rattle.octets.specs.Octets.{part, same}
-use Rattle.octets.proofs.Bools.{either, not-both, and-l, and-r, and-off, and-on}
+use Rattle.octets.proofs.Bools.{either, not-both, and-r, and-off, and-on}
 use Rattle.octets.proofs.Parts.{part-size}
 use Rattle.refusal.specs.declared.Refusal.{Refusal}
 use Rattle.refusal.specs.declared.Refusal.the-variants.{BreaksRules, BrokenRecipe, Providers}
@@ -21,25 +20,23 @@ use Rattle.records.specs.Limits.{slotSize, valueAt}
 use Rattle.records.specs.Store.{slotsOf, slot, valueOf, isKey, slotWith, planOf, answerOf, afterOf, heldAt, found, offerAnswer, offerAfter}
 use Rattle.records.specs.declared.Plan.{Plan}
 use Rattle.records.specs.declared.Plan.the-variants.{Write, Keep, Refuse}
-use Rattle.records.specs.declared.Answer as stored
 use Rattle.records.specs.declared.Answer.the-variants as store
-use Rattle.records.specs.declared.Found.{Found}
 use Rattle.records.specs.declared.Found.the-variants as looked
 use Rattle.records.proofs.Laying.{slot-in, slot-long, value-size, key-least, key-most}
 use Rattle.records.proofs.Putting.{plan-key, plan-recipe}
 use Rattle.peer.specs.declared.Peer as peers
 use Rattle.wire.specs.Items.{cut}
 use Rattle.message.specs.Limits.{mostKey}
-use Rattle.message.specs.Message.{Record, Message, messageOf, encode, frame}
+use Rattle.message.specs.Message.{Message, messageOf}
 use Rattle.message.specs.Writable.{recordWith}
 use Rattle.message.specs.View.{fieldsOf, heldMeant, readingOf}
 use Rattle.message.specs.declared.Fields.{Fields}
 use Rattle.message.specs.declared.Reading.{Reading}
 use Rattle.message.specs.declared.Reading.the-variants as read
-use Rattle.message.proofs.Meaning.{FieldsIn, Cuttable, key-meant, kind-meant, held-meant}
+use Rattle.message.proofs.Meaning.{FieldsIn, key-meant, kind-meant, held-meant}
 use Rattle.message.proofs.Views.{read-whole}
 use Rattle.answer.specs.Replies.{findNodeReply, getValueReply, putValueReply, pingReply}
-use Rattle.answer.specs.Answers.{Verdict, replies, refuses, keyFits, keyed, echoed, putVerdict, verdictOf, putAfter, recordsAfter, Dealt, refused, byVerdict, byReading, dealOf, Gives}
+use Rattle.answer.specs.Answers.{Verdict, replies, refuses, keyFits, keyed, putVerdict, verdictOf, putAfter, recordsAfter, Dealt, byVerdict, dealOf, Gives}
 use Rattle.answer.specs.Inner.{Framed, Told}
 use Rattle.answer.specs.declared.Answered.{Answered}
 use Rattle.answer.specs.declared.Answered.the-variants.{Reply, Refused}

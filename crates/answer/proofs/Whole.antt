@@ -1,16 +1,15 @@
 -- Whole replies: the pieces that are written one after another are the message with its prefix. Assumes nothing.
 use Prim.Native.Nat.{ℕ, _+_, _≤_, _<_}
 use mathlib.Core.Path.{_≡_, refl, sym, ap, ap₂, subst, _∙_}
-use mathlib.Core.Bool.{Bool, true, false, cond}
+use mathlib.Core.Bool.{Bool, true, false}
 use mathlib.Core.List.{List, [], _∷_, _++_, map, append-assoc, append-nil}
 use mathlib.Core.Option.{none, some}
 use native.Mathlib.Omega.{arith}
 use lib.ListN.{length, getD, take, length-append, length-take}
 use lib.Seq.{sets, getD-take}
-use borrow.Author.Tests.{le-leb, leb-true, ltb-true}
+use borrow.Author.Tests.{le-leb}
 use Rattle.octets.specs.Octets.{part, same}
-use Rattle.octets.specs.Search.{some as someBelow}
-use Rattle.octets.proofs.Bools.{cond-ind, and-l, and-r, all-none, all-one-more, same-way}
+use Rattle.octets.proofs.Bools.{cond-ind, all-none, all-one-more, same-way}
 use Rattle.octets.proofs.Searching.{some-at, some-intro}
 use Rattle.place.specs.Place.{isPlace, placeOf}
 use Rattle.contacts.specs.Table.{slotsOf, slot, place}
@@ -23,12 +22,12 @@ use Rattle.records.specs.declared.Found.the-variants as looked
 use Rattle.refusal.specs.declared.Refusal.{Refusal}
 use Rattle.wire.specs.Items.{Put, num, bytes, minimal, written, written1, single, repeated}
 use Rattle.wire.proofs.Digits.{minimal-one, minimal-three}
-use Rattle.wire.proofs.Putting.{put-on, put-is, put-start, number-length, bytes-length, single-full}
+use Rattle.wire.proofs.Putting.{put-on, put-start, number-length, bytes-length, single-full}
 use Rattle.message.specs.Message.{Peer, Record, Message, encodePeer, heldItems, encode, frame}
 use Rattle.message.specs.Writable.{peerFits, recordFits, recordPiece, peerPiece, recordWith}
 use Rattle.message.proofs.Pieces.{record-piece, entries-more}
 use Rattle.message.proofs.Sizes.{message-bytes, record-entry-most}
-use Rattle.answer.specs.Replies.{contactEntry, peerEntry, closerPeers, listed, lastEntry, findNodeReply, recordAt, getValueReply, putValueReply, pingReply}
+use Rattle.answer.specs.Replies.{peerEntry, closerPeers, listed, lastEntry, findNodeReply, getValueReply, putValueReply, pingReply}
 use Rattle.answer.specs.Inner.{entriesTo, liesAmong, entryBytes, replyWith, Framed}
 
 -- ---- a body after its prefix
@@ -132,8 +131,6 @@ module _ (buf b₁ : List ℕ) (r₁ : ℕ) (b₂ : List ℕ) (r₂ : ℕ) (b₃
       → Put buf 0 (minimal (2 + h + e) ++ written1 (num 1 1)) b₁ r₁ → Put b₁ r₁ (recordPiece (recordWith key value)) b₂ r₂ → Put b₂ r₂ (entryBytes l) b₃ r₃ → s ≡ length (minimal (2 + h + e)) + (2 + h + e)
       → Framed (replyWith 1 (some (recordWith key value)) l) buf b₃ s
   held-done key value l h e hk hv eh q p₁ p₂ p₃ es =
-      let R : List ℕ = recordPiece (recordWith key value) in
-      let m : Message = replyWith 1 (some (recordWith key value)) l in
       let b : encode (replyWith 1 (some (recordWith key value)) l) ≡ written1 (num 1 1) ++ (recordPiece (recordWith key value) ++ entryBytes l) = held-bytes 1 (recordWith key value) l (record-fits key value hk hv) in
       let n : 2 + h + e ≡ length (encode (replyWith 1 (some (recordWith key value)) l)) =
       omega (arith, ap length b, length-append (written1 (num 1 1)) (recordPiece (recordWith key value) ++ entryBytes l), length-append (recordPiece (recordWith key value)) (entryBytes l), two-bytes 1 (omega arith), q .0) in
@@ -175,9 +172,6 @@ module _ (t x : List ℕ) (near : Closest) (e : near ≡ nearestOf t x) where
 
   pub near-long : near .n ≤ length (near .at)
   near-long = omega (arith, near-few, ap length near-list, length-filled (nearestSlots t x))
-
-  pub near-both : (near .n ≤ 20) × (near .n ≤ length (near .at))
-  near-both = (near-few, near-long)
 
   pub near-entries : entriesTo t (near .at) (near .n) ≡ closerPeers t x
   unfolding entriesTo closerPeers

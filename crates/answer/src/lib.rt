@@ -1,6 +1,5 @@
 // The replies to requests, written straight from contact and record memory into a reply buffer. Every function takes any bytes: callers test
 // form and sizes first.
-use contacts::Closest;
 use message::Fields;
 use peer::Peer;
 use records::Found;
@@ -14,7 +13,7 @@ ghost use Prim.Native.Nat.{_+_, _*_, _<_, _≤_, min};
 ghost use lib.ListN.{length, take};
 ghost use Rattle.octets.specs.Octets.{part};
 ghost use Rattle.contacts.specs.Table.{slot};
-ghost use Rattle.wire.specs.Items.{Put, minimal, num, written1, written, single};
+ghost use Rattle.wire.specs.Items.{Put, minimal, num, written1};
 ghost use Rattle.message.specs.Message.{messageOf};
 ghost use Rattle.message.specs.Writable.{peerFits, peerPiece, recordWith};
 ghost use Rattle.message.specs.View.{readingOf};

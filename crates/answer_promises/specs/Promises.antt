@@ -1,4 +1,4 @@
--- What follows from the definitions of the answers, for every input. proofs/Promised shows each.
+-- What follows from the definitions of the answers, for every input. proofs/Promised.antt shows each.
 use Prim.Native.Nat.{ℕ, _≤_}
 use mathlib.Core.Path.{_≡_}
 use mathlib.Core.Bool.{true}

@@ -1,11 +1,11 @@
 -- The promises of the answers. Assumes nothing.
-use Prim.Native.Nat.{ℕ, zero, suc, _+_, _-_, _*_, _≤_, _<_}
-use mathlib.Core.Path.{_≡_, refl, sym, ap, ap₂, subst, _∙_}
-use mathlib.Core.Bool.{Bool, true, false, cond}
+use Prim.Native.Nat.{ℕ, _+_, _-_, _*_, _≤_}
+use mathlib.Core.Path.{_≡_, refl, sym, ap, ap₂, _∙_}
+use mathlib.Core.Bool.{true}
 use mathlib.Core.List.{List, [], _∷_, _++_, map}
 use mathlib.Core.Option.{Option, none, some}
 use native.Mathlib.Omega.{arith}
-use lib.ListN.{length, take, drop, length-append, length-map, length-take}
+use lib.ListN.{length, take, length-append, length-map}
 use lib.Seq.{sets, take-all}
 use lib.Dec.{leb, eqb}
 use borrow.Author.Tests.{le-leb, leb-true}
@@ -18,10 +18,9 @@ use Rattle.place.specs.Place.{placeOf}
 use Rattle.contacts.specs.Table.{slot}
 use Rattle.contacts.specs.Near.{nearestSlots}
 use Rattle.refusal.specs.declared.Refusal.{Refusal}
-use Rattle.refusal.specs.declared.Refusal.the-variants.{BreaksRules, Providers}
 use Rattle.peer.specs.declared.Peer as peers
-use Rattle.peer.specs.Addresses.{idRoom, addressRoom, mostAddresses, usableSize, keptOf}
-use Rattle.peer.specs.Peers.{idFits, peerOf, idIn, addressesIn}
+use Rattle.peer.specs.Addresses.{idRoom, addressRoom, mostAddresses, keptOf}
+use Rattle.peer.specs.Peers.{idFits}
 use Rattle.peer.proofs.Lists.{isUsable, size-most, kept-few, kept-usable}
 use Rattle.peer.proofs.Meaning.{id-whole, addresses-said}
 use Rattle.records.specs.Store.{inForm, found, offerAnswer, offerAfter}
@@ -33,22 +32,21 @@ use Rattle.records.proofs.Stays.{offer-form}
 use Rattle.wire.specs.Items.{num, minimal, written, written1, single, repeated}
 use Rattle.wire.proofs.Digits.{minimal-one, minimal-three}
 use Rattle.wire.proofs.Putting.{number-length, single-full, bytes-short}
-use Rattle.message.specs.Limits.{mostKind, mostKey, mostBody, leastReply}
-use Rattle.message.specs.Message.{Peer, Record, Message, messageOf, encodePeer, heldItems, decode, encode, frame}
+use Rattle.message.specs.Limits.{mostKey, mostBody, leastReply}
+use Rattle.message.specs.Message.{Peer, Record, Message, messageOf, encodePeer, heldItems, encode, frame}
 use Rattle.message.specs.Writable.{peerFits, heldFits, recordWith, writable}
 use Rattle.message.specs.View.{readingOf}
 use Rattle.message.specs.declared.Reading.{Reading}
 use Rattle.message.specs.declared.Reading.the-variants as read
 use Rattle.message.proofs.Sizes.{message-length, held-most, entries-most}
 use Rattle.message.proofs.RoundTrip.{round-trip}
 use Rattle.answer.specs.Replies.{putValue, getValue, findNode, ping, contactEntry, peerEntry, closerPeers, listed, lastEntry, findNodeReply, recordAt, getValueReply, putValueReply, pingReply}
-use Rattle.answer.specs.Answers.{Verdict, replies, refuses, keyFits, keyed, echoed, putVerdict, verdictOf, putAfter, recordsAfter, Dealt, refused, replied, byVerdict, byReading, dealOf}
-use Rattle.answer.specs.Promises.{RefusedChangesNothing, ReadsBack, Roomed, RepliesReadBack, EntryIsPeer, RecordsStayInForm}
-use Rattle.answer.specs.declared.Answered.{Answered}
+use Rattle.answer.specs.Answers.{Verdict, replies, refuses, keyFits, keyed, echoed, putVerdict, verdictOf, putAfter, recordsAfter, replied, byVerdict, byReading, dealOf}
+use Rattle.answer_promises.specs.Promises.{RefusedChangesNothing, ReadsBack, Roomed, RepliesReadBack, EntryIsPeer, RecordsStayInForm}
 use Rattle.answer.specs.declared.Answered.the-variants.{Reply, Refused}
-use Rattle.answer.proofs.Entries.{contact-fits, own-fits, id-most, entries-fit}
+use Rattle.answer.proofs.Entries.{own-fits, id-most, entries-fit}
 use Rattle.answer.proofs.Whole.{record-fits, nearest-few}
-use Rattle.answer.proofs.Serving.{Lies, held-lies, value-short, taken-fits}
+use Rattle.answer.proofs.Serving.{held-lies, value-short, taken-fits}
 
 -- ---- a refusal
 verdict-refused : (v : Verdict) (k after y : List ℕ) (r : Refusal) → byVerdict v k after y .told ≡ Refused r → (byVerdict v k after y .records ≡ k) × (byVerdict v k after y .reply ≡ y)
@@ -163,7 +161,6 @@ module _ (me who : peers.Peer) (h : Roomed me) (g : Roomed who) (t : List ℕ) w
   good-find : (key : List ℕ) → Good (findNodeReply me who t key)
   unfolding findNodeReply heldFits LastGood
   good-find key =
-      let x : List ℕ = placeOf key in
       let w = last-good (placeOf key) in
       let f : every peerFits (closerPeers t (placeOf key) ++ lastEntry me who t (placeOf key)) ≡ true = every-append peerFits (closerPeers t (placeOf key)) (lastEntry me who t (placeOf key)) (closer-fit t (placeOf key)) (w .0) in
       good (findNodeReply me who t key) (omega arith) (omega arith) refl f refl
