@@ -1,0 +1,251 @@
+-- The promises of the answers. Assumes nothing.
+use Prim.Native.Nat.{ℕ, _+_, _-_, _*_, _≤_}
+use mathlib.Core.Path.{_≡_, refl, sym, ap, ap₂, _∙_}
+use mathlib.Core.Bool.{true}
+use mathlib.Core.List.{List, [], _∷_, _++_, map}
+use mathlib.Core.Option.{Option, none, some}
+use native.Mathlib.Omega.{arith}
+use lib.ListN.{length, take, length-append, length-map}
+use lib.Seq.{sets, take-all}
+use lib.Dec.{leb, eqb}
+use borrow.Author.Tests.{le-leb, leb-true}
+use Rattle.octets.specs.Octets.{part, same}
+use Rattle.octets.specs.Search.{every}
+use Rattle.octets.proofs.Bools.{cond-ind, and-r, all-none, all-one-more}
+use Rattle.octets.proofs.Searching.{every-nil, every-cons, every-head, every-tail, every-append}
+use Rattle.octets.proofs.Stores.{drop-sets, part-sets}
+use Rattle.place.specs.Place.{placeOf}
+use Rattle.contacts.specs.Table.{slot}
+use Rattle.contacts.specs.Near.{nearestSlots}
+use Rattle.refusal.specs.declared.Refusal.{Refusal}
+use Rattle.peer.specs.declared.Peer as peers
+use Rattle.peer.specs.Addresses.{idRoom, addressRoom, mostAddresses, keptOf}
+use Rattle.peer.specs.Peers.{idFits}
+use Rattle.peer.proofs.Lists.{isUsable, size-most, kept-few, kept-usable}
+use Rattle.peer.proofs.Meaning.{id-whole, addresses-said}
+use Rattle.records.specs.Store.{inForm, found, offerAnswer, offerAfter}
+use Rattle.records.specs.declared.Answer as stored
+use Rattle.records.specs.declared.Answer.the-variants as store
+use Rattle.records.specs.declared.Found.{Found}
+use Rattle.records.specs.declared.Found.the-variants as looked
+use Rattle.records.proofs.Stays.{offer-form}
+use Rattle.wire.specs.Items.{num, minimal, written, written1, single, repeated}
+use Rattle.wire.proofs.Digits.{minimal-one, minimal-three}
+use Rattle.wire.proofs.Putting.{number-length, single-full, bytes-short}
+use Rattle.message.specs.Limits.{mostKey, mostBody, leastReply}
+use Rattle.message.specs.Message.{Peer, Record, Message, messageOf, encodePeer, heldItems, encode, frame}
+use Rattle.message.specs.Writable.{peerFits, heldFits, recordWith, writable}
+use Rattle.message.specs.View.{readingOf}
+use Rattle.message.specs.declared.Reading.{Reading}
+use Rattle.message.specs.declared.Reading.the-variants as read
+use Rattle.message.proofs.Sizes.{message-length, held-most, entries-most}
+use Rattle.message.proofs.RoundTrip.{round-trip}
+use Rattle.answer.specs.Replies.{putValue, getValue, findNode, ping, contactEntry, peerEntry, closerPeers, listed, lastEntry, findNodeReply, recordAt, getValueReply, putValueReply, pingReply}
+use Rattle.answer.specs.Answers.{Verdict, replies, refuses, keyFits, keyed, echoed, putVerdict, verdictOf, putAfter, recordsAfter, replied, byVerdict, byReading, dealOf}
+use Rattle.answer_promises.specs.Promises.{RefusedChangesNothing, ReadsBack, Roomed, RepliesReadBack, EntryIsPeer, RecordsStayInForm}
+use Rattle.answer.specs.declared.Answered.the-variants.{Reply, Refused}
+use Rattle.answer.proofs.Entries.{own-fits, id-most, entries-fit}
+use Rattle.answer.proofs.Whole.{record-fits, nearest-few}
+use Rattle.answer.proofs.Serving.{held-lies, value-short, taken-fits}
+
+-- ---- a refusal
+verdict-refused : (v : Verdict) (k after y : List ℕ) (r : Refusal) → byVerdict v k after y .told ≡ Refused r → (byVerdict v k after y .records ≡ k) × (byVerdict v k after y .reply ≡ y)
+verdict-refused (replies m) k after y r e = absurd (let z : _≡_ {A = ℕ} 0 1 = cc in omega arith)
+verdict-refused (refuses f) k after y r e = (refl, refl)
+
+reading-refused : (a : Reading) (me who : peers.Peer) (m : Message) (t k y : List ℕ) (r : Refusal) → byReading a me who m t k y .told ≡ Refused r
+    → (byReading a me who m t k y .records ≡ k) × (byReading a me who m t k y .reply ≡ y)
+reading-refused (read.Refused f) me who m t k y r e = (refl, refl)
+reading-refused (read.Whole f) me who m t k y r e = verdict-refused (verdictOf me who m t k) k (recordsAfter m k) y r e
+
+pub refused-changes-nothing : RefusedChangesNothing
+unfolding dealOf
+refused-changes-nothing me who body t k y r e = reading-refused (readingOf body) me who (messageOf body) t k y r e
+
+-- ---- the records
+put-form : (key : List ℕ) (held : Option Record) (k : List ℕ) → inForm k ≡ true → inForm (putAfter key held k) ≡ true
+unfolding putAfter
+put-form key none k f = f
+put-form key (some r) k f =
+    cond-ind (λ (x : List ℕ). inForm x ≡ true) (same (r .key) key) (offerAfter k key (r .value)) k (λ e. offer-form k key (r .value) f) (λ e. f)
+
+after-form : (m : Message) (k : List ℕ) → inForm k ≡ true → inForm (recordsAfter m k) ≡ true
+unfolding recordsAfter
+after-form m k f = cond-ind (λ (x : List ℕ). inForm x ≡ true) (eqb (m .kind) putValue) (putAfter (m .key) (m .held) k) k (λ e. put-form (m .key) (m .held) k f) (λ e. f)
+
+verdict-form : (v : Verdict) (k after y : List ℕ) → inForm k ≡ true → inForm after ≡ true → inForm (byVerdict v k after y .records) ≡ true
+verdict-form (replies m) k after y f g = g
+verdict-form (refuses r) k after y f g = f
+
+reading-form : (a : Reading) (me who : peers.Peer) (m : Message) (t k y : List ℕ) → inForm k ≡ true → inForm (byReading a me who m t k y .records) ≡ true
+reading-form (read.Refused f) me who m t k y h = h
+reading-form (read.Whole f) me who m t k y h = verdict-form (verdictOf me who m t k) k (recordsAfter m k) y h (after-form m k h)
+
+pub records-stay-in-form : RecordsStayInForm
+unfolding dealOf
+records-stay-in-form me who body t k y h = reading-form (readingOf body) me who (messageOf body) t k y h
+
+-- ---- the entry of a peer
+whole-rooms : (l : List (List ℕ)) → every isUsable l ≡ true → map (take addressRoom) l ≡ l
+whole-rooms [] e = refl
+whole-rooms (a ∷ l) e =
+    ap₂ (λ (x : List ℕ) (m : List (List ℕ)). x ∷ m) (take-all addressRoom a (size-most (length a) (every-head isUsable a l e))) (whole-rooms l (every-tail isUsable a l e))
+
+pub entry-is-peer : EntryIsPeer
+unfolding peerEntry idFits
+entry-is-peer id place addresses e = (
+  id-whole id place addresses (leb-true (length id) idRoom (and-r (leb 1 (length id)) (leb (length id) idRoom) e)),
+  rw (addresses-said id place addresses, take-all mostAddresses (keptOf addresses) (kept-few addresses)) (whole-rooms (keptOf addresses) (kept-usable addresses)),
+)
+
+-- ---- replies are within the limits
+record Good (m : Message) : Type 0 where
+  pub fits : writable m ≡ true
+  pub short : length (encode m) ≤ 14087
+
+two-bytes : (kind : ℕ) → kind ≤ 5 → length (written1 (num 1 kind)) ≡ 2
+two-bytes kind h = omega (arith, number-length 1 kind (omega arith), minimal-one kind (omega arith))
+
+good : (m : Message) → m .kind ≤ 5 → length (m .key) ≤ 128 → heldFits (m .held) ≡ true → every peerFits (m .closer) ≡ true → m .providers ≡ [] → length (encode m) ≤ 14087 → Good m
+unfolding writable
+good m k l h c p b =
+    let q : every peerFits (m .providers) ≡ true = rw p (every-nil peerFits) in
+    let z : leb (length (encode m)) mostBody ≡ true = le-leb (length (encode m)) mostBody (omega arith) in
+    record {
+      fits = all-one-more _ _ (le-leb _ _ k) (all-one-more _ _ (le-leb _ _ l) (all-one-more _ _ h (all-one-more _ _ c (all-one-more _ _ q (all-one-more _ _ z all-none)))));
+      short = b;
+    }
+
+-- the size of a reply with no key: type, record and closer peers
+size-of : (m : Message) → m .kind ≤ 5 → m .key ≡ [] → every peerFits (m .closer) ≡ true → m .providers ≡ []
+    → length (encode m) ≤ 2 + length (written (heldItems (m .held))) + 595 * length (m .closer)
+unfolding single repeated written
+size-of m k ek c ep =
+    let b : length (written (single 2 (m .key))) ≡ 0 = rw ek in
+    let e : length (written (repeated 9 (map encodePeer (m .providers)))) ≡ 0 = rw ep in
+    omega (arith, message-length m, two-bytes (m .kind) k, entries-most 8 (m .closer) (omega arith) c)
+
+no-held : length (written (heldItems none)) ≡ 0
+unfolding heldItems written
+no-held = refl
+
+good-ping : Good pingReply
+unfolding pingReply heldFits
+good-ping = good pingReply (omega arith) (omega arith) refl (every-nil peerFits) refl (omega (arith, size-of pingReply (omega arith) refl (every-nil peerFits) refl, no-held))
+
+closer-fit : (t x : List ℕ) → every peerFits (closerPeers t x) ≡ true
+unfolding closerPeers
+closer-fit t x = entries-fit t [] (nearestSlots t x)
+
+closer-few : (t x : List ℕ) → length (closerPeers t x) ≤ 20
+unfolding closerPeers
+closer-few t x = omega (arith, length-map (nearestSlots t x) (λ i. contactEntry (slot t i)), nearest-few t x)
+
+module _ (me who : peers.Peer) (h : Roomed me) (g : Roomed who) (t : List ℕ) where
+  LastGood : List Peer → Type 0
+  LastGood l = (every peerFits l ≡ true) × (length l ≤ 1)
+
+  last-good : (x : List ℕ) → LastGood (lastEntry me who t x)
+  unfolding lastEntry LastGood
+  last-good x =
+      cond-ind LastGood (listed t x) [] _ (λ e. empty)
+      (λ e. cond-ind LastGood (same x (me .place)) (peerEntry me ∷ []) _ (λ q. one me h)
+      (λ q. cond-ind LastGood (same x (who .place)) (peerEntry who ∷ []) [] (λ w. one who g) (λ w. empty)))
+    where
+      empty : (every peerFits [] ≡ true) × (length {A = Peer} [] ≤ 1)
+      empty = (every-nil peerFits, omega arith)
+
+      one : (p : peers.Peer) → Roomed p → (every peerFits (peerEntry p ∷ []) ≡ true) × (length (peerEntry p ∷ []) ≤ 1)
+      one p r = (every-cons peerFits (peerEntry p) [] (own-fits p (id-most p r)) (every-nil peerFits), omega arith)
+
+  good-find : (key : List ℕ) → Good (findNodeReply me who t key)
+  unfolding findNodeReply heldFits LastGood
+  good-find key =
+      let w = last-good (placeOf key) in
+      let f : every peerFits (closerPeers t (placeOf key) ++ lastEntry me who t (placeOf key)) ≡ true = every-append peerFits (closerPeers t (placeOf key)) (lastEntry me who t (placeOf key)) (closer-fit t (placeOf key)) (w .0) in
+      good (findNodeReply me who t key) (omega arith) (omega arith) refl f refl
+      (omega (arith, size-of (findNodeReply me who t key) (omega arith) refl f refl, no-held, length-append (closerPeers t (placeOf key)) (lastEntry me who t (placeOf key)), closer-few t (placeOf key), w .1))
+
+record-good : (k key : List ℕ) → length key ≤ 128 → (f : Found) → found k key ≡ f → heldFits (recordAt k key f) ≡ true
+unfolding heldFits
+record-good k key h (looked.Held a z) e = unfold recordWith in record-fits key (part k a z) h (value-short k key a z (held-lies k key a z e))
+record-good k key h looked.NotHeld e = refl
+record-good k key h (looked.Refused r) e = refl
+
+good-get : (t k key : List ℕ) → length key ≤ 128 → Good (getValueReply t k key)
+unfolding getValueReply
+good-get t k key h =
+    let r = record-good k key h (found k key) refl in
+    let f = closer-fit t (placeOf key) in
+    good (getValueReply t k key) (omega arith) (omega arith) r f refl
+    (omega (arith, size-of (getValueReply t k key) (omega arith) refl f refl, held-most (recordAt k key (found k key)) r, closer-few t (placeOf key)))
+
+no-entries : (f : ℕ) → length (written (repeated f (map encodePeer []))) ≡ 0
+unfolding repeated written
+no-entries f = refl
+
+good-put : (k key value : List ℕ) → offerAnswer k key value ≡ store.Taken → Good (putValueReply key value)
+unfolding putValueReply heldFits recordWith
+good-put k key value e =
+    let f = taken-fits k key value e in
+    let r : heldFits (putValueReply key value .held) ≡ true = record-fits key value (f .1) (f .2) in
+    let b : length (written (single 2 key)) ≤ 131 = rw (single-full 2 key (λ z. omega (arith, f .0))) (omega (arith, f .1, bytes-short 2 key (omega arith) (omega (arith, f .1)))) in
+    let h : length (written (heldItems (putValueReply key value .held))) ≤ 2185 = held-most (putValueReply key value .held) r in
+    good (putValueReply key value) (omega arith) (f .1) r (every-nil peerFits) refl
+    (omega (arith, message-length (putValueReply key value), two-bytes 0 (omega arith), no-entries 8, no-entries 9))
+
+-- ---- every verdict that replies
+abbrev GoodVerdict : Verdict → Type 0
+GoodVerdict (replies m) = Good m
+GoodVerdict (refuses r) = Unit {0}
+
+echoed-good : (k key value : List ℕ) (a : stored.Answer) → offerAnswer k key value ≡ a → GoodVerdict (echoed a (putValueReply key value))
+echoed-good k key value store.Taken e = good-put k key value e
+echoed-good k key value (store.Refused r) e = tt
+
+put-good : (key : List ℕ) (held : Option Record) (k : List ℕ) → GoodVerdict (putVerdict key held k)
+unfolding putVerdict
+put-good key none k = tt
+put-good key (some r) k = cond-ind GoodVerdict (same (r .key) key) _ _ (λ e. echoed-good k key (r .value) (offerAnswer k key (r .value)) refl) (λ e. tt)
+
+keyed-good : (key : List ℕ) (m : Message) → (length key ≤ 128 → Good m) → GoodVerdict (keyed key m)
+unfolding keyed keyFits
+keyed-good key m g = cond-ind GoodVerdict (keyFits key) _ _ (λ e. g (leb-true (length key) mostKey (and-r (leb 1 (length key)) (leb (length key) mostKey) e))) (λ e. tt)
+
+verdict-good : (me who : peers.Peer) → Roomed me → Roomed who → (m : Message) (t k : List ℕ) → GoodVerdict (verdictOf me who m t k)
+unfolding verdictOf
+verdict-good me who h g m t k =
+    cond-ind GoodVerdict (eqb (m .kind) putValue) _ _ (λ e. put-good (m .key) (m .held) k)
+    (λ e. cond-ind GoodVerdict (eqb (m .kind) getValue) _ _ (λ e. keyed-good (m .key) (getValueReply t k (m .key)) (good-get t k (m .key)))
+    (λ e. cond-ind GoodVerdict (eqb (m .kind) findNode) _ _ (λ e. keyed-good (m .key) (findNodeReply me who t (m .key)) (λ l. good-find me who h g t (m .key)))
+    (λ e. cond-ind GoodVerdict (eqb (m .kind) ping) _ _ (λ e. good-ping) (λ e. tt))))
+
+frame-short : (m : Message) → length (encode m) ≤ 14087 → length (frame (encode m)) ≤ leastReply
+unfolding frame
+frame-short m h = omega (arith, length-append (minimal (length (encode m))) (encode m), minimal-three (length (encode m)) (omega arith))
+
+replied-back : (m : Message) (k y : List ℕ) (n : ℕ) → Good m → leastReply ≤ length y → replied m k y .told ≡ Reply n → ReadsBack (replied m k y) y n
+replied-back m k y n g l e =
+    let q : length (frame (encode m)) ≡ n = cc in
+    let f = frame-short m (g .short) in
+    let z : 0 + length (frame (encode m)) - 0 ≡ n = omega arith in
+    record {
+      says = m;
+      stands = sym (ap (λ (i : ℕ). take i (sets y 0 (frame (encode m)))) z) ∙ part-sets y 0 (frame (encode m)) (omega arith);
+      back = round-trip m (g .fits);
+      short = g .short;
+      rest = drop-sets n y 0 (frame (encode m)) (omega arith);
+    }
+
+verdict-back : (v : Verdict) (k after y : List ℕ) (n : ℕ) → GoodVerdict v → leastReply ≤ length y → byVerdict v k after y .told ≡ Reply n → ReadsBack (byVerdict v k after y) y n
+verdict-back (replies m) k after y n g l e = replied-back m after y n g l e
+verdict-back (refuses r) k after y n g l e = absurd (let z : _≡_ {A = ℕ} 0 1 = cc in omega arith)
+
+reading-back : (a : Reading) (me who : peers.Peer) → Roomed me → Roomed who → (m : Message) (t k y : List ℕ) (n : ℕ) → leastReply ≤ length y → byReading a me who m t k y .told ≡ Reply n
+    → ReadsBack (byReading a me who m t k y) y n
+reading-back (read.Refused r) me who h g m t k y n l e = absurd (let z : _≡_ {A = ℕ} 0 1 = cc in omega arith)
+reading-back (read.Whole f) me who h g m t k y n l e = verdict-back (verdictOf me who m t k) k (recordsAfter m k) y n (verdict-good me who h g m t k) l e
+
+pub replies-read-back : RepliesReadBack
+unfolding dealOf
+replies-read-back me who h g body t k y l n e = reading-back (readingOf body) me who h g (messageOf body) t k y n l e

@@ -1,0 +1,51 @@
+-- What follows from the definitions of the answers, for every input. proofs/Promised.antt shows each.
+use Prim.Native.Nat.{ℕ, _≤_}
+use mathlib.Core.Path.{_≡_}
+use mathlib.Core.Bool.{true}
+use mathlib.Core.List.{List}
+use mathlib.Core.Option.{some}
+use lib.ListN.{length, take, drop}
+use Rattle.refusal.specs.declared.Refusal.{Refusal}
+use Rattle.peer.specs.declared.Peer as peers
+use Rattle.peer.specs.Addresses.{idRoom, keptOf}
+use Rattle.peer.specs.Peers.{idFits, peerOf}
+use Rattle.records.specs.Store.{inForm}
+use Rattle.message.specs.Limits.{leastReply}
+use Rattle.message.specs.Message.{Message, decode, encode, frame}
+use Rattle.answer.specs.Replies.{peerEntry}
+use Rattle.answer.specs.Answers.{Dealt, dealOf}
+use Rattle.answer.specs.declared.Answered.the-variants.{Reply, Refused}
+
+-- a request that is refused changes nothing
+abbrev pub RefusedChangesNothing : Type 0
+RefusedChangesNothing =
+    (me who : peers.Peer) (body t k y : List ℕ) (r : Refusal) → dealOf me who body t k y .told ≡ Refused r
+    → (dealOf me who body t k y .records ≡ k) × (dealOf me who body t k y .reply ≡ y)
+
+-- a reply of n bytes stands in the buffer: a message with its prefix, which reads back as the same message; "bytes after a reply stay". 14,087 is document
+-- 01's largest reply body
+pub record ReadsBack (d : Dealt) (y : List ℕ) (n : ℕ) : Type 0 where
+  pub says : Message
+  pub stands : take n (d .reply) ≡ frame (encode says)
+  pub back : decode (encode says) ≡ some says
+  pub short : length (encode says) ≤ 14087
+  pub rest : drop n (d .reply) ≡ drop n y
+
+-- the room for the id in the code's type of peers
+abbrev pub Roomed : peers.Peer → Type 0
+Roomed p = length (p .id) ≡ idRoom
+
+abbrev pub RepliesReadBack : Type 0
+RepliesReadBack =
+    (me who : peers.Peer) → Roomed me → Roomed who → (body t k y : List ℕ) → leastReply ≤ length y → (n : ℕ) → dealOf me who body t k y .told ≡ Reply n
+    → ReadsBack (dealOf me who body t k y) y n
+
+-- the entry for us or the requester has the id and the usable addresses that were handed in
+abbrev pub EntryIsPeer : Type 0
+EntryIsPeer =
+    (id place addresses : List ℕ) → idFits id ≡ true
+    → (peerEntry (peerOf id place addresses) .id ≡ id) × (peerEntry (peerOf id place addresses) .addrs ≡ keptOf addresses)
+
+-- the records stay in form
+abbrev pub RecordsStayInForm : Type 0
+RecordsStayInForm = (me who : peers.Peer) (body t k y : List ℕ) → inForm k ≡ true → inForm (dealOf me who body t k y .records) ≡ true
