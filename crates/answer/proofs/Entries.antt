@@ -21,13 +21,13 @@ use Rattle.peer.specs.declared.Peer as peers
 use Rattle.peer.specs.Addresses.{addressRoom, mostAddresses}
 use Rattle.peer.specs.Peers.{idIn, addressIn, addressesTo, addressesIn}
 use Rattle.wire.specs.Items.{Put, bytes, written, repeated}
-use Rattle.wire.proofs.Putting.{put-start, put-is, put-on}
+use Rattle.wire_put.proofs.Putting.{put-start, put-is, put-on}
 use Rattle.message.specs.Limits.{mostId, mostAddress}
 use Rattle.message.specs.Message.{Peer}
-use Rattle.message.specs.Writable.{peerFits, peerPiece, peerWith}
-use Rattle.message.specs.Inner.{nthOver}
-use Rattle.message.proofs.Pieces.{over-none, over-some, fits-by-connection, peer-piece, entries-more}
-use Rattle.message.proofs.Sizes.{entry-most}
+use Rattle.pieces.specs.Writable.{peerFits, peerPiece, peerWith}
+use Rattle.pieces.specs.Inner.{nthOver}
+use Rattle.pieces.proofs.Pieces.{over-none, over-some, fits-by-connection, peer-piece, entries-more}
+use Rattle.pieces.proofs.Sizes.{entry-most}
 use Rattle.answer.specs.Replies.{contactEntry, peerEntry}
 use Rattle.answer.specs.Inner.{entriesTo, liesAmong, entryBytes}
 

@@ -28,7 +28,7 @@ use Rattle.peer.specs.declared.Peer as peers
 use Rattle.wire.specs.Items.{cut}
 use Rattle.message.specs.Limits.{mostKey}
 use Rattle.message.specs.Message.{Message, messageOf}
-use Rattle.message.specs.Writable.{recordWith}
+use Rattle.pieces.specs.Writable.{recordWith}
 use Rattle.message.specs.View.{fieldsOf, heldMeant, readingOf}
 use Rattle.message.specs.declared.Fields.{Fields}
 use Rattle.message.specs.declared.Reading.{Reading}

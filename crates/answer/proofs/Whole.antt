@@ -21,12 +21,12 @@ use Rattle.records.specs.Store.{found}
 use Rattle.records.specs.declared.Found.the-variants as looked
 use Rattle.refusal.specs.declared.Refusal.{Refusal}
 use Rattle.wire.specs.Items.{Put, num, bytes, minimal, written, written1, single, repeated}
-use Rattle.wire.proofs.Digits.{minimal-one, minimal-three}
-use Rattle.wire.proofs.Putting.{put-on, put-start, number-length, bytes-length, single-full}
+use Rattle.wire_put.proofs.Digits.{minimal-one, minimal-three}
+use Rattle.wire_put.proofs.Putting.{put-on, put-start, number-length, bytes-length, single-full}
 use Rattle.message.specs.Message.{Peer, Record, Message, encodePeer, heldItems, encode, frame}
-use Rattle.message.specs.Writable.{peerFits, recordFits, recordPiece, peerPiece, recordWith}
-use Rattle.message.proofs.Pieces.{record-piece, entries-more}
-use Rattle.message.proofs.Sizes.{message-bytes, record-entry-most}
+use Rattle.pieces.specs.Writable.{peerFits, recordFits, recordPiece, peerPiece, recordWith}
+use Rattle.pieces.proofs.Pieces.{record-piece, entries-more}
+use Rattle.pieces.proofs.Sizes.{message-bytes, record-entry-most}
 use Rattle.answer.specs.Replies.{peerEntry, closerPeers, listed, lastEntry, findNodeReply, getValueReply, putValueReply, pingReply}
 use Rattle.answer.specs.Inner.{entriesTo, liesAmong, entryBytes, replyWith, Framed}
 

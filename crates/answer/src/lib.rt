@@ -15,7 +15,7 @@ ghost use Rattle.octets.specs.Octets.{part};
 ghost use Rattle.contacts.specs.Table.{slot};
 ghost use Rattle.wire.specs.Items.{Put, minimal, num, written1};
 ghost use Rattle.message.specs.Message.{messageOf};
-ghost use Rattle.message.specs.Writable.{peerFits, peerPiece, recordWith};
+ghost use Rattle.pieces.specs.Writable.{peerFits, peerPiece, recordWith};
 ghost use Rattle.message.specs.View.{readingOf};
 ghost use Rattle.message.specs.declared.Reading.the-variants.{Whole};
 ghost use Rattle.answer.specs.Replies.{contactEntry, peerEntry, getValueReply, findNodeReply, putValueReply, pingReply};
@@ -46,7 +46,7 @@ pub enum Answered {
 fn contact_len(table: &[u8], i: usize) -> usize
     ensures { λ r. ⌜ (r ≡ length (peerPiece 8 (contactEntry (slot (now (table .entry)) i)))) × (r ≤ 595) ⌝ }
 {
-    message::peer_len(
+    pieces::peer_len(
         CLOSER,
         contacts::id_of(table, i),
         contacts::address_count(table, i),
@@ -62,7 +62,7 @@ fn contact_len(table: &[u8], i: usize) -> usize
 fn put_contact(buf: &mut [u8], at: usize, table: &[u8], i: usize) -> usize
     ensures { λ r. ⌜ Put (now (buf .entry)) at (peerPiece 8 (contactEntry (slot (now (table .entry)) i))) (now (buf .exit)) r ⌝ }
 {
-    message::put_peer(
+    pieces::put_peer(
         buf,
         at,
         CLOSER,
@@ -147,7 +147,7 @@ fn own_len(p: Peer) -> usize
     let addrs = p.addrs;
     let lens = p.lens;
     let size = at_most(p.size, peer::ID);
-    message::peer_len(
+    pieces::peer_len(
         CLOSER,
         &id[..size],
         p.count as usize,
@@ -167,7 +167,7 @@ fn put_own(buf: &mut [u8], at: usize, p: Peer) -> usize
     let addrs = p.addrs;
     let lens = p.lens;
     let size = at_most(p.size, peer::ID);
-    message::put_peer(
+    pieces::put_peer(
         buf,
         at,
         CLOSER,
@@ -185,8 +185,8 @@ fn put_own(buf: &mut [u8], at: usize, p: Peer) -> usize
 fn begin(reply: &mut [u8], size: usize, kind: u64) -> usize
     ensures { λ r. ⌜ Put (now (reply .entry)) 0 (minimal size ++ written1 (num 1 kind)) (now (reply .exit)) r ⌝ }
 {
-    let a = wire::put_varint(reply, 0, size as u64);
-    wire::put_number(reply, a, 1, kind)
+    let a = wire_put::put_varint(reply, 0, size as u64);
+    wire_put::put_number(reply, a, 1, kind)
 }
 
 // How many bytes a body of so many bytes takes with its prefix.
@@ -194,7 +194,7 @@ fn framed_len(size: usize) -> usize
     requires { ⌜ size ≤ 16384 ⌝ }
     ensures { λ r. ⌜ r ≡ length (minimal size) + size ⌝ }
 {
-    wire::varint_len(size as u64) + size
+    wire_put::varint_len(size as u64) + size
 }
 
 // A reply of closer peers alone.
@@ -232,9 +232,9 @@ fn reply_held(
     requires { ⌜ (n ≤ 20) × (n ≤ length (now near)) × (length (now key) ≤ 128) × (length (now value) ≤ 2048) ⌝ }
     ensures { λ r. ⌜ Framed (replyWith 1 (some (recordWith (now (key .entry)) (now (value .entry)))) (entriesTo (now (table .entry)) (now (near .entry)) n)) (now (reply .entry)) (now (reply .exit)) r ⌝ }
 {
-    let size = 2 + message::record_len(key, value) + entries_len(table, near, n);
+    let size = 2 + pieces::record_len(key, value) + entries_len(table, near, n);
     let a = begin(reply, size, GET_VALUE);
-    let b = message::put_record(reply, a, key, value);
+    let b = pieces::put_record(reply, a, key, value);
     put_entries(reply, b, table, near, n);
     framed_len(size)
 }
@@ -244,11 +244,11 @@ fn echo(reply: &mut [u8], key: &[u8], value: &[u8]) -> usize
     requires { ⌜ (1 ≤ length (now key)) × (length (now key) ≤ 128) × (length (now value) ≤ 2048) ⌝ }
     ensures { λ r. ⌜ Framed (putValueReply (now (key .entry)) (now (value .entry))) (now (reply .entry)) (now (reply .exit)) r ⌝ }
 {
-    let key_len = 1 + wire::varint_len(key.len() as u64) + key.len();
-    let size = 2 + key_len + message::record_len(key, value);
+    let key_len = 1 + wire_put::varint_len(key.len() as u64) + key.len();
+    let size = 2 + key_len + pieces::record_len(key, value);
     let a = begin(reply, size, PUT_VALUE);
-    let b = wire::put_bytes(reply, a, 2, key);
-    message::put_record(reply, b, key, value);
+    let b = wire_put::put_bytes(reply, a, 2, key);
+    pieces::put_record(reply, b, key, value);
     framed_len(size)
 }
 

@@ -28,18 +28,18 @@ use Rattle.records.specs.declared.Answer as stored
 use Rattle.records.specs.declared.Answer.the-variants as store
 use Rattle.records.specs.declared.Found.{Found}
 use Rattle.records.specs.declared.Found.the-variants as looked
-use Rattle.records.proofs.Stays.{offer-form}
+use Rattle.records_history.proofs.Stays.{offer-form}
 use Rattle.wire.specs.Items.{num, minimal, written, written1, single, repeated}
-use Rattle.wire.proofs.Digits.{minimal-one, minimal-three}
-use Rattle.wire.proofs.Putting.{number-length, single-full, bytes-short}
+use Rattle.wire_put.proofs.Digits.{minimal-one, minimal-three}
+use Rattle.wire_put.proofs.Putting.{number-length, single-full, bytes-short}
 use Rattle.message.specs.Limits.{mostKey, mostBody, leastReply}
 use Rattle.message.specs.Message.{Peer, Record, Message, messageOf, encodePeer, heldItems, encode, frame}
-use Rattle.message.specs.Writable.{peerFits, heldFits, recordWith, writable}
+use Rattle.pieces.specs.Writable.{peerFits, heldFits, recordWith, writable}
 use Rattle.message.specs.View.{readingOf}
 use Rattle.message.specs.declared.Reading.{Reading}
 use Rattle.message.specs.declared.Reading.the-variants as read
-use Rattle.message.proofs.Sizes.{message-length, held-most, entries-most}
-use Rattle.message.proofs.RoundTrip.{round-trip}
+use Rattle.pieces.proofs.Sizes.{message-length, held-most, entries-most}
+use Rattle.round_trip.proofs.RoundTrip.{round-trip}
 use Rattle.answer.specs.Replies.{putValue, getValue, findNode, ping, contactEntry, peerEntry, closerPeers, listed, lastEntry, findNodeReply, recordAt, getValueReply, putValueReply, pingReply}
 use Rattle.answer.specs.Answers.{Verdict, replies, refuses, keyFits, keyed, echoed, putVerdict, verdictOf, putAfter, recordsAfter, replied, byVerdict, byReading, dealOf}
 use Rattle.answer_promises.specs.Promises.{RefusedChangesNothing, ReadsBack, Roomed, RepliesReadBack, EntryIsPeer, RecordsStayInForm}

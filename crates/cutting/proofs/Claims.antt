@@ -67,7 +67,7 @@ open-and-end P A O put stops tell host =
         framing = λ i b w m a x. turn-framing tell i w m a b;
         taken = λ i b w m a x. turn-taken tell i w m a b;
         state = λ i b w m a x. turn-state tell i w m a b;
-        anew = λ i b l a x f z. turn-anew tell i b l a f z;
+        anew = λ i b l a x f z. turn-anew tell i b l a (f .form) z;
       };
     }
 

@@ -353,11 +353,11 @@ module _ {P A B O : Type 0} (L : Layer P A B O) where
         go false h More e = absurd (false≢true (sym n ∙ ap isMore e))
 
   -- ---- an act
-  module _ {Fits : B → Type 0} (K : Blunt L Fits) where
-    act-rel : (i : ℕ) (d : Here) (w : Wire P B) (p : List ℕ) (b : B) (rest : List (Act B)) → Fits b → inForm (d .line .framing) ≡ true → bodyLimit ≤ length (acted L i b d .line .buffer) → Rel (d .line) w p (acts b ∷ rest)
+  module _ {Peer : P → Type 0} {Fits : B → Type 0} (K : Blunt L Peer Fits) where
+    act-rel : (i : ℕ) (d : Here) (w : Wire P B) (p : List ℕ) (b : B) (rest : List (Act B)) → Fits b → Fine Peer (d .line) → bodyLimit ≤ length (acted L i b d .line .buffer) → Rel (d .line) w p (acts b ∷ rest)
         → (acted L i b d .shared .state ≡ next L i (record { line = w; shared = d .shared .state }) .shared)
         × Rel (acted L i b d .line) (next L i (record { line = w; shared = d .shared .state }) .line) [] rest
-    act-rel i d w p b rest fit form room r =
+    act-rel i d w p b rest fit fine room r =
         let a : A = d .shared .state in
         let none-left : leading (acts b ∷ rest) ≡ [] = leading-acts b rest in
         let l : d .line ≡ standing w (d .line .buffer) = rel-stands (d .line) w p (acts b ∷ rest) r none-left in
@@ -375,7 +375,7 @@ module _ {P A B O : Type 0} (L : Layer P A B O) where
           left = sym (bytes-none rest);
           shut = ap isShut fr;
           place = ap (λ (x : Did (Line P) A). x .line .taken) same ∙ K .taken i b w (d .line .buffer) a fit ∙ sym (none (isShut (e .line .framing)) (e .line .taken));
-          mid = λ z. mid-fresh (g .line .framing) (g .line .buffer) (K .anew i b (d .line) a fit form (ap isShut fr ∙ z)) room;
+          mid = λ z. mid-fresh (g .line .framing) (g .line .buffer) (K .anew i b (d .line) a fit fine (ap isShut fr ∙ z)) room;
         } in (
           ap (λ (x : Did (Line P) A). x .shared) same ∙ K .state i b w (d .line .buffer) a fit ∙ sym (ap (λ (x : Did (Wire P B) A). x .shared) N),
           subst (λ (x : Did (Wire P B) A). Rel (g .line) (x .line) [] rest) (sym N) R,
@@ -400,7 +400,7 @@ module _ {P A B O : Type 0} (L : Layer P A B O) where
       → Rel (s .lines i) (w .lines i) (p i) (b ∷ actsOf i xs)
   own-rel s w p xs i b h = subst (λ (t : Bool). Rel (s .lines i) (w .lines i) (p i) (cond t (b ∷ actsOf i xs) (actsOf i xs))) (eq-eqb i i refl) (h i)
 
-  module _ {Peer : P → Type 0} {Good : A → Type 0} {Fits : B → Type 0} (S : Sound L Peer Good Fits) (K : Blunt L Fits) where
+  module _ {Peer : P → Type 0} {Good : A → Type 0} {Fits : B → Type 0} (S : Sound L Peer Good Fits) (K : Blunt L Peer Fits) where
     unfoldable FitSteps : List (Step (Act B) O) → Type 0
     FitSteps [] = Unit {0}
     FitSteps (at i (takes b) ∷ xs) = FitSteps xs
@@ -472,7 +472,7 @@ module _ {P A B O : Type 0} (L : Layer P A B O) where
         let f : Fine Peer (d .line) = S .act-line i b (s .lines i) (s .shared .state) (fit .0) (r .lines i) (r .good) in
         let g : Good (d .shared .state) = S .act-good i b (s .lines i) (s .shared .state) (fit .0) (r .lines i) (r .good) in
         after-event xs s w p i (acts b) d (plain-run xs (fit .1)) (put-ready s i d r f g) e h
-        (act-rel K i (here s i) (w .lines i) (p i) b (actsOf i xs) (fit .0) (r .lines i .form) (f .room) (own-rel s w p xs i (acts b) h))
+        (act-rel K i (here s i) (w .lines i) (p i) b (actsOf i xs) (fit .0) (r .lines i) (f .room) (own-rel s w p xs i (acts b) h))
     plain-run (other o ∷ xs) fit s w p r e h =
         plain-run xs fit (step (rules L) s (other o)) (record { lines = w .lines; shared = L .host (w .shared) o }) p
         (record { lines = r .lines; good = S .hosts (s .shared .state) o (r .good) }) (ap (λ (a : A). L .host a o) e) h

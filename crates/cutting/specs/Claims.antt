@@ -55,7 +55,7 @@ Several =
 -- ---- 4. And that is the plain reading of what each connection is given, message by message in the order of the events
 abbrev pub SeveralPlainly : Type 1
 SeveralPlainly =
-    (P A B O : Type 0) (L : Layer P A B O) (Peer : P → Type 0) (Good : A → Type 0) (Fits : B → Type 0) → Sound L Peer Good Fits → Blunt L Fits
+    (P A B O : Type 0) (L : Layer P A B O) (Peer : P → Type 0) (Good : A → Type 0) (Fits : B → Type 0) → Sound L Peer Good Fits → Blunt L Peer Fits
     → (s : World P A O) → Ready Peer Good s → ((i : ℕ) → isShut (s .lines i .framing) ≡ false → s .lines i .framing ≡ fresh) → s .shared .order ≡ []
     → (cs : List (Call B O)) → AllFit Fits cs
     → ReadOut (plainly L (unread s cs) (calls L s cs .shared .order)) (calls L s cs)
@@ -73,7 +73,7 @@ OwnReceive =
 -- and so it is with this crate's `open` and `end` as the acts: nothing is asked then but receive buffers that are large enough
 pub record Turns (P A O : Type 0) (put : ℕ → P → A → Event → A) (stops : ℕ → P → A → Event → Bool) (tell : ℕ → P → A → ℕ → Ending → A) (host : A → O → A) : Type 0 where
   pub sound : Sound (bare put stops (turned tell) host) Anyone Anyone Roomy
-  pub blunt : Blunt (bare put stops (turned tell) host) Roomy
+  pub blunt : Blunt (bare put stops (turned tell) host) Anyone Roomy
 
 abbrev pub OpenAndEnd : Type 1
 OpenAndEnd =

@@ -5,9 +5,9 @@ use mathlib.Core.List.{List, [], _∷_}
 use mathlib.Core.Bool.{Bool, true, false, cond}
 use lib.ListN.{length, take, drop}
 use Rattle.stream.specs.declared.Framing.the-variants.{Shut}
-use Rattle.stream.specs.Stream.{fresh, isShut, inForm}
+use Rattle.stream.specs.Stream.{fresh, isShut}
 use Rattle.cutting.specs.Frames.{Event, message, refused, Head, partly, whole, bad, headOf, framingOf, halfOf}
-use Rattle.cutting.specs.World.{Did, Sys, Mark, happened, asked, here, putBack, Line, World, Layer, Call, Act, takes, acts, given}
+use Rattle.cutting.specs.World.{Did, Sys, Mark, happened, asked, here, putBack, Line, World, Layer, Call, Act, takes, acts, given, Fine}
 
 -- what is left of what a connection is given, the place of its first byte, and whether the connection is shut
 pub record Wire (P B : Type 0) : Type 0 where
@@ -74,10 +74,10 @@ pub record ReadOut {P A B O : Type 0} (w : Sys (Wire P B) A) (s : World P A O) :
   pub state : s .shared .state ≡ w .shared
   pub lines : (i : ℕ) → Left (w .lines i) (s .lines i)
 
--- what this theorem asks of acts beside `Sound`: they don't look at the receive buffer, and leave a connection shut or at the start of a message
-pub record Blunt {P A B O : Type 0} (L : Layer P A B O) (Fits : B → Type 0) : Type 0 where
+-- what this theorem asks of acts beside `Sound`: they don't look at the receive buffer, and leave a connection that is fine shut or at the start of a message
+pub record Blunt {P A B O : Type 0} (L : Layer P A B O) (Peer : P → Type 0) (Fits : B → Type 0) : Type 0 where
   pub who : (i : ℕ) (b : B) (w : Wire P B) (m : List ℕ) (a : A) → Fits b → L .act i b (standing w m) a .line .who ≡ L .act i b (standing w []) a .line .who
   pub framing : (i : ℕ) (b : B) (w : Wire P B) (m : List ℕ) (a : A) → Fits b → L .act i b (standing w m) a .line .framing ≡ L .act i b (standing w []) a .line .framing
   pub taken : (i : ℕ) (b : B) (w : Wire P B) (m : List ℕ) (a : A) → Fits b → L .act i b (standing w m) a .line .taken ≡ L .act i b (standing w []) a .line .taken
   pub state : (i : ℕ) (b : B) (w : Wire P B) (m : List ℕ) (a : A) → Fits b → L .act i b (standing w m) a .shared ≡ L .act i b (standing w []) a .shared
-  pub anew : (i : ℕ) (b : B) (l : Line P) (a : A) → Fits b → inForm (l .framing) ≡ true → isShut (L .act i b l a .line .framing) ≡ false → L .act i b l a .line .framing ≡ fresh
+  pub anew : (i : ℕ) (b : B) (l : Line P) (a : A) → Fits b → Fine Peer l → isShut (L .act i b l a .line .framing) ≡ false → L .act i b l a .line .framing ≡ fresh

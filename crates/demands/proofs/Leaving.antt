@@ -24,7 +24,7 @@ use Rattle.records_history.specs.History.{taken}
 use Rattle.records_history.proofs.Stays.{put-refused}
 use Rattle.message.specs.Message.{Message, encode, frame}
 use Rattle.message.specs.Limits.{leastReply}
-use Rattle.message.specs.Writable.{writable}
+use Rattle.pieces.specs.Writable.{writable}
 use Rattle.writer.specs.declared.Written.the-variants as writer
 use Rattle.writer.specs.Writer.{answerOf, outAfter}
 use Rattle.stream.specs.declared.Framing.{Framing}

@@ -5,8 +5,7 @@ pub mod Receives
 pub mod Kept
 pub mod Sound
 pub mod Ready
-pub mod Tamed
-pub mod Plainly
+pub mod Blunt
 pub mod Refusals
 pub mod Leaving
 pub mod Never

@@ -11,17 +11,17 @@ use Rattle.recipe.specs.Recipe.{outranks}
 use Rattle.records_history.specs.History.{Has, got, after}
 use Rattle.records_history.proofs.Stays.{highest, holds-on}
 use Rattle.message.proofs.Views.{read-whole, read-malformed, malformed-read}
-use Rattle.message.proofs.RoundTrip.{round-trip}
+use Rattle.round_trip.proofs.RoundTrip.{round-trip}
 use Rattle.lookup_runs.proofs.Theorems.{claims}
 use Rattle.cutting.specs.World.{World, Call, calls, Ready, AllFit}
-use Rattle.cutting.proofs.Claims.{several}
+use Rattle.cutting.proofs.Claims.{several, several-plainly}
 use Rattle.demands.specs.Box.{Box, Who, Turn, Ask, Fits, box, Own, Allowed, Good}
 use Rattle.demands.specs.Demands.{First, Second, Third, Demands}
 use Rattle.demands.proofs.Given.{Given}
 use Rattle.demands.proofs.Kept.{MadeFrom, made-lasting, Held}
 use Rattle.demands.proofs.Sound.{sound, sound-held}
 use Rattle.demands.proofs.Ready.{calls-ready}
-use Rattle.demands.proofs.Plainly.{read-plainly}
+use Rattle.demands.proofs.Blunt.{blunt}
 use Rattle.demands.proofs.Leaving.{refused-leaves}
 use Rattle.demands.proofs.Never.{never-out-of-form}
 
@@ -53,7 +53,7 @@ module _ (G : Given) where
   third me w =
       record {
         cut = several Who Box Turn Ask (box me) (Allowed me) (Good me) Fits (sound me G w);
-        plain = read-plainly me G w;
+        plain = several-plainly Who Box Turn Ask (box me) (Allowed me) (Good me) Fits (sound me G w) (blunt me);
         offers = made me w;
         stays = λ s r e cs f key v g u. ap (λ (x : List ℕ). got x key) (made me w s r e cs f)
             ∙ holds-on key v (s .shared .state .records) (calls (box me) s cs .shared .state .offers) g u;

@@ -23,7 +23,7 @@ use Rattle.records.specs.Store.{putAnswer, putAfter, findOf}
 use Rattle.records_history.specs.History.{Has, got, after, cleared, Accepted, Unbeaten}
 use Rattle.message.specs.Limits.{mostBody, leastReply}
 use Rattle.message.specs.Message.{Message, messageOf, decode, encode, frame}
-use Rattle.message.specs.Writable.{writable}
+use Rattle.pieces.specs.Writable.{writable}
 use Rattle.message.specs.View.{readingOf, meant}
 use Rattle.message.specs.declared.Fields.{Fields}
 use Rattle.message.specs.declared.Reading.the-variants as reading

@@ -1,7 +1,7 @@
 -- `put_entries`: the first k contacts are written.
 use Prim.Native.Nat.{_-_}
 use native.Mathlib.Omega.{arith}
-use Rattle.wire.proofs.Putting.{put-length}
+use Rattle.wire_put.proofs.Putting.{put-length}
 use Rattle.answer.proofs.Entries.{PuttingOn, putting-none, putting-one, putting-all}
 use borrow.Author.Needs.{needs}
 use Rattle.answer.proofs.put_entries.Statement.{statement}
