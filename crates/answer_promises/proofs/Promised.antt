@@ -224,25 +224,26 @@ frame-short : (m : Message) → length (encode m) ≤ 14087 → length (frame (e
 unfolding frame
 frame-short m h = omega (arith, length-append (minimal (length (encode m))) (encode m), minimal-three (length (encode m)) (omega arith))
 
-replied-back : (m : Message) (k y : List ℕ) (n : ℕ) → Good m → leastReply ≤ length y → replied m k y .told ≡ Reply n → ReadsBack (replied m k y) y n
+replied-back : (m : Message) (k y : List ℕ) (n : ℕ) → Good m → leastReply ≤ length y → replied m k y .told ≡ Reply n → ReadsBack (replies m) (replied m k y) y n
 replied-back m k y n g l e =
     let q : length (frame (encode m)) ≡ n = cc in
     let f = frame-short m (g .short) in
     let z : 0 + length (frame (encode m)) - 0 ≡ n = omega arith in
     record {
       says = m;
+      verdict = refl;
       stands = sym (ap (λ (i : ℕ). take i (sets y 0 (frame (encode m)))) z) ∙ part-sets y 0 (frame (encode m)) (omega arith);
       back = round-trip m (g .fits);
       short = g .short;
       rest = drop-sets n y 0 (frame (encode m)) (omega arith);
     }
 
-verdict-back : (v : Verdict) (k after y : List ℕ) (n : ℕ) → GoodVerdict v → leastReply ≤ length y → byVerdict v k after y .told ≡ Reply n → ReadsBack (byVerdict v k after y) y n
+verdict-back : (v : Verdict) (k after y : List ℕ) (n : ℕ) → GoodVerdict v → leastReply ≤ length y → byVerdict v k after y .told ≡ Reply n → ReadsBack v (byVerdict v k after y) y n
 verdict-back (replies m) k after y n g l e = replied-back m after y n g l e
 verdict-back (refuses r) k after y n g l e = absurd (let z : _≡_ {A = ℕ} 0 1 = cc in omega arith)
 
 reading-back : (a : Reading) (me who : peers.Peer) → Roomed me → Roomed who → (m : Message) (t k y : List ℕ) (n : ℕ) → leastReply ≤ length y → byReading a me who m t k y .told ≡ Reply n
-    → ReadsBack (byReading a me who m t k y) y n
+    → ReadsBack (verdictOf me who m t k) (byReading a me who m t k y) y n
 reading-back (read.Refused r) me who h g m t k y n l e = absurd (let z : _≡_ {A = ℕ} 0 1 = cc in omega arith)
 reading-back (read.Whole f) me who h g m t k y n l e = verdict-back (verdictOf me who m t k) k (recordsAfter m k) y n (verdict-good me who h g m t k) l e
 

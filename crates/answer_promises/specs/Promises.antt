@@ -11,9 +11,9 @@ use Rattle.peer.specs.Addresses.{idRoom, keptOf}
 use Rattle.peer.specs.Peers.{idFits, peerOf}
 use Rattle.records.specs.Store.{inForm}
 use Rattle.message.specs.Limits.{leastReply}
-use Rattle.message.specs.Message.{Message, decode, encode, frame}
+use Rattle.message.specs.Message.{Message, messageOf, decode, encode, frame}
 use Rattle.answer.specs.Replies.{peerEntry}
-use Rattle.answer.specs.Answers.{Dealt, dealOf}
+use Rattle.answer.specs.Answers.{Verdict, replies, verdictOf, Dealt, dealOf}
 use Rattle.answer.specs.declared.Answered.the-variants.{Reply, Refused}
 
 -- a request that is refused changes nothing
@@ -22,10 +22,11 @@ RefusedChangesNothing =
     (me who : peers.Peer) (body t k y : List ℕ) (r : Refusal) → dealOf me who body t k y .told ≡ Refused r
     → (dealOf me who body t k y .records ≡ k) × (dealOf me who body t k y .reply ≡ y)
 
--- a reply of n bytes stands in the buffer: a message with its prefix, which reads back as the same message; "bytes after a reply stay". 14,087 is document
--- 01's largest reply body
-pub record ReadsBack (d : Dealt) (y : List ℕ) (n : ℕ) : Type 0 where
+-- a reply of n bytes stands in the buffer: the message that the verdict calls for, with its prefix, which reads back as the same message; "bytes after a
+-- reply stay". 14,087 is document 01's largest reply body
+pub record ReadsBack (v : Verdict) (d : Dealt) (y : List ℕ) (n : ℕ) : Type 0 where
   pub says : Message
+  pub verdict : v ≡ replies says
   pub stands : take n (d .reply) ≡ frame (encode says)
   pub back : decode (encode says) ≡ some says
   pub short : length (encode says) ≤ 14087
@@ -38,7 +39,7 @@ Roomed p = length (p .id) ≡ idRoom
 abbrev pub RepliesReadBack : Type 0
 RepliesReadBack =
     (me who : peers.Peer) → Roomed me → Roomed who → (body t k y : List ℕ) → leastReply ≤ length y → (n : ℕ) → dealOf me who body t k y .told ≡ Reply n
-    → ReadsBack (dealOf me who body t k y) y n
+    → ReadsBack (verdictOf me who (messageOf body) t k) (dealOf me who body t k y) y n
 
 -- the entry for us or the requester has the id and the usable addresses that were handed in
 abbrev pub EntryIsPeer : Type 0

@@ -38,6 +38,7 @@ own-of : (id addresses : List ℕ) → idFits id ≡ true → Own (peerOf id (pl
 own-of id addresses f =
     record {
       fits = fits-own id (placeOf id) addresses f;
+      roomed = id-long id (placeOf id) addresses;
       long = ap length (place-is id (placeOf id) addresses) ∙ length-placeOf id;
       bytes = subst Bytes (sym (place-is id (placeOf id) addresses)) (bytes-placeOf id);
     }

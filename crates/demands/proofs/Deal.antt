@@ -25,7 +25,11 @@ use Rattle.answer.specs.Replies.{putValue}
 use Rattle.answer.specs.declared.Answered.the-variants as told
 use Rattle.answer.specs.Answers.{Verdict, replies, refuses, echoed, putVerdict, verdictOf, putAfter, recordsAfter, Dealt, byVerdict, byReading, dealOf}
 use Rattle.demands.specs.Box.{offerBy}
-use Rattle.demands.proofs.Given.{Given}
+
+-- what a request comes to
+pub deal-is : (me who : Peer) (body t k y : List ℕ) → dealOf me who body t k y ≡ byReading (readingOf body) me who (messageOf body) t k y
+unfolding dealOf
+deal-is me who body t k y = refl
 
 -- ---- a refused put leaves the store
 no-refusal : {X : Type 0} {m : Message} {r : Refusal} → replies m ≡ refuses r → X
@@ -96,8 +100,8 @@ reading-leaves (reading.Refused r) me who m t k y = record { refused = λ q e. (
 reading-leaves (reading.Whole f) me who m t k y =
     verdict-leaves (verdictOf me who m t k) k (recordsAfter m k) y (offerBy (reading.Whole f) m (m .held)) (after-form f m k) (verdict-refused me who m t k)
 
-pub deal-leaves : Given → (me who : Peer) (body t k y : List ℕ)
+pub deal-leaves : (me who : Peer) (body t k y : List ℕ)
     → Leaves k y (offerBy (readingOf body) (messageOf body) (messageOf body .held)) (dealOf me who body t k y)
-deal-leaves G me who body t k y =
-    subst (Leaves k y (offerBy (readingOf body) (messageOf body) (messageOf body .held))) (sym (G .deal-is me who body t k y))
+deal-leaves me who body t k y =
+    subst (Leaves k y (offerBy (readingOf body) (messageOf body) (messageOf body .held))) (sym (deal-is me who body t k y))
     (reading-leaves (readingOf body) me who (messageOf body) t k y)

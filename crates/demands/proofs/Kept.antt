@@ -33,7 +33,6 @@ use Rattle.node.specs.Node.{Dealing, contactsAfter, byAnswer, served, heard, de
 use Rattle.node.specs.Hosts.{seenAfter, settleAfter, removeAfter}
 use Rattle.demands.specs.Box as box
 use Rattle.demands.specs.Box.{Box, Who, connOf, offerBy, offerIn, noted, Turn, Ask, dealing, happens, turning, asking, Own, Allowed, Good}
-use Rattle.demands.proofs.Given.{Given}
 use Rattle.demands.proofs.Deal.{Leaves, deal-leaves}
 
 after-more : (k : List ℕ) (os ps : List Offer) → after k (os ++ ps) ≡ after (after k os) ps
@@ -75,9 +74,9 @@ module _ (me : Peer) (Q : List ℕ → List Offer → Type 0) (L : Lasting Q) wh
   answer-keeps (told.Refused r) d c t k y os p h g l = record { contacts = h; records = l .offers g; room = l .room }
   answer-keeps (told.Reply n) d c t k y os p h g l = record { contacts = seen-after c t p h; records = l .offers g; room = l .room }
 
-  dealing-keeps : Given → (w : Who) (a : Box) (body : List ℕ) → Allowed me w → Good me a → Keeps (a .records) (a .reply) (offerIn w body) (dealing me w a body)
+  dealing-keeps : (w : Who) (a : Box) (body : List ℕ) → Allowed me w → Good me a → Keeps (a .records) (a .reply) (offerIn w body) (dealing me w a body)
   unfolding dealingOf served heard after
-  dealing-keeps G w a body p g = go (w .asking)
+  dealing-keeps w a body p g = go (w .asking)
     where
       d : Dealt
       d = dealOf me (w .peer) body (a .contacts) (a .records) (a .reply)
@@ -91,7 +90,7 @@ module _ (me : Peer) (Q : List ℕ → List Offer → Type 0) (L : Lasting Q) wh
       go true = record { contacts = g .contacts; records = refl; room = refl }
       go false =
           answer-keeps (d .told) d (connOf w fresh) (a .contacts) (a .records) (a .reply) os p (g .contacts) (g .records)
-          (deal-leaves G me (w .peer) body (a .contacts) (a .records) (a .reply))
+          (deal-leaves me (w .peer) body (a .contacts) (a .records) (a .reply))
 
   -- a line of the log more
   logs : (a : Box) (e : box.Entry) → Held me Q a → Held me Q (box.logged a e)
@@ -104,15 +103,15 @@ module _ (me : Peer) (Q : List ℕ → List Offer → Type 0) (L : Lasting Q) wh
   noted-held i at (Refused q) s body t k y os a c r l e = record { good = record { contacts = c; records = r; room = l }; offers = e }
   noted-held i at More s body t k y os a c r l e = record { good = record { contacts = c; records = r; room = l }; offers = e }
 
-  pub happens-held : Given → (i : ℕ) (w : Who) (a : Box) (e : Event) → Allowed me w → Held me Q a → Held me Q (happens me i w a e)
-  happens-held G i w a (message at body) p h =
+  pub happens-held : (i : ℕ) (w : Who) (a : Box) (e : Event) → Allowed me w → Held me Q a → Held me Q (happens me i w a e)
+  happens-held i w a (message at body) p h =
       let d = dealing me w a body in
-      let q = dealing-keeps G w a body p (h .good) in
+      let q = dealing-keeps w a body p (h .good) in
       noted-held i at (d .answer) (d .sight) body (d .contacts) (d .records) (d .reply) (offerIn w body) a (q .contacts)
       (ap recordsForm (q .records) ∙ form-kept (a .records) (offerIn w body) (h .good .records))
       (let m : leastReply ≤ length (a .reply) = h .good .room in omega (arith, q .room, m))
       (subst (λ (x : List ℕ). Q x (a .offers ++ offerIn w body)) (sym (q .records)) (L .on (a .records) (a .offers) (offerIn w body) (h .offers)))
-  happens-held G i w a (broken at r) p h = logs a _ h
+  happens-held i w a (broken at r) p h = logs a _ h
 
   -- ---- opening, ending
   pub turning-held : (i : ℕ) (b : Turn) (l : Line Who) (a : Box) → Held me Q a → Held me Q (turning me i b l a .shared)

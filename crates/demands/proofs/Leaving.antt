@@ -42,8 +42,8 @@ use Rattle.node.specs.declared.Gate.the-variants.{Open, Closed}
 use Rattle.node.specs.Box.{ownFits, withFraming}
 use Rattle.node.specs.Node.{Dealing, byAnswer, served, heard, dealingOf, gateOf, shutIf, done, byEvent, takenOf, unless, receiveOf}
 use Rattle.node.specs.Hosts.{gated, seenOf, seenAfter, settleOf, settleAfter, removeOf, removeAfter}
+use Rattle.lookup_runs.proofs.Refusals.{refusals}
 use Rattle.demands.specs.Demands.{LeavesAll, RefusedLeaves}
-use Rattle.demands.proofs.Given.{Given}
 use Rattle.demands.proofs.Deal.{deal-leaves}
 
 -- ---- receiving
@@ -55,7 +55,7 @@ record Untouched (t k y : List ℕ) (d : Dealing) : Type 0 where
 abbrev OnRefusal : List ℕ → List ℕ → List ℕ → Dealing → Type 0
 OnRefusal t k y d = (r : Refusal) → d .answer ≡ Refused r → Untouched t k y d
 
-module _ (G : Given) (me : Peer) where
+module _ (me : Peer) where
   served-refused : (c : Conn) (t k y : List ℕ) (d : Dealt) (x : Answered) → ((q : Refusal) → x ≡ told.Refused q → (d .records ≡ k) × (d .reply ≡ y))
       → OnRefusal t k y (byAnswer x d me c t)
   served-refused c t k y d (told.Refused q) h r e = record { contacts = refl; records = h q refl .0; reply = h q refl .1 }
@@ -66,7 +66,7 @@ module _ (G : Given) (me : Peer) where
   dealing-refused c body t k y =
       let d = dealOf me (c .peer) body t k y in
       cond-ind (OnRefusal t k y) (c .asking) _ _ (λ a r e. record { contacts = refl; records = refl; reply = refl })
-      (λ a. served-refused c t k y d (d .told) (deal-leaves G me (c .peer) body t k y .refused))
+      (λ a. served-refused c t k y d (d .told) (deal-leaves me (c .peer) body t k y .refused))
 
   done-refused : (c : Conn) (f : Framing) (n : ℕ) (m t k y : List ℕ) (r : Refusal) (d : Dealing) → d .answer ≡ Refused r → Untouched t k y d
       → LeavesAll c t k y (done (withFraming c f) n m d)
@@ -159,15 +159,15 @@ write-leaves y m r = go (ltb (length y) leastReply) (not (writable m))
     go false true e = refl
     go false false e = absurd (let z : _≡_ {A = ℕ} 0 1 = cc in omega arith)
 
-pub refused-leaves : Given → (me : Peer) → RefusedLeaves me
-refused-leaves G me =
+pub refused-leaves : (me : Peer) → RefusedLeaves me
+refused-leaves me =
     record {
-      receive = receive-refused G me;
+      receive = receive-refused me;
       seen = λ t id client addresses r. seen-leaves me t id client addresses r;
       probe = λ t id client addresses h. probe-leaves me t id client addresses h;
       settle = λ t head id client addresses answered r. settle-leaves me t id head client addresses answered r;
       remove = λ t id r. remove-leaves me t id r;
       put = put-leaves;
       write = write-leaves;
-      lookup = G .lookup;
+      lookup = λ l c r. refusals .untouched c l r;
     }

@@ -1,4 +1,3 @@
-pub mod Given
 pub mod Deal
 pub mod Connections
 pub mod Receives

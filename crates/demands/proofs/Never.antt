@@ -56,7 +56,6 @@ use Rattle.node.specs.Hosts.{seenOf, settleOf, removeOf, nearestTo, ownId, look
 use Rattle.demands.specs.Box as box
 use Rattle.demands.specs.Box.{Box, Who, connOf, Own, Allowed, Good}
 use Rattle.demands.specs.Demands.{NeverOutOfForm}
-use Rattle.demands.proofs.Given.{Given}
 use Rattle.demands.proofs.Connections.{conn-form, gate-shut, gate-open}
 use Rattle.demands.proofs.Receives.{let-through, runs-as}
 use Rattle.demands.proofs.Refusals.{Above, AnswerAbove, run-above, event-above}
@@ -68,7 +67,7 @@ passes : {X : Type 0} (b : Bool) → b ≡ true → not b ≡ true → X
 passes b h e = absurd (not-both b h (not-true b e))
 
 -- ---- receiving
-module _ (G : Given) (me : Peer) where
+module _ (me : Peer) where
   shut-answer : (l : Line Who) (a : Box) (bs : List ℕ) → Fine (Allowed me) l → Good me a → isShut (l .framing) ≡ true
       → AnswerAbove (receiveOf me (connOf (l .who) (l .framing)) (l .buffer) bs (a .contacts) (a .records) (a .reply) .got .answer)
   unfolding receiveOf
@@ -84,7 +83,7 @@ module _ (G : Given) (me : Peer) where
       subst (λ (x : Out). AnswerAbove (x .got .answer))
       (sym (let-through me l bs (a .contacts) (a .records) (a .reply) (gate-open me w l a f e g)
       ∙ runs-as me l bs (a .contacts) (a .records) (a .reply) o (call-runs (l .framing) (l .buffer) bs (f .form) (f .room) e)))
-      (event-above G me (o .got .answer) (connOf (l .who) (o .got .framing)) (o .got .taken) (o .buffer) (a .contacts) (a .records) (a .reply)
+      (event-above me (o .got .answer) (connOf (l .who) (o .got .framing)) (o .got .taken) (o .buffer) (a .contacts) (a .records) (a .reply)
       (run-above bs (l .framing) (l .buffer)))
 
   receive-never : Own me → (l : Line Who) (a : Box) (bs : List ℕ) → Fine (Allowed me) l → Good me a
@@ -221,11 +220,11 @@ find-above k key form =
 no-zero : 1 ≤ 0 → ⊥
 no-zero h = omega arith
 
-pub never-out-of-form : Given → (me : Peer) → Own me → NeverOutOfForm me
-never-out-of-form G me w =
+pub never-out-of-form : (me : Peer) → Own me → NeverOutOfForm me
+never-out-of-form me w =
     record {
-      kept = λ s r cs f. calls-ready (box.box me) (sound me G w) cs s r f;
-      receive = λ l a bs f g e. receive-never G me w l a bs f g e;
+      kept = λ s r cs f. calls-ready (box.box me) (sound me w) cs s r f;
+      receive = λ l a bs f g e. receive-never me w l a bs f g e;
       end = λ l f e. end-never me l f e;
       seen = λ a id client g e. no-zero (subst SeenAbove e (seen-above me (a .contacts) (g .contacts) id client));
       settle = λ a head id client answered g e. no-zero (subst SettleAbove e (settle-above me (a .contacts) (g .contacts) head id client answered));

@@ -40,7 +40,6 @@ use Rattle.node.specs.declared.Conn.{Conn}
 use Rattle.node.specs.declared.Answer.{Answer}
 use Rattle.node.specs.declared.Answer.the-variants.{Reply, Heard, Refused, More}
 use Rattle.node.specs.Node.{Dealing, byAnswer, served, heardAs, heard, dealingOf, byEvent}
-use Rattle.demands.proofs.Given.{Given}
 
 abbrev pub Above : Refusal → Type 0
 Above r = 1 ≤ numberOf r
@@ -166,9 +165,9 @@ by-reading-above : (r : Reading) (me who : Peer) (m : Message) (t k y : List ℕ
 by-reading-above (reading.Refused r) me who m t k y a = a
 by-reading-above (reading.Whole f) me who m t k y a = by-verdict-above (verdictOf me who m t k) k _ y (verdict-above me who m t k)
 
-deal-above : Given → (me who : Peer) (body t k y : List ℕ) → ToldAbove (dealOf me who body t k y .told)
-deal-above G me who body t k y =
-    subst (λ (d : Dealt). ToldAbove (d .told)) (sym (G .deal-is me who body t k y))
+deal-above : (me who : Peer) (body t k y : List ℕ) → ToldAbove (dealOf me who body t k y .told)
+deal-above me who body t k y =
+    subst (λ (d : Dealt). ToldAbove (d .told)) (sym (deal-is me who body t k y))
     (by-reading-above (readingOf body) me who (messageOf body) t k y (read-above body))
 
 -- ---- an event on a connection: 3 to 11
@@ -186,15 +185,15 @@ served-above : (x : Answered) (d : Dealt) (me : Peer) (c : Conn) (t : List ℕ) 
 served-above (told.Refused r) d me c t a = a
 served-above (told.Reply n) d me c t a = tt
 
-dealing-above : Given → (me : Peer) (c : Conn) (body t k y : List ℕ) → AnswerAbove (dealingOf me c body t k y .answer)
+dealing-above : (me : Peer) (c : Conn) (body t k y : List ℕ) → AnswerAbove (dealingOf me c body t k y .answer)
 unfolding dealingOf heard served
-dealing-above G me c body t k y =
+dealing-above me c body t k y =
     let d = dealOf me (c .peer) body t k y in
     cond-ind (λ (x : Dealing). AnswerAbove (x .answer)) (c .asking) _ _ (λ e. heard-above (length body) (readingOf body) (read-above body))
-    (λ e. served-above (d .told) d me c t (deal-above G me (c .peer) body t k y))
+    (λ e. served-above (d .told) d me c t (deal-above me (c .peer) body t k y))
 
-pub event-above : Given → (me : Peer) (w : stream.Answer) (c : Conn) (n : ℕ) (m t k y : List ℕ) → FramedAbove w
+pub event-above : (me : Peer) (w : stream.Answer) (c : Conn) (n : ℕ) (m t k y : List ℕ) → FramedAbove w
     → AnswerAbove (byEvent w me c n m t k y .got .answer)
-event-above G me (framed.Message l) c n m t k y a = dealing-above G me c (take l m) t k y
-event-above G me (framed.Refused r) c n m t k y a = a
-event-above G me framed.More c n m t k y a = tt
+event-above me (framed.Message l) c n m t k y a = dealing-above me c (take l m) t k y
+event-above me (framed.Refused r) c n m t k y a = a
+event-above me framed.More c n m t k y a = tt

@@ -17,7 +17,6 @@ use Rattle.node.specs.declared.Ended.{Ended}
 use Rattle.node.specs.Box.{ownFits, openOf, connForm, endConn}
 use Rattle.demands.specs.Box as box
 use Rattle.demands.specs.Box.{Box, Who, connOf, whoIn, Turn, Fits, turning, Own, Allowed, Good}
-use Rattle.demands.proofs.Given.{Given}
 use Rattle.demands.proofs.Receives.{receives}
 use Rattle.demands.proofs.Kept.{Lasting, Held, happens-held, turning-held, asking-held}
 
@@ -57,11 +56,11 @@ module _ (me : Peer) where
   turns-fine w i box.ends l a r f = end-fine l f
 
   -- with any lasting fact of the store beside
-  pub sound-held : Given → Own me → (Q : List ℕ → List Offer → Type 0) → Lasting Q → Sound (box.box me) (Allowed me) (Held me Q) Fits
-  sound-held G w Q L =
+  pub sound-held : Own me → (Q : List ℕ → List Offer → Type 0) → Lasting Q → Sound (box.box me) (Allowed me) (Held me Q) Fits
+  sound-held w Q L =
       record {
         receives = λ i l a bs f o h. receives me w i l a bs f o (h .good);
-        puts = λ i p a e q h. happens-held me Q L G i p a e q h;
+        puts = λ i p a e q h. happens-held me Q L i p a e q h;
         act-line = λ i b l a x f h. turns-fine w i b l a x f;
         act-good = λ i b l a x f h. turning-held me Q L i b l a h;
         hosts = λ a o h. asking-held me Q L w a o h;
@@ -71,9 +70,9 @@ module _ (me : Peer) where
   Nothing k os = Unit {0}
 
   -- and with none
-  pub sound : Given → Own me → Sound (box.box me) (Allowed me) (Good me) Fits
-  sound G w =
-      let S = sound-held G w Nothing (record { on = λ k os ps x. tt }) in
+  pub sound : Own me → Sound (box.box me) (Allowed me) (Good me) Fits
+  sound w =
+      let S = sound-held w Nothing (record { on = λ k os ps x. tt }) in
       record {
         receives = λ i l a bs f o g. receives me w i l a bs f o g;
         puts = λ i p a e q g. S .puts i p a e q (record { good = g; offers = tt }) .good;

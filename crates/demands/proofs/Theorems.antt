@@ -13,11 +13,11 @@ use Rattle.records_history.proofs.Stays.{highest, holds-on}
 use Rattle.message.proofs.Views.{read-whole, read-malformed, malformed-read}
 use Rattle.round_trip.proofs.RoundTrip.{round-trip}
 use Rattle.lookup_runs.proofs.Theorems.{claims}
+use Rattle.answer_promises.proofs.Promised.{replies-read-back}
 use Rattle.cutting.specs.World.{World, Call, calls, Ready, AllFit}
 use Rattle.cutting.proofs.Claims.{several, several-plainly}
 use Rattle.demands.specs.Box.{Box, Who, Turn, Ask, Fits, box, Own, Allowed, Good}
 use Rattle.demands.specs.Demands.{First, Second, Third, Demands}
-use Rattle.demands.proofs.Given.{Given}
 use Rattle.demands.proofs.Kept.{MadeFrom, made-lasting, Held}
 use Rattle.demands.proofs.Sound.{sound, sound-held}
 use Rattle.demands.proofs.Ready.{calls-ready}
@@ -25,42 +25,41 @@ use Rattle.demands.proofs.Blunt.{blunt}
 use Rattle.demands.proofs.Leaving.{refused-leaves}
 use Rattle.demands.proofs.Never.{never-out-of-form}
 
-module _ (G : Given) where
-  pub first : (me : Peer) → Own me → First me
-  first me w = record { refused = refused-leaves G me; formed = never-out-of-form G me w }
+pub first : (me : Peer) → Own me → First me
+first me w = record { refused = refused-leaves me; formed = never-out-of-form me w }
 
-  pub second : (me : Peer) → Own me → Second me
-  second me w =
-      record {
-        reads = λ body. record { whole = λ f e. read-whole body f e .says; malformed = read-malformed body; only = malformed-read body };
-        writes = round-trip;
-        replies = G .replies me;
-        nearest = λ t key. nearest-are t (placeOf key) (length-placeOf key);
-        lookup = λ t own key limit s. claims t own (me .place) key limit s;
-      }
+pub second : (me : Peer) → Own me → Second me
+second me w =
+    record {
+      reads = λ body. record { whole = λ f e. read-whole body f e .says; malformed = read-malformed body; only = malformed-read body };
+      writes = round-trip;
+      replies = λ who h. replies-read-back me who (w .roomed) h;
+      nearest = λ t key. nearest-are t (placeOf key) (length-placeOf key);
+      lookup = λ t own key limit s. claims t own (me .place) key limit s;
+    }
 
-  -- the store after any calls is what their offers made of it
-  made : (me : Peer) → Own me → (s : World Who Box Ask) → Ready (Allowed me) (Good me) s → s .shared .state .offers ≡ [] → (cs : List (Call Turn Ask))
-      → AllFit Fits cs
-      → calls (box me) s cs .shared .state .records ≡ after (s .shared .state .records) (calls (box me) s cs .shared .state .offers)
-  unfolding after
-  made me w s r e cs f =
-      let k : List ℕ = s .shared .state .records in
-      let start : Ready (Allowed me) (Held me (MadeFrom k)) s = record { lines = r .lines; good = record { good = r .good; offers = sym (ap (after k) e) } } in
-      calls-ready (box me) (sound-held me G w (MadeFrom k) (made-lasting k)) cs s start f .good .offers
+-- the store after any calls is what their offers made of it
+made : (me : Peer) → Own me → (s : World Who Box Ask) → Ready (Allowed me) (Good me) s → s .shared .state .offers ≡ [] → (cs : List (Call Turn Ask))
+    → AllFit Fits cs
+    → calls (box me) s cs .shared .state .records ≡ after (s .shared .state .records) (calls (box me) s cs .shared .state .offers)
+unfolding after
+made me w s r e cs f =
+    let k : List ℕ = s .shared .state .records in
+    let start : Ready (Allowed me) (Held me (MadeFrom k)) s = record { lines = r .lines; good = record { good = r .good; offers = sym (ap (after k) e) } } in
+    calls-ready (box me) (sound-held me w (MadeFrom k) (made-lasting k)) cs s start f .good .offers
 
-  pub third : (me : Peer) → Own me → Third me
-  third me w =
-      record {
-        cut = several Who Box Turn Ask (box me) (Allowed me) (Good me) Fits (sound me G w);
-        plain = several-plainly Who Box Turn Ask (box me) (Allowed me) (Good me) Fits (sound me G w) (blunt me);
-        offers = made me w;
-        stays = λ s r e cs f key v g u. ap (λ (x : List ℕ). got x key) (made me w s r e cs f)
-            ∙ holds-on key v (s .shared .state .records) (calls (box me) s cs .shared .state .offers) g u;
-        highest = λ s r e cs f key v a.
-            subst (λ (x : List ℕ). (u : List ℕ) × (got x key ≡ Has u) × (outranks v u ≡ false)) (sym (made me w s r e cs f))
-            (highest key v (s .shared .state .records) (calls (box me) s cs .shared .state .offers) a);
-      }
+pub third : (me : Peer) → Own me → Third me
+third me w =
+    record {
+      cut = several Who Box Turn Ask (box me) (Allowed me) (Good me) Fits (sound me w);
+      plain = several-plainly Who Box Turn Ask (box me) (Allowed me) (Good me) Fits (sound me w) (blunt me);
+      offers = made me w;
+      stays = λ s r e cs f key v g u. ap (λ (x : List ℕ). got x key) (made me w s r e cs f)
+          ∙ holds-on key v (s .shared .state .records) (calls (box me) s cs .shared .state .offers) g u;
+      highest = λ s r e cs f key v a.
+          subst (λ (x : List ℕ). (u : List ℕ) × (got x key ≡ Has u) × (outranks v u ≡ false)) (sym (made me w s r e cs f))
+          (highest key v (s .shared .state .records) (calls (box me) s cs .shared .state .offers) a);
+    }
 
-  pub demands : Demands
-  demands me w = (first me w, second me w, third me w)
+pub demands : Demands
+demands me w = (first me w, second me w, third me w)

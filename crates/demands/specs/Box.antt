@@ -36,6 +36,7 @@ use Rattle.stream.specs.Stream.{fresh, receiveOf as framedOf}
 use Rattle.cutting.specs.Frames.{Event, message, refused as broken}
 use Rattle.cutting.specs.World.{Did, Line, Called, Layer, setAt}
 use Rattle.answer.specs.Replies.{putValue}
+use Rattle.answer_promises.specs.Promises.{Roomed}
 use Rattle.node.specs.declared.Conn.{Conn}
 use Rattle.node.specs.declared.Told.{Told}
 use Rattle.node.specs.declared.Nearby.{Nearby}
@@ -292,6 +293,7 @@ module _ (me : Peer) where
   -- a box as `start` gives it
   pub record Own : Type 0 where
     pub fits : ownFits me ≡ true
+    pub roomed : Roomed me
     pub long : length (me .place) ≡ 32
     pub bytes : Bytes (me .place)
 

@@ -94,19 +94,13 @@ pub record ReadsWell (body : List ℕ) : Type 0 where
   pub malformed : readingOf body ≡ reading.Refused Malformed → decode body ≡ none
   pub only : length body ≤ mostBody → decode body ≡ none → readingOf body ≡ reading.Refused Malformed
 
--- a reply of n bytes: it is the message that the plain reading of the request calls for, it reads back as that message, and bytes after it stay
-pub record RepliesWell (me who : Peer) (body t k y : List ℕ) (n : ℕ) : Type 0 where
-  pub message : Message
-  pub verdict : verdictOf me who (messageOf body) t k ≡ replies message
-  pub bytes : take n (dealOf me who body t k y .reply) ≡ frame (encode message)
-  pub back : decode (encode message) ≡ some message
-  pub later : drop n (dealOf me who body t k y .reply) ≡ drop n y
-
 pub record Second (me : Peer) : Type 0 where
   pub reads : (body : List ℕ) → ReadsWell body
   -- "what is written reads back as the same fields"
   pub writes : (m : Message) → writable m ≡ true → decode (encode m) ≡ some m
-  pub replies : (who : Peer) (body t k y : List ℕ) (n : ℕ) → leastReply ≤ length y → dealOf me who body t k y .told ≡ told.Reply n → RepliesWell me who body t k y n
+  -- a reply is the message that the plain reading of the request calls for, it reads back as that message, and bytes after it stay
+  pub replies : (who : Peer) → Roomed who → (body t k y : List ℕ) → leastReply ≤ length y → (n : ℕ) → dealOf me who body t k y .told ≡ told.Reply n
+      → ReadsBack (verdictOf me who (messageOf body) t k) (dealOf me who body t k y) y n
   -- "A query answers the twenty contacts nearest by XOR of SHA-256, or all when fewer, nearest first"
   pub nearest : (t key : List ℕ) → AreNearest t (placeOf key) (nearestSlots t (placeOf key))
   -- "A lookup asks nobody twice. It reports complete only when the twenty nearest peers heard of that haven't failed, or all if fewer, have answered, and
