@@ -57,7 +57,9 @@ fn id_of(k: usize, sort: u8) -> [u8; 3] {
     [high as u8, low as u8, sort]
 }
 
-fn number_of(high: u8, low: u8) -> usize {
+fn number_of(high: u8, low: u8) -> usize
+    ensures { λ r. ⌜ r < 65536 ⌝ }
+{
     (high as usize) * 256 + (low as usize)
 }
 
@@ -263,7 +265,7 @@ fn behaved(l: Lookup, c: Candidate, network: u8, places: &[u8], n: usize) -> Loo
     let low = full[1];
     let sort = full[2];
     let id = [high, low, sort];
-    let k = (high as usize) * 256 + (low as usize);
+    let k = number_of(high, low);
     let b = behaviour(network, k, sort);
     if b == SILENT {
         let s = l.failure(&me, our_place(), &id);

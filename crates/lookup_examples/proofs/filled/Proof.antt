@@ -8,7 +8,7 @@ use Rattle.lookup_examples.proofs.filled.Statement.{statement}
 use Rattle.lookup_examples.proofs.filled.Tie as tie
 
 abbrev Inv-loop : tie.InvT-loop
-Inv-loop l₀ n₀ l n = n ≤ 240
+Inv-loop l₀ n₀ l n = n ≤ 260
 
 abbrev μ-loop : tie.MeasureT-loop
 μ-loop l₀ n₀ l n = 240 - n
