@@ -6,7 +6,7 @@ use mathlib.Core.List.{List, [], _∷_, map}
 use native.Mathlib.Omega.{arith}
 use native.Mathlib.Numerals.{add-one}
 use lib.Dec.{eqb, ltb}
-use lib.ListN.{length, getD, drop, replicate, length-map, length-take, length-replicate, drop-of-length-le, List·getD-map, List·getD-append}
+use lib.ListN.{length, getD, drop, replicate, length-append, length-drop, length-map, length-take, length-replicate, drop-of-length-le, List·getD-map, List·getD-append}
 use lib.Seq.{sets, sets-eq, drop-cons, getD-take}
 use borrow.Author.Tests.{eq-eqb, ne-eqb, ltb-true}
 use Rattle.octets.specs.Octets.{part, same}
@@ -60,6 +60,21 @@ pub hear-fits : (ours id : List ℕ) (l : Lookup) → Fits l → Fits (hear ours
 unfolding hear
 hear-fits ours id l h =
     cond-ind Fits (not (idFits id)) l _ (λ e. h) (λ e. cond-ind Fits (same (sha256 id) ours) l (meet (fresh id) l) (λ q. h) (λ q. meet-fits (fresh id) l h))
+
+-- and the array as long as it was
+abbrev Long : Lookup → Type 0
+Long l = length (l .candidates) ≡ room
+
+hear-long : (ours id : List ℕ) (l : Lookup) → Fits l → Long l → Long (hear ours id l)
+unfolding hear meet
+hear-long ours id l f h =
+    cond-ind Long (not (idFits id)) l _ (λ e. h)
+    (λ a. cond-ind Long (same (sha256 id) ours) l _ (λ e. h)
+    (λ b. cond-ind Long (known (sha256 id) (candidatesOf l)) l _ (λ e. h)
+    (λ c. cond-ind Long (ltb (l .count) room) (put l (enter (l .target) (fresh id) (candidatesOf l))) (turnAway l)
+    (λ q. length-append (enter (l .target) (fresh id) (candidatesOf l)) (drop (length (enter (l .target) (fresh id) (candidatesOf l))) (l .candidates))
+    ∙ omega (arith, length-drop (length (enter (l .target) (fresh id) (candidatesOf l))) (l .candidates), enter-length (l .target) (fresh id) (candidatesOf l), length-take (l .count) (l .candidates), ltb-true (l .count) room q))
+    (λ q. h))))
 
 pub all-fits : (ours : List ℕ) (ids : List (List ℕ)) (l : Lookup) → Fits l → Fits (hearAll ours ids l)
 unfolding hearAll
@@ -163,10 +178,11 @@ module _ (s : List ℕ) where
 pub record Heard (s ours : List ℕ) (n : ℕ) (l k : Lookup) (i : ℕ) : Type 0 where
   pub some : i ≤ n
   pub fits : k .count ≤ room
+  pub long : length (k .candidates) ≡ room
   pub same : hearAll ours (drop i (heardIds s)) k ≡ hearAll ours (heardIds s) l
 
-pub heard-start : (s ours : List ℕ) (n : ℕ) (l : Lookup) → l .count ≤ room → Heard s ours n l l 0
-heard-start s ours n l h = record { some = omega arith; fits = h; same = refl }
+pub heard-start : (s ours : List ℕ) (n : ℕ) (l : Lookup) → l .count ≤ room → length (l .candidates) ≡ room → Heard s ours n l l 0
+heard-start s ours n l h g = record { some = omega arith; fits = h; long = g; same = refl }
 
 unrolled : (ours id : List ℕ) (ids : List (List ℕ)) (k : Lookup) → hearAll ours ids (hear ours id k) ≡ hearAll ours (id ∷ ids) k
 unfolding hearAll
@@ -182,6 +198,7 @@ heard-one s ours l ids e k m i h g em =
     record {
       some = omega arith;
       fits = subst Fits (sym em) (hear-fits ours (part s (getD (ids .at) i 0) (getD (ids .end) i 0)) k (g .fits));
+      long = subst Long (sym em) (hear-long ours (part s (getD (ids .at) i 0) (getD (ids .end) i 0)) k (g .fits) (g .long));
       same = ap (hearAll ours (drop (i + 1) (heardIds s))) em ∙ step (heard-next s ids e i h) ∙ g .same;
     }
   where

@@ -1,4 +1,4 @@
--- Laws of `firstIn`, `anyIn` and `map`, and of a loop over the first n elements of a list. Assumes nothing. -- for octets
+-- Laws of `firstIn` and `map`, and of a loop over the first n elements of a list. Assumes nothing. -- for octets
 use Prim.Native.Nat.{ℕ, zero, suc, _+_, _≤_, _<_}
 use mathlib.Core.Path.{_≡_, refl, sym, ap, _∙_}
 use mathlib.Core.Bool.{Bool, true, false, cond}
@@ -7,8 +7,8 @@ use native.Mathlib.Omega.{arith}
 use native.Mathlib.Numerals.{add-one}
 use lib.ListN.{length, getD, take, drop, set, length-take, length-set, drop-of-length-le}
 use lib.Seq.{drop-cons, getD-take, length-take-le, take-suc, take-all, take-suc-set}
-use Rattle.octets.proofs.Bools.{cond-yes, cond-no, cond-ind, or-l, or-off}
-use Rattle.lookup.specs.Lists.{firstIn, anyIn}
+use Rattle.octets.proofs.Bools.{cond-yes, cond-no, cond-ind}
+use Rattle.lookup.specs.Lists.{firstIn}
 
 module _ {A : Type 0} where
   -- ---- the first n of a list, from i on
@@ -61,33 +61,6 @@ module _ {A : Type 0} where
     seek-end n xs i W h k e =
         let y : firstIn p (drop i (take n xs)) ≡ 0 = ap (firstIn p) (at-end n xs i h) ∙ first-nil in
         omega arith
-
-  -- ---- anyIn
-  module _ (p : A → Bool) where
-    pub any-nil : anyIn p [] ≡ false
-    unfolding anyIn
-    any-nil = refl
-
-    pub any-here : (x : A) (l : List A) → p x ≡ true → anyIn p (x ∷ l) ≡ true
-    unfolding anyIn
-    any-here x l e = or-l (p x) (anyIn p l) e
-
-    pub any-past : (x : A) (l : List A) → p x ≡ false → anyIn p (x ∷ l) ≡ anyIn p l
-    unfolding anyIn
-    any-past x l e = or-off (p x) (anyIn p l) e
-
-    pub find-hit : (n : ℕ) (xs : List A) (i : ℕ) (d : A) (b W : Bool) → n ≤ length xs → i < n → b ≡ p (getD xs i d) → b ≡ true
-        → anyIn p (drop i (take n xs)) ≡ W → true ≡ W
-    find-hit n xs i d b W hn h q t e =
-        sym (ap (anyIn p) (one-on n xs i d h hn) ∙ any-here (getD xs i d) (drop (i + 1) (take n xs)) (sym q ∙ t)) ∙ e
-
-    pub find-miss : (n : ℕ) (xs : List A) (i : ℕ) (d : A) (b W : Bool) → n ≤ length xs → i < n → b ≡ p (getD xs i d) → b ≡ false
-        → anyIn p (drop i (take n xs)) ≡ W → anyIn p (drop (i + 1) (take n xs)) ≡ W
-    find-miss n xs i d b W hn h q t e =
-        sym (ap (anyIn p) (one-on n xs i d h hn) ∙ any-past (getD xs i d) (drop (i + 1) (take n xs)) (sym q ∙ t)) ∙ e
-
-    pub find-end : (n : ℕ) (xs : List A) (i : ℕ) (W : Bool) → n ≤ i → anyIn p (drop i (take n xs)) ≡ W → false ≡ W
-    find-end n xs i W h e = sym (ap (anyIn p) (at-end n xs i h) ∙ any-nil) ∙ e
 
 -- ---- map, into an array
 module _ {A : Type 0} (f : A → ℕ) where

@@ -99,8 +99,3 @@ put-enter l c r h hl e =
     ap (λ (xs : List Candidate). withCandidates l (l .count + 1) xs) z
     ∙ ap (λ (k : ℕ). withCandidates l k ((take r (candidatesOf l) ++ (c ∷ drop r (candidatesOf l))) ++ drop k (l .candidates))) (sym w)
     ∙ ap (λ (xs : List Candidate). put l xs) q
-
--- room for one more
-pub rank-fits : (l : Lookup) (p : List ℕ) (r : ℕ) → l .count ≤ 256 → length (l .candidates) ≡ 256 → r ≡ rankOf (l .target) p (candidatesOf l) → r ≤ l .count
-rank-fits l p r h hl e =
-    omega (arith, first-le (beyond (l .target) p) (candidatesOf l), length-take-le (l .count) (l .candidates) (omega arith))

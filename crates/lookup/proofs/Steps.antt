@@ -16,7 +16,7 @@ use Rattle.refusal.specs.declared.Refusal.the-variants.{OutOfForm, BadPeer, Not
 use Rattle.lookup_marks.specs.Marks.{idle, flying, failed, twentyOf, isOver, idleOf, flightsOf, sentOf, ranksOf}
 use Rattle.lookup_marks.specs.declared.Ranks.{Ranks}
 use Rattle.lookup.specs.Inner.{rankOf}
-use Rattle.lookup.specs.Lookup.{room, idMost, candidatesOf, markOf, marksOf, inForm, withCandidates, turnAway, put, mark, gives, refuses, ends, settled, nextOf, idFits, badPeer, flies, flyerOf, whomOf, reported, failureOf, fresh, known, enter, meet, hear}
+use Rattle.lookup.specs.Lookup.{room, idMost, candidatesOf, markOf, marksOf, inForm, withCandidates, turnAway, put, mark, gives, refuses, ends, settled, nextOf, idFits, badPeer, flies, flyerOf, whomOf, reported, failureOf, fresh, known, enter, meet}
 use Rattle.lookup.specs.declared.Candidate.{Candidate}
 use Rattle.lookup.specs.declared.Lookup.{Lookup}
 use Rattle.lookup.specs.declared.Step.{Step}
@@ -262,22 +262,3 @@ module _ (c : Candidate) (l : Lookup) (b : Bool) (eb : b ≡ known (c .place) (c
     meet-full h =
         sym (cond-no (known (c .place) (candidatesOf l)) l _ (sym eb ∙ t)
         ∙ cond-no (ltb (l .count) room) (put l (enter (l .target) c (candidatesOf l))) (turnAway l) (le-ltb (l .count) room h))
-
-module _ (ours id : List ℕ) (l : Lookup) (a : Bool) (ea : a ≡ idFits id) where
-  pub hear-bad : not a ≡ true → l ≡ hear ours id l
-  unfolding hear
-  hear-bad h = sym (cond-yes (not (idFits id)) l _ (ap not (sym ea) ∙ h))
-
-  module _ (h : not a ≡ false) (c : Candidate) (ec : c ≡ fresh id) (s : Bool) (es : s ≡ same (c .place) ours) where
-    ourselves : s ≡ same (sha256 id) ours
-    ourselves = es ∙ ap (λ (x : Candidate). same (x .place) ours) ec
-
-    pub hear-ours : s ≡ true → l ≡ hear ours id l
-    unfolding hear
-    hear-ours t = sym (cond-no (not (idFits id)) l _ (ap not (sym ea) ∙ h) ∙ cond-yes (same (sha256 id) ours) l _ (sym ourselves ∙ t))
-
-    pub hear-new : (k : Lookup) → s ≡ false → k ≡ meet c l → k ≡ hear ours id l
-    unfolding hear
-    hear-new k t ek =
-        ek ∙ ap (λ (x : Candidate). meet x l) ec
-        ∙ sym (cond-no (not (idFits id)) l _ (ap not (sym ea) ∙ h) ∙ cond-no (same (sha256 id) ours) l (meet (fresh id) l) (sym ourselves ∙ t))

@@ -1,13 +1,13 @@
 // The closest-peer lookup: a value that each step takes in and hands back.
 ghost use mathlib.Core.Path.{_≡_};
-ghost use mathlib.Core.Bool.{_&&_};
+ghost use mathlib.Core.Bool.{_&&_, _||_};
 ghost use mathlib.Core.List.{map, _∷_, _++_};
 ghost use Prim.Native.Nat.{_+_, _<_, _≤_};
 ghost use lib.ListN.{length, take, drop};
 ghost use Rattle.place.specs.Place.{nearerTo};
 ghost use Rattle.lookup_marks.specs.Marks.{failed};
 ghost use Rattle.lookup.specs.View.{sameSpan, sameBool, sameHeld, sameFields};
-ghost use Rattle.lookup.specs.Inner.{rankOf};
+ghost use Rattle.lookup.specs.Inner.{rankOn, arrivalOf};
 ghost use Rattle.lookup.specs.Lookup.{markOf, marksOf, wellMade, nearestFirst, inForm, withCandidates, turnAway, markAt, mark, gives, refuses, ends, settled, nextOf, idFits, flies, flyerOf, whomOf, failureOf, fresh, liesAt, known, meet, hear, hearAll, isView, heardIds, heardFrom, replyOf, nobody, noLookup, contactAt, begun, keyFits, limitFits, startOf};
 use lookup_marks::Ranks;
 use message::Fields;
@@ -320,73 +320,28 @@ fn about(l: Lookup, own: &[u8], ours: [u8; 32], id: &[u8]) -> Whom
     Whom::At(i)
 }
 
-// Whether some candidate lies at this place.
-fn is_known(l: Lookup, n: usize, place: [u8; 32]) -> bool
-    requires { ⌜ n ≤ 256 ⌝ }
-    ensures { λ r. ⌜ r ≡ known place (take n (l .candidates)) ⌝ }
+// Whether some candidate up to d lies at this place, where `before` says it of those before d.
+fn known_by(before: bool, d: Candidate, place: [u8; 32]) -> bool
+    ensures { λ r. ⌜ r ≡ (before || liesAt place d) ⌝ }
 {
-    let mut i: usize = 0;
-    while i < n {
-        let c = l.candidates[i];
-        if lies_at(c, place) {
-            return true;
-        }
-        i += 1;
+    if before {
+        return true;
     }
-    false
+    lies_at(d, place)
 }
 
-// How many are nearer than the place, up to the first that isn't.
-fn rank(l: Lookup, n: usize, place: [u8; 32]) -> usize
-    requires { ⌜ n ≤ 256 ⌝ }
-    ensures { λ r. ⌜ r ≡ rankOf (l .target) place (take n (l .candidates)) ⌝ }
+// How many up to d, of rank j, are nearer than the place, up to the first that isn't; r says it of those before d.
+fn rank_by(r: usize, j: usize, target: [u8; 32], d: Candidate, place: [u8; 32]) -> usize
+    requires { ⌜ (r ≤ j) × (j < 256) ⌝ }
+    ensures { λ s. ⌜ (s ≡ rankOn target place r j d) × (s ≤ j + 1) ⌝ }
 {
-    let target = l.target;
-    let mut i: usize = 0;
-    while i < n {
-        let c = l.candidates[i];
-        if !is_nearer(target, c, place) {
-            return i;
-        }
-        i += 1;
+    if r < j {
+        return r;
     }
-    n
-}
-
-// The candidates from rank r on move one up, and c comes in.
-fn insert(l: Lookup, n: usize, r: usize, c: Candidate) -> Lookup
-    requires { ⌜ (n < 256) × (r ≤ n) ⌝ }
-    ensures { λ s. ⌜ s ≡ withCandidates l (n + 1) (take r (l .candidates) ++ (c ∷ (drop r (take n (l .candidates)) ++ drop (n + 1) (l .candidates)))) ⌝ }
-{
-    let mut k = l;
-    let mut j = n;
-    while r < j {
-        let d = k.candidates[j - 1];
-        k.candidates[j] = d;
-        j -= 1;
+    if is_nearer(target, d, place) {
+        return j + 1;
     }
-    k.candidates[r] = c;
-    k.count = n + 1;
-    k
-}
-
-// A candidate comes in at its rank, unless its place is known; where there is no room, the lookup is marked.
-fn take_in(l: Lookup, c: Candidate) -> Lookup
-    requires { ⌜ l .count ≤ 256 ⌝ }
-    ensures { λ r. ⌜ r ≡ meet c l ⌝ }
-{
-    let n = l.count;
-    let place = c.place;
-    if is_known(l, n, place) {
-        return l;
-    }
-    if n < ROOM {
-        let r = rank(l, n, place);
-        return insert(l, n, r, c);
-    }
-    let mut k = l;
-    k.turned = true;
-    k
+    j
 }
 
 // A candidate as it comes in: idle.
@@ -406,20 +361,33 @@ fn newcomer(id: &[u8]) -> Candidate
     }
 }
 
-// The peer with this id is heard of.
-fn hear_of(l: Lookup, ours: [u8; 32], id: &[u8]) -> Lookup
-    requires { ⌜ l .count ≤ 256 ⌝ }
-    ensures { λ r. ⌜ r ≡ hear ours (now (id .entry)) l ⌝ }
+// No candidate.
+fn no_candidate() -> Candidate
+    ensures { λ r. ⌜ r ≡ nobody ⌝ }
+{
+    let id = [0u8; 64];
+    let place = [0u8; 32];
+    Candidate {
+        id,
+        place,
+        mark: lookup_marks::IDLE,
+        len: 0,
+    }
+}
+
+// The peer with this id as a candidate; a bad id and our own give nobody.
+fn arrival(ours: [u8; 32], id: &[u8]) -> Candidate
+    ensures { λ r. ⌜ r ≡ arrivalOf ours (now (id .entry)) ⌝ }
 {
     if !id_fits(id) {
-        return l;
+        return no_candidate();
     }
     let c = newcomer(id);
     let place = c.place;
     if octets::same_bytes(&place, &ours) {
-        return l;
+        return no_candidate();
     }
-    take_in(l, c)
+    c
 }
 
 // Whether two spans are one.
@@ -487,7 +455,8 @@ fn is_view(body: &[u8], view: Fields) -> bool
     }
 }
 
-// The first 21 peers that a reply names are heard of, one after another.
+// The first 21 peers that a reply names are heard of, one after another. The loops stand in one function, since a lookup that is handed to
+// another is copied.
 fn hear_all(l: Lookup, ours: [u8; 32], body: &[u8]) -> Lookup
     requires { ⌜ l .count ≤ 256 ⌝ }
     ensures { λ r. ⌜ r ≡ hearAll ours (heardIds (now (body .entry))) l ⌝ }
@@ -501,8 +470,43 @@ fn hear_all(l: Lookup, ours: [u8; 32], body: &[u8]) -> Lookup
     while i < n {
         let a = at[i];
         let e = end[i];
-        k = hear_of(k, ours, &body[a..e]);
         i += 1;
+        let c = arrival(ours, &body[a..e]);
+        if c.len < 1 {
+            continue;
+        }
+        let place = c.place;
+        let m = k.count;
+        let mut known = false;
+        let mut j: usize = 0;
+        while j < m {
+            let d = k.candidates[j];
+            known = known_by(known, d, place);
+            j += 1;
+        }
+        if known {
+            continue;
+        }
+        if m >= ROOM {
+            k.turned = true;
+            continue;
+        }
+        let target = k.target;
+        let mut r: usize = 0;
+        let mut h: usize = 0;
+        while h < m {
+            let d = k.candidates[h];
+            r = rank_by(r, h, target, d, place);
+            h += 1;
+        }
+        let mut g = m;
+        while r < g {
+            let d = k.candidates[g - 1];
+            k.candidates[g] = d;
+            g -= 1;
+        }
+        k.candidates[r] = c;
+        k.count = m + 1;
     }
     k
 }
@@ -516,20 +520,6 @@ fn hear_from(l: Lookup, i: usize, ours: [u8; 32], body: &[u8], kind: u64) -> Loo
         return hear_all(set_mark(l, i, lookup_marks::ANSWERED), ours, body);
     }
     set_mark(l, i, lookup_marks::FAILED)
-}
-
-// No candidate.
-fn no_candidate() -> Candidate
-    ensures { λ r. ⌜ r ≡ nobody ⌝ }
-{
-    let id = [0u8; 64];
-    let place = [0u8; 32];
-    Candidate {
-        id,
-        place,
-        mark: lookup_marks::IDLE,
-        len: 0,
-    }
 }
 
 // The lookup that a refused start hands back.

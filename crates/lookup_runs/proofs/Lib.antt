@@ -6,3 +6,4 @@ pub mod Sound
 pub mod Asking
 pub mod Answering
 pub mod Theorems
+pub mod Refusals
