@@ -1,3 +1,4 @@
 pub mod Box
 pub mod Node
 pub mod Hosts
+pub mod Inner

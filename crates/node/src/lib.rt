@@ -16,14 +16,17 @@ use stream::Ending;
 use stream::Framing;
 ghost use mathlib.Core.Path.{_≡_};
 ghost use mathlib.Core.Bool.{true, false};
-ghost use lib.ListN.{length, take};
+ghost use Prim.Native.Nat.{_≤_};
+ghost use lib.ListN.{length};
+ghost use Rattle.peer.specs.Addresses.{usableSize};
 ghost use Rattle.message.specs.View.{readingOf};
 ghost use Rattle.records.specs.Store.{putAnswer, putAfter, findOf};
 ghost use Rattle.writer.specs.Writer.{messageWith, answerOf, outAfter};
 ghost use Rattle.lookup.specs.Lookup.{nextOf};
-ghost use Rattle.node.specs.Box.{ownFits, nobody, startOf, withFraming, openOf, sizeFits, peerForm, connForm, endConn};
-ghost use Rattle.node.specs.Node.{Dealing, sightOf, contactsAfter, served, heardAs, dealingOf, gateOf, received, shutIf, done, takenOf, receiveOf, Gives};
-ghost use Rattle.node.specs.Hosts.{seenOf, seenAfter, settleOf, settleAfter, removeOf, removeAfter, noneNear, nearestTo, ownId, lookupStart, lookupReply, lookupFailure};
+ghost use Rattle.node.specs.Box.{ownFits, nobody, startOf, withFraming, openOf, peerForm, connForm, endConn};
+ghost use Rattle.node.specs.Node.{sightOf, contactsAfter, served, heardAs, dealingOf, gateOf, received, takenOf, receiveOf, Gives};
+ghost use Rattle.node.specs.Hosts.{seenOf, seenAfter, settleOf, settleAfter, removeOf, removeAfter, noneNear, nearestTo, lookupStart, lookupReply, lookupFailure};
+ghost use Rattle.node.specs.Inner.{startsShut, usableSizes, unseen, Deals, refusalOfBox, ownSize};
 
 // A connection: its peer, where its framing stands, whether the peer is a server, and whether we are the side that asks.
 pub struct Conn {
@@ -125,7 +128,9 @@ pub fn start(id: &[u8], addresses: &[u8]) -> Started
 }
 
 // A connection that starts shut, since its peer can't be one.
-fn refuse_open(server: bool, asking: bool) -> Opened {
+fn refuse_open(server: bool, asking: bool) -> Opened
+    ensures { λ r. ⌜ r ≡ startsShut server asking ⌝ }
+{
     let peer = no_peer();
     let framing = stream::shut();
     let conn = Conn {
@@ -165,17 +170,25 @@ pub fn open(me: Peer, id: &[u8], server: bool, asking: bool, addresses: &[u8]) -
     Opened { conn, told }
 }
 
-// Whether each of the peer's addresses has 1 to 128 bytes.
-fn sizes_fit(p: Peer) -> bool {
-    let lens = p.lens;
-    let n = p.count as usize;
+// Whether an address may have so many bytes: 1 to 128.
+fn size_fits(size: u8) -> bool
+    ensures { λ r. ⌜ r ≡ usableSize size ⌝ }
+{
+    let n = size as usize;
+    if n == 0 {
+        return false;
+    }
+    n <= peer::ADDRESS
+}
+
+// Whether the first of these lengths are those of addresses.
+fn sizes_fit(lens: [u8; 4], count: usize) -> bool
+    requires { ⌜ count ≤ 4 ⌝ }
+    ensures { λ r. ⌜ r ≡ usableSizes lens count ⌝ }
+{
     let mut k: usize = 0;
-    while k < n {
-        let size = lens[k] as usize;
-        if size == 0 {
-            return false;
-        }
-        if peer::ADDRESS < size {
+    while k < count {
+        if !size_fits(lens[k]) {
             return false;
         }
         k += 1;
@@ -190,10 +203,12 @@ fn peer_form(p: Peer) -> bool
     if !own_fits(p) {
         return false;
     }
-    if peer::ADDRESSES < p.count as usize {
+    let count = p.count as usize;
+    if peer::ADDRESSES < count {
         return false;
     }
-    sizes_fit(p)
+    let lens = p.lens;
+    sizes_fit(lens, count)
 }
 
 // Whether a connection is in form. A shut one is.
@@ -319,7 +334,9 @@ fn refuse(conn: Conn, taken: usize, r: Refusal) -> Received
 }
 
 // A message on the asking side goes to the host.
-fn hear(conn: Conn, taken: usize, body: &[u8]) -> Received {
+fn hear(conn: Conn, taken: usize, body: &[u8]) -> Received
+    ensures { λ r. ⌜ r ≡ unseen conn taken (heardAs (length (now (body .entry))) (readingOf (now (body .entry)))) ⌝ }
+{
     match message::read(body) {
         Reading::Whole(f) => hand_back(conn, taken, Answer::Heard(body.len(), f), Sight::NotSeen),
         Reading::Refused(r) => refuse(conn, taken, r),
@@ -335,7 +352,9 @@ fn serve(
     contacts: &mut [u8],
     records: &mut [u8],
     reply: &mut [u8],
-) -> Received {
+) -> Received
+    ensures { λ r. ⌜ Deals (served me conn (now (body .entry)) (now (contacts .entry)) (now (records .entry)) (now (reply .entry))) conn taken r (now (contacts .exit)) (now (records .exit)) (now (reply .exit)) ⌝ }
+{
     let who = conn.peer;
     match answer::answer(me, who, body, contacts, records, reply) {
         Answered::Refused(r) => refuse(conn, taken, r),
@@ -355,7 +374,9 @@ fn whole(
     contacts: &mut [u8],
     records: &mut [u8],
     reply: &mut [u8],
-) -> Received {
+) -> Received
+    ensures { λ r. ⌜ Deals (dealingOf me conn (now (body .entry)) (now (contacts .entry)) (now (records .entry)) (now (reply .entry))) conn taken r (now (contacts .exit)) (now (records .exit)) (now (reply .exit)) ⌝ }
+{
     if conn.asking {
         return hear(conn, taken, body);
     }
@@ -415,7 +436,9 @@ pub fn receive(
 // ---- the host's other calls
 
 // What a call on the contacts gives a box that no start gives: 0, then 12.
-fn refusal_of_box(contacts: &[u8], ours: &[u8]) -> Refusal {
+fn refusal_of_box(contacts: &[u8], ours: &[u8]) -> Refusal
+    ensures { λ r. ⌜ r ≡ refusalOfBox (now (contacts .entry)) (now (ours .entry)) ⌝ }
+{
     if contacts::in_form(contacts, ours) {
         return Refusal::BadPeer;
     }
@@ -494,4 +517,92 @@ pub fn nearest(me: Peer, contacts: &[u8], key: &[u8]) -> Nearby
     let closest = contacts::nearest(contacts, &target);
     let told = Told::Fine;
     Nearby { closest, told }
+}
+
+// ---- lookups
+
+// How many bytes the box's id has; none where no start gives it.
+fn own_size(me: Peer) -> usize
+    ensures { λ r. ⌜ (r ≡ ownSize me) × (r ≤ 64) ⌝ }
+{
+    if own_fits(me) {
+        return me.size as usize;
+    }
+    0
+}
+
+// A lookup of a key starts from the contacts, with so many peers asked at a time.
+pub fn lookup_start(me: Peer, contacts: &[u8], key: &[u8], limit: usize) -> Step
+    ensures { λ r. ⌜ r ≡ lookupStart me (now (contacts .entry)) (now (key .entry)) limit ⌝ }
+{
+    let id = me.id;
+    let n = own_size(me);
+    let ours = me.place;
+    Lookup::start(contacts, &id[..n], ours, key, limit)
+}
+
+// The next step of a lookup: whom to ask, wait, or its end.
+pub fn lookup_next(lookup: Lookup) -> Step
+    ensures { λ r. ⌜ r ≡ nextOf lookup ⌝ }
+{
+    lookup.next()
+}
+
+// A message that came for a lookup, from the peer with this id: its body, and the places of its fields.
+pub fn lookup_reply(me: Peer, lookup: Lookup, id: &[u8], body: &[u8], view: Fields) -> Step
+    ensures { λ r. ⌜ r ≡ lookupReply me lookup (now (id .entry)) (now (body .entry)) view ⌝ }
+{
+    let own = me.id;
+    let n = own_size(me);
+    let ours = me.place;
+    lookup.reply(&own[..n], ours, id, body, view)
+}
+
+// The peer with this id failed a lookup.
+pub fn lookup_failure(me: Peer, lookup: Lookup, id: &[u8]) -> Step
+    ensures { λ r. ⌜ r ≡ lookupFailure me lookup (now (id .entry)) ⌝ }
+{
+    let own = me.id;
+    let n = own_size(me);
+    let ours = me.place;
+    lookup.failure(&own[..n], ours, id)
+}
+
+// ---- records and messages
+
+// Puts a record into the store.
+pub fn put(records: &mut [u8], key: &[u8], value: &[u8]) -> records::Answer
+    ensures { λ r. ⌜ (r ≡ putAnswer (now (records .entry)) (now (key .entry)) (now (value .entry))) × (now (records .exit) ≡ putAfter (now (records .entry)) (now (key .entry)) (now (value .entry))) ⌝ }
+{
+    records::put(records, key, value)
+}
+
+// Where a key's value stands in the store.
+pub fn find(records: &[u8], key: &[u8]) -> records::Found
+    ensures { λ r. ⌜ r ≡ findOf (now (records .entry)) (now (key .entry)) ⌝ }
+{
+    records::find(records, key)
+}
+
+// The message that a body is.
+pub fn read(body: &[u8]) -> Reading
+    ensures { λ r. ⌜ r ≡ readingOf (now (body .entry)) ⌝ }
+{
+    message::read(body)
+}
+
+// Writes a message with its length prefix from the start of out on: its type, its key, its record if it has one, and its peers, given as byte strings.
+pub fn write(
+    out: &mut [u8],
+    kind: u64,
+    key: &[u8],
+    held: bool,
+    rkey: &[u8],
+    value: &[u8],
+    closer: &[u8],
+    providers: &[u8],
+) -> writer::Written
+    ensures { λ r. ⌜ (r ≡ answerOf (now (out .entry)) (messageWith kind (now (key .entry)) held (now (rkey .entry)) (now (value .entry)) (now (closer .entry)) (now (providers .entry)))) × (now (out .exit) ≡ outAfter (now (out .entry)) (messageWith kind (now (key .entry)) held (now (rkey .entry)) (now (value .entry)) (now (closer .entry)) (now (providers .entry)))) ⌝ }
+{
+    writer::write(out, kind, key, held, rkey, value, closer, providers)
 }

@@ -1,0 +1,5 @@
+pub mod Forms
+pub mod Opening
+pub mod Bounds
+pub mod Receiving
+pub mod Hosting
