@@ -13,7 +13,7 @@ use Rattle.place.specs.Place.{placeOf}
 use Rattle.place.proofs.Places.{length-placeOf, bytes-placeOf}
 use Rattle.peer.specs.declared.Peer.{Peer}
 use Rattle.peer.specs.Peers.{idFits, peerOf}
-use Rattle.peer.proofs.Meaning.{place-is, size-is, fits-least, fits-most}
+use Rattle.peer.proofs.Meaning.{place-is, size-is, id-length, fits-least, fits-most}
 use Rattle.contacts.specs.Form.{inForm as contactsForm}
 use Rattle.contact_calls.proofs.Theorems.{cleared-in-form}
 use Rattle.records.specs.Store.{inForm as recordsForm}
@@ -38,7 +38,7 @@ own-of : (id addresses : List ℕ) → idFits id ≡ true → Own (peerOf id (pl
 own-of id addresses f =
     record {
       fits = fits-own id (placeOf id) addresses f;
-      roomed = id-long id (placeOf id) addresses;
+      roomed = id-length id (placeOf id) addresses;
       long = ap length (place-is id (placeOf id) addresses) ∙ length-placeOf id;
       bytes = subst Bytes (sym (place-is id (placeOf id) addresses)) (bytes-placeOf id);
     }

@@ -40,6 +40,7 @@ use Rattle.node.specs.declared.Conn.{Conn}
 use Rattle.node.specs.declared.Answer.{Answer}
 use Rattle.node.specs.declared.Answer.the-variants.{Reply, Heard, Refused, More}
 use Rattle.node.specs.Node.{Dealing, byAnswer, served, heardAs, heard, dealingOf, byEvent}
+use Rattle.demands.proofs.Deal.{deal-is}
 
 abbrev pub Above : Refusal → Type 0
 Above r = 1 ≤ numberOf r

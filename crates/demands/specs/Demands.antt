@@ -6,7 +6,7 @@ use mathlib.Core.Logic.{_⊎_}
 use mathlib.Core.Bool.{Bool, true, false}
 use mathlib.Core.List.{List, []}
 use mathlib.Core.Option.{none, some}
-use lib.ListN.{length, take, drop}
+use lib.ListN.{length}
 use Rattle.refusal.specs.declared.Refusal.{Refusal}
 use Rattle.refusal.specs.declared.Refusal.the-variants.{OutOfForm, Malformed}
 use Rattle.place.specs.Place.{placeOf}
@@ -22,7 +22,7 @@ use Rattle.records.specs.declared.Found.the-variants as findTold
 use Rattle.records.specs.Store.{putAnswer, putAfter, findOf}
 use Rattle.records_history.specs.History.{Has, got, after, cleared, Accepted, Unbeaten}
 use Rattle.message.specs.Limits.{mostBody, leastReply}
-use Rattle.message.specs.Message.{Message, messageOf, decode, encode, frame}
+use Rattle.message.specs.Message.{Message, messageOf, decode, encode}
 use Rattle.pieces.specs.Writable.{writable}
 use Rattle.message.specs.View.{readingOf, meant}
 use Rattle.message.specs.declared.Fields.{Fields}
@@ -39,7 +39,8 @@ use Rattle.stream.specs.Stream.{fresh, isShut}
 use Rattle.cutting.specs.World.{Line, World, Call, given, calls, Fine, Ready, AllFit}
 use Rattle.cutting.specs.Plain.{ReadOut, plainly, unread}
 use Rattle.answer.specs.declared.Answered.the-variants as told
-use Rattle.answer.specs.Answers.{replies, verdictOf, dealOf}
+use Rattle.answer.specs.Answers.{verdictOf, dealOf}
+use Rattle.answer_promises.specs.Promises.{Roomed, ReadsBack}
 use Rattle.node.specs.declared.Conn.{Conn}
 use Rattle.node.specs.declared.Answer.the-variants.{Refused}
 use Rattle.node.specs.declared.Told.the-variants as nodeTold
