@@ -472,6 +472,13 @@ static void put_group(string &s, int depth) {
     if (!one_in(8)) put_tag(s, one_in(8) ? number + 1 : number, 4);
 }
 
+/* Groups in groups, about as many as the library follows. */
+static void put_deep(string &s) {
+    size_t n = 95 + below(10);
+    for (size_t i = 0; i < n; i++) s += static_cast<char>(7 << 3 | 3);
+    for (size_t i = 0; i < n; i++) s += static_cast<char>(7 << 3 | 4);
+}
+
 /* A field that is not known, or known with another wire type. */
 static void put_other(string &s, int depth) {
     static const uint64_t numbers[] = {1, 2, 3, 4, 5, 6, 7, 8, 9, 10, 11, 15, 16, 17, 1000, 100000, (1u << 29) - 1};
@@ -488,6 +495,7 @@ static void put_other(string &s, int depth) {
     default:
         if (one_in(12)) put_tag(s, number, 4 + below(4));
         else if (one_in(3)) put_group(s, depth);
+        else if (one_in(20)) put_deep(s);
     }
 }
 
