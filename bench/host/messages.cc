@@ -1,6 +1,6 @@
-/* messages ours|nanopb|protoc|fresh CASE MILLISECONDS: reads the message of CASE for that time, and writes the nanoseconds of one, a sum of what
+/* messages ours|plain|nanopb|protoc|fresh CASE MILLISECONDS: reads the message of CASE for that time, and writes the nanoseconds of one, a sum of what
    was read, and the body's length. Each looks at every field: the type, the key, the record, and of each peer the id, the connection and each address.
-   `protoc` reads into one message again and again, `fresh` into a new one each time. */
+   `plain` has the same steps as ours in ordinary C++; `protoc` reads into one message again and again, `fresh` into a new one each time. */
 #include <cstdint>
 #include <cstdio>
 #include <cstdlib>
@@ -56,6 +56,119 @@ static uint64_t by_ours(const uint8_t *s, size_t n) {
     return ours_peers(s, n, ours_peers(s, n, sum, starterbell_closer_peer), starterbell_provider_peer);
 }
 
+/* ---- plain: the same steps, with the same tests of bounds */
+
+struct Span {
+    size_t at = 0, end = 0;
+};
+
+struct Field {
+    enum { END, BAD, NUMBER, BYTES, OTHER } kind = BAD;
+    uint64_t number = 0, value = 0;
+    Span part;
+    size_t next = 0;
+};
+
+static bool plain_varint(const uint8_t *s, size_t n, size_t &at, uint64_t &v) {
+    v = 0;
+    for (int shift = 0; shift < 64 && at < n; shift += 7) {
+        uint64_t b = s[at++];
+        if (shift == 63 && b > 1) return false;
+        v |= (b & 127) << shift;
+        if (b < 128) return true;
+    }
+    return false;
+}
+
+static Field plain_field(const uint8_t *s, size_t n, size_t at) {
+    Field f;
+    uint64_t tag, size;
+    if (n <= at) return f.kind = Field::END, f;
+    size_t next = at;
+    if (!plain_varint(s, n, next, tag) || next - at > 5 || tag >> 32 || tag < 8) return f;
+    f.number = tag >> 3;
+    switch (tag & 7) {
+    case 0:
+        if (plain_varint(s, n, next, f.value)) f.kind = Field::NUMBER, f.next = next;
+        return f;
+    case 2:
+        if (plain_varint(s, n, next, size) && size <= n - next) f.kind = Field::BYTES, f.part.at = next, f.part.end = f.next = next + size;
+        return f;
+    case 1:
+    case 5:
+        size = (tag & 7) == 1 ? 8 : 4;
+        if (size <= n - next) f.kind = Field::OTHER, f.next = next + size;
+        return f;
+    default: return f;
+    }
+}
+
+static bool plain_well(const uint8_t *s, size_t n, size_t at) {
+    for (;;) {
+        Field f = plain_field(s, n, at);
+        if (f.kind == Field::END || f.kind == Field::BAD) return f.kind == Field::END;
+        at = f.next;
+    }
+}
+
+static bool plain_next(const uint8_t *s, size_t n, size_t at, uint64_t number, Span &p) {
+    for (;;) {
+        Field f = plain_field(s, n, at);
+        if (f.kind == Field::END || f.kind == Field::BAD) return false;
+        if (f.kind == Field::BYTES && f.number == number) return p = f.part, true;
+        at = f.next;
+    }
+}
+
+static Span plain_last(const uint8_t *s, size_t n, size_t at, uint64_t number) {
+    Span last, p;
+    for (; plain_next(s, n, at, number, p); at = p.end) last = p;
+    return last;
+}
+
+static uint64_t plain_number(const uint8_t *s, size_t n, size_t at, uint64_t number) {
+    uint64_t last = 0;
+    for (;;) {
+        Field f = plain_field(s, n, at);
+        if (f.kind == Field::END || f.kind == Field::BAD) return last;
+        if (f.kind == Field::NUMBER && f.number == number) last = f.value;
+        at = f.next;
+    }
+}
+
+static uint64_t plain_peers(const uint8_t *s, size_t n, uint64_t sum, uint64_t number_of_list) {
+    Span peer, p;
+    for (size_t from = 0; plain_next(s, n, from, number_of_list, peer); from = peer.end) {
+        p = plain_last(s, peer.end, peer.at, 1);
+        sum = part(sum, s + p.at, p.end - p.at);
+        for (size_t at = peer.at; plain_next(s, peer.end, at, 2, p); at = p.end) sum = part(sum, s + p.at, p.end - p.at);
+        uint64_t connection = plain_number(s, peer.end, peer.at, 3);
+        sum = number(sum, connection > 3 ? 0 : connection);
+    }
+    return sum;
+}
+
+static uint64_t by_plain(const uint8_t *s, size_t n) {
+    uint64_t kind = 0;
+    bool held = false;
+    Span key, record_key, value;
+    if (n > 16384) exit(1);
+    for (size_t at = 0;;) {
+        Field f = plain_field(s, n, at);
+        if (f.kind == Field::END) break;
+        if (f.kind == Field::BAD) exit(1);
+        if (f.kind == Field::NUMBER && f.number == 1) kind = f.value;
+        if (f.kind == Field::BYTES && f.number == 2) key = f.part;
+        if (f.kind == Field::BYTES && (f.number == 3 || f.number == 8 || f.number == 9) && !plain_well(s, f.part.end, f.part.at)) exit(1);
+        if (f.kind == Field::BYTES && f.number == 3) held = true, record_key = plain_last(s, f.part.end, f.part.at, 1), value = plain_last(s, f.part.end, f.part.at, 2);
+        at = f.next;
+    }
+    if (kind > 5) exit(1);
+    uint64_t sum = part(number(0, kind), s + key.at, key.end - key.at);
+    if (held) sum = part(part(sum, s + record_key.at, record_key.end - record_key.at), s + value.at, value.end - value.at);
+    return plain_peers(s, n, plain_peers(s, n, sum, 8), 9);
+}
+
 /* ---- nanopb */
 
 static uint64_t nanopb_peers(const dht_Peer *peers, size_t n, uint64_t sum) {
@@ -97,6 +210,7 @@ static uint64_t by_protoc(dht::Message &m, const uint8_t *s, size_t n) {
 static uint64_t once(const string &way, const uint8_t *s, size_t n) {
     static dht::Message kept;
     if (way == "ours") return by_ours(s, n);
+    if (way == "plain") return by_plain(s, n);
     if (way == "nanopb") return by_nanopb(s, n);
     if (way == "protoc") return by_protoc(kept, s, n);
     dht::Message fresh;
