@@ -1,6 +1,9 @@
 // Seen, settle and remove on the contact table. Every public function takes any bytes.
 ghost use mathlib.Core.Path.{_≡_};
 ghost use Prim.Native.Nat.{ℕ, _+_, _*_, _<_, max};
+ghost use lib.Dec.{eqb};
+ghost use lib.ListN.{length};
+ghost use Rattle.octets.specs.Octets.{part, number};
 ghost use Rattle.place.specs.Place.{bucketOf};
 ghost use Rattle.contacts.specs.Table.{slotsOf, slot, putSlot, mark, place};
 ghost use Rattle.sightings.specs.Order.{isAt, isHead, markIn, heldAt, freeAt, headAt, tailOf, contactBytes, freeBytes, withAddresses, lowered, closeUp, leave, moveToTail, moveAndRenew, dropped, joinAt, join};
@@ -45,27 +48,53 @@ fn mark_at(table: &[u8], i: usize) -> u8
     table[i * SLOT]
 }
 
+// The place in a slot.
+fn place_at(table: &[u8], i: usize) -> &[u8]
+    requires { ⌜ i < slotsOf (now table) ⌝ }
+    ensures { λ r. ⌜ (now r ≡ place (slot (now (table .entry)) i)) × (length (now r) ≡ 32) ⌝ }
+{
+    let from = i * SLOT + 8;
+    let to = from + 32;
+    &table[from..to]
+}
+
 // The bucket of the place in a slot.
 fn bucket_at(table: &[u8], ours: &[u8], i: usize) -> usize
     requires { ⌜ i < slotsOf (now table) ⌝ }
     ensures { λ r. ⌜ r ≡ bucketOf (place (slot (now (table .entry)) i)) (now (ours .entry)) ⌝ }
 {
-    let from = i * SLOT + 8;
-    let to = from + 32;
-    place::bucket(&table[from..to], ours)
+    place::bucket(place_at(table, i), ours)
 }
 
-// Whether a slot holds the contact at a place.
-fn is_at(table: &[u8], p: &[u8], i: usize) -> bool
+// Whether the place in a slot is of bucket b. For the first 64 buckets the first word decides, with no call and no branch that is hard to foresee.
+fn in_bucket(table: &[u8], ours: &[u8], b: usize, i: usize) -> bool
     requires { ⌜ i < slotsOf (now table) ⌝ }
+    ensures { λ r. ⌜ r ≡ eqb (bucketOf (place (slot (now (table .entry)) i)) (now (ours .entry))) b ⌝ }
+{
+    if 64 <= b {
+        return bucket_at(table, ours, i) == b;
+    }
+    if ours.len() != 32 {
+        return false;
+    }
+    let x = octets::word(place_at(table, i), 0) ^ octets::word(ours, 0);
+    let shared = u64::leading_zeros(x) as usize;
+    shared == b
+}
+
+// Whether a slot holds the contact at a place, whose first word is read once for all slots.
+fn is_at(table: &[u8], p: &[u8], first: u64, i: usize) -> bool
+    requires { ⌜ (i < slotsOf (now table)) × (first ≡ number (part (now p) 0 8)) ⌝ }
     ensures { λ r. ⌜ r ≡ isAt (now (p .entry)) (slot (now (table .entry)) i) ⌝ }
 {
     if mark_at(table, i) == 0 {
         return false;
     }
-    let from = i * SLOT + 8;
-    let to = from + 32;
-    octets::same_bytes(&table[from..to], p)
+    let q = place_at(table, i);
+    if octets::word(q, 0) != first {
+        return false;
+    }
+    octets::same_bytes(q, p)
 }
 
 // Whether a slot holds the head of bucket b. The mark is looked at first: it costs less than the bucket.
@@ -76,7 +105,7 @@ fn is_head(table: &[u8], ours: &[u8], b: usize, i: usize) -> bool
     if mark_at(table, i) != 1 {
         return false;
     }
-    bucket_at(table, ours, i) == b
+    in_bucket(table, ours, b, i)
 }
 
 // The mark of a slot, where it is above top and the slot is of bucket b; else top.
@@ -88,7 +117,7 @@ fn higher(table: &[u8], ours: &[u8], b: usize, i: usize, top: u8) -> u8
     if m <= top {
         return top;
     }
-    if bucket_at(table, ours, i) == b {
+    if in_bucket(table, ours, b, i) {
         return m;
     }
     top
@@ -99,9 +128,10 @@ fn held_at(table: &[u8], p: &[u8]) -> usize
     ensures { λ r. ⌜ r ≡ heldAt (now (table .entry)) (now (p .entry)) ⌝ }
 {
     let n = contacts::slots(table);
+    let first = octets::word(p, 0);
     let mut i: usize = 0;
     while i < n {
-        if is_at(table, p, i) {
+        if is_at(table, p, first, i) {
             return i;
         }
         i += 1;
@@ -162,7 +192,7 @@ fn lower(table: &mut [u8], ours: &[u8], b: usize, m: u8, i: usize)
     if k <= m {
         return;
     }
-    if bucket_at(table, ours, i) != b {
+    if !in_bucket(table, ours, b, i) {
         return;
     }
     table[i * SLOT] = k - 1;
