@@ -1,46 +1,82 @@
--- Laws of the first word of a place: it tells most places from another, and decides which of the first 64 buckets a place is of. Assumes nothing.
-use Prim.Native.Nat.{ℕ, _+_, _<_}
+-- Laws of the first word of a place: it tells most places from another, and most buckets. Assumes nothing.
+use Prim.Native.Nat.{ℕ, _+_, _<_, _≤_, min}
 use mathlib.Core.Path.{_≡_, sym, ap, _∙_}
 use mathlib.Core.Logic.{⊎-elim}
-use mathlib.Core.Bool.{false}
+use mathlib.Core.Bool.{true, false, not}
 use mathlib.Core.List.{List}
 use native.Mathlib.Omega.{arith}
-use lib.Dec.{eqb}
+use lib.Dec.{leb, eqb}
 use lib.Bits.{bitXor}
-use lib.Count.{leadingZeros, leading-of-zero}
+use lib.Count.{leadingZeros, leading-of-zero, leading-le}
 use lib.ListN.{length, drop}
-use borrow.Author.Tests.{eqb-true, eqb-false, ne-eqb}
+use borrow.Author.Tests.{le-leb, leb-true, eqb-true, eqb-false, not-true}
 use Rattle.octets.specs.Octets.{Bytes, part, number}
-use Rattle.octets.proofs.Bools.{either, to-false}
+use Rattle.octets.proofs.Bools.{either, to-false, and-l, and-r, and-on, and-off}
 use Rattle.place.specs.Place.{bits, common, bucketOf}
-use Rattle.place.proofs.Buckets.{bucket-places, bucket-not-right, read-same, read-other}
-use Rattle.contacts.specs.Table.{place}
+use Rattle.place.proofs.Buckets.{bucket-places, word-same, word-other}
+use Rattle.contacts.specs.Table.{slotsOf, slot, place}
+use Rattle.contacts.proofs.Cuts.{place-size, slot-whole, bytes-place}
 use Rattle.sightings.specs.Order.{isAt}
+use Rattle.sightings.specs.Inner.{Sieves, siftedOut}
+use Rattle.sightings.specs.declared.Sieve.{Sieve}
 use Rattle.sightings.proofs.Tests.{at-place}
 
 -- a slot whose place begins with another word isn't that of the contact at p: q is the place that was cut out, x its first word
 pub at-other : (p s q : List ℕ) (x first : ℕ) → x ≡ number (part q 0 8) → q ≡ place s → first ≡ number (part p 0 8) → (x ≡ first → ⊥) → false ≡ isAt p s
 at-other p s q x first ex g ef z = sym (to-false (isAt p s) (λ h. z (ex ∙ ap (λ (l : List ℕ). number (part l 0 8)) (g ∙ at-place p s h) ∙ sym ef)))
 
--- what isn't a place has none of the first 64 buckets
-pub no-bucket : (p o : List ℕ) (b : ℕ) → b < 64 → (length o ≡ 32 → ⊥) → false ≡ eqb (bucketOf p o) b
-no-bucket p o b l h = sym (ne-eqb (bucketOf p o) b (λ e. bad (bucket-not-right p o h) e))
-  where
-    bad : bucketOf p o ≡ 256 → bucketOf p o ≡ b → ⊥
-    bad f e = omega arith
-
-module _ (p o : List ℕ) (lp : length p ≡ 32) (lo : length o ≡ 32) (hp : Bytes p) (ho : Bytes o) (b : ℕ) (l : b < 64) (x y : ℕ) (ex : x ≡ number (part p 0 8)) (ey : y ≡ number (part o 0 8)) where
-  words-same : bitXor x y ≡ 0 → eqb (leadingZeros 64 (bitXor x y)) b ≡ eqb (bucketOf p o) b
-  words-same e = ne-eqb _ b (λ q. low (ap (leadingZeros 64) e ∙ leading-of-zero 64) q) ∙ sym (ne-eqb _ b (λ q. high (bucket-places p o lp lo ∙ read-same p o 0 (omega arith) (omega arith) hp ho ex ey e) q))
+-- ---- the sieve of a bucket
+module _ (o : List ℕ) (b w : ℕ) (e : w ≡ number (part o 0 8)) where
+  pub sieve-none : Sieves o b (record { word = w; bits = 65 })
+  sieve-none = record { long = λ l. no l; word = e; bits = λ l. none l }
     where
-      low : leadingZeros 64 (bitXor x y) ≡ 64 → leadingZeros 64 (bitXor x y) ≡ b → ⊥
-      low f q = omega arith
+      no : 65 ≤ 64 → length o ≡ 32
+      no l = omega arith
 
-      high : bucketOf p o ≡ 64 + common (bits (drop 8 p)) (bits (drop 8 o)) → bucketOf p o ≡ b → ⊥
-      high f q = omega arith
+      none : 65 ≤ 64 → 65 ≡ min b 64
+      none l = omega arith
 
-  words-differ : (bitXor x y ≡ 0 → ⊥) → eqb (leadingZeros 64 (bitXor x y)) b ≡ eqb (bucketOf p o) b
-  words-differ h = ap (λ (n : ℕ). eqb n b) (sym (bucket-places p o lp lo ∙ read-other p o 0 (omega arith) (omega arith) hp ho ex ey h))
+  pub sieve-far : length o ≡ 32 → 64 < b → Sieves o b (record { word = w; bits = 64 })
+  sieve-far l h = record { long = λ _. l; word = e; bits = λ _. omega arith }
 
-  pub first-word : eqb (leadingZeros 64 (bitXor x y)) b ≡ eqb (bucketOf p o) b
-  first-word = ⊎-elim (λ e. words-same (eqb-true _ _ e)) (λ e. words-differ (eqb-false _ _ e)) (either (eqb (bitXor x y) 0))
+  pub sieve-near : length o ≡ 32 → b ≤ 64 → Sieves o b (record { word = w; bits = b })
+  sieve-near l h = record { long = λ _. l; word = e; bits = λ _. omega arith }
+
+-- ---- what it says of a place q that was cut out, whose first word is x
+module _ (s : Sieve) (p : List ℕ) where
+  pub sift-none : 64 < s .bits → false ≡ siftedOut s p
+  unfolding siftedOut
+  sift-none l = sym (and-off (leb (s .bits) 64) _ (to-false (leb (s .bits) 64) (λ h. bad (leb-true _ _ h))))
+    where
+      bad : s .bits ≤ 64 → ⊥
+      bad h = omega arith
+
+  pub sift-word : s .bits ≤ 64 → (q : List ℕ) (x : ℕ) → x ≡ number (part q 0 8) → q ≡ p → not (eqb (leadingZeros 64 (bitXor x (s .word))) (s .bits)) ≡ siftedOut s p
+  unfolding siftedOut
+  sift-word l q x e g =
+      ap (λ (y : ℕ). not (eqb (leadingZeros 64 (bitXor y (s .word))) (s .bits))) (e ∙ ap (λ (z : List ℕ). number (part z 0 8)) g)
+      ∙ sym (and-on (leb (s .bits) 64) _ (le-leb _ _ l))
+
+-- ---- what falls through is of another bucket
+module _ (p o : List ℕ) (lp : length p ≡ 32) (hp : Bytes p) (ho : Bytes o) (b : ℕ) where
+  abbrev between : ℕ
+  between = bitXor (number (part p 0 8)) (number (part o 0 8))
+
+  first-bits : length o ≡ 32 → bucketOf p o ≡ b → leadingZeros 64 between ≡ min b 64
+  first-bits lo e = ⊎-elim (λ z. all-shared (eqb-true _ _ z)) (λ z. some-shared (eqb-false _ _ z)) (either (eqb between 0))
+    where
+      all-shared : between ≡ 0 → leadingZeros 64 between ≡ min b 64
+      all-shared z = omega (arith, ap (leadingZeros 64) z, leading-of-zero 64, bucket-places p o lp lo, word-same p o 0 (omega arith) (omega arith) hp ho z)
+
+      some-shared : (between ≡ 0 → ⊥) → leadingZeros 64 between ≡ min b 64
+      some-shared z = omega (arith, leading-le 64 between, bucket-places p o lp lo, word-other p o 0 (omega arith) (omega arith) hp ho z)
+
+  sifted-far : (s : Sieve) → Sieves o b s → siftedOut s p ≡ true → bucketOf p o ≡ b → ⊥
+  unfolding siftedOut
+  sifted-far s h f e =
+      let l : s .bits ≤ 64 = leb-true _ _ (and-l (leb (s .bits) 64) _ f) in
+      eqb-false _ _ (not-true _ (and-r (leb (s .bits) 64) _ f)) (ap (λ (w : ℕ). leadingZeros 64 (bitXor (number (part p 0 8)) w)) (h .word) ∙ first-bits (h .long l) e ∙ sym (h .bits l))
+
+-- the same of slot i
+pub slot-far : (t o : List ℕ) (i b : ℕ) → i < slotsOf t → Bytes t → Bytes o → (s : Sieve) → Sieves o b s → siftedOut s (place (slot t i)) ≡ true → bucketOf (place (slot t i)) o ≡ b → ⊥
+slot-far t o i b l ht ho = sifted-far (place (slot t i)) o (place-size t i (slot-whole t i l)) (bytes-place t i ht) ho b

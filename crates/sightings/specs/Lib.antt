@@ -1,3 +1,4 @@
 pub mod Order
 pub mod Sightings
 pub mod Promises
+pub mod Inner

@@ -1,5 +1,4 @@
 -- `sightings::is_head` meets its contract. Assumes nothing.
-use mathlib.Core.Path.{refl, _∙_}
 use Rattle.contacts.specs.Table.{slot}
 use Rattle.sightings.proofs.Tests.{head-no, head-yes}
 use borrow.Author.Needs.{needs}
@@ -12,11 +11,11 @@ mark-at-requires c κs = search needs
 returns : tie.Need-returns
 returns c = head-no (c .before .before .before .before .args .ours .now) (c .before .before .before .before .args .b) (slot (c .before .before .before .before .args .table .now) (c .before .before .before .before .args .i)) _ (c .before .mark-at .ensures) (c .if1 .taken)
 
-in-bucket-requires : tie.Need-in-bucket-requires
-in-bucket-requires c κs = search needs
+bucket-at-requires : tie.Need-bucket-at-requires
+bucket-at-requires c κs = search needs
 
 returns-2 : tie.Need-returns-2
-returns-2 c = c .in-bucket .ensures ∙ head-yes (c .before .before .before .before .before .args .ours .now) (c .before .before .before .before .before .args .b) (slot (c .before .before .before .before .before .args .table .now) (c .before .before .before .before .before .args .i)) _ (c .before .before .mark-at .ensures) (c .before .if1 .left) _ refl
+returns-2 c = head-yes (c .before .before .before .before .before .args .ours .now) (c .before .before .before .before .before .args .b) (slot (c .before .before .before .before .before .args .table .now) (c .before .before .before .before .before .args .i)) _ (c .before .before .mark-at .ensures) (c .before .if1 .left) _ (c .bucket-at .ensures)
 
 pub is-head-spec : {M : Type 1} → statement M
-is-head-spec = tie.close (tie.spec mark-at-requires returns in-bucket-requires returns-2)
+is-head-spec = tie.close (tie.spec mark-at-requires returns bucket-at-requires returns-2)
