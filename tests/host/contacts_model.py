@@ -126,8 +126,8 @@ def tell(table):
 
 
 def crowd():
-    """6,000 calls with 5,000 peers, on a table of 2,048 slots."""
-    table, tally, seed = Table(2048), dict.fromkeys('mjNOkwPgM', 0), 88172645
+    """6,000 calls with 5,000 peers, on a table of 192 slots."""
+    table, tally, seed = Table(192), dict.fromkeys('mjNOkwPgM', 0), 88172645
     for call in range(1, 6001):
         before = draw(seed)
         seed = draw(before)

@@ -1,5 +1,5 @@
 // Runs document 01's example of a full bucket, and 3,000 calls of seen, settle and remove by numbers drawn in turn, on a table of 64 slots.
-// Then 6,000 calls with 5,000 peers on a table of 2,048 slots. Of so many peers only about twelve buckets have any, so that some 200 contacts are
+// Then 6,000 calls with 5,000 peers on a table of 192 slots. Of so many peers only about twelve buckets have any, so that some 140 contacts are
 // held at a time, and most newcomers are turned away.
 // It writes what each call answers, or how many answered so, and the first eight bytes of the table's hash now and then.
 // tests/host/contacts_model.py says what must come.
@@ -377,7 +377,7 @@ fn see_one(table: &mut [u8], ours: &[u8], tally: &mut [usize], name: [u8; 4], se
     );
 }
 
-// One call of the crowd: of 16, fourteen are seen, two remove whom one of the first 256 slots holds.
+// One call of the crowd: of 16, fourteen are seen, two remove whom a slot below 256 holds, if any.
 fn crowd_step(table: &mut [u8], ours: &[u8], tally: &mut [usize], before: u32) -> u32 {
     let seed = next(before);
     let pick = next(seed);
@@ -427,7 +427,7 @@ fn tell_tally(tally: &[usize]) {
 }
 
 fn crowd(ours: &[u8]) {
-    let mut table = [0u8; 1261568];
+    let mut table = [0u8; 118272];
     let mut tally = [0usize; 128];
     let mut seed: u32 = 88172645;
     let mut k: usize = 0;
