@@ -6,7 +6,7 @@ from that whenever their hash is asked for.
 """
 import hashlib
 
-SLOTS, SLOT = 64, 616
+SLOT = 616
 OURS = hashlib.sha256(b'ours').digest()
 
 
@@ -24,7 +24,8 @@ class Contact:
 
 
 class Table:
-    def __init__(self):
+    def __init__(self, slots):
+        self.slots = slots
         self.buckets = {}
         self.contacts = {}
 
@@ -33,7 +34,7 @@ class Table:
 
     def free(self):
         used = {c.slot for c in self.contacts.values()}
-        return min((i for i in range(SLOTS) if i not in used), default=None)
+        return min((i for i in range(self.slots) if i not in used), default=None)
 
     def join(self, name, addresses):
         place = place_of(name)
@@ -97,7 +98,7 @@ class Table:
         return next((c.name for c in self.contacts.values() if c.slot == slot), b'')
 
     def bytes(self):
-        table = bytearray(SLOTS * SLOT)
+        table = bytearray(self.slots * SLOT)
         for order in self.buckets.values():
             for rank, place in enumerate(order):
                 c = self.contacts[place]
@@ -124,8 +125,28 @@ def tell(table):
     print('table', int.from_bytes(hashlib.sha256(table.bytes()).digest()[:8], 'big'))
 
 
+def crowd():
+    """6,000 calls with 5,000 peers, on a table of 192 slots."""
+    table, tally, seed = Table(192), dict.fromkeys('mjNOkwPgM', 0), 88172645
+    for call in range(1, 6001):
+        before = draw(seed)
+        seed = draw(before)
+        if before % 16 < 14:
+            n, x = (seed >> 3) % 5000, (before >> 16) % 256
+            name = bytes([n % 256, n // 256, 1, 2])
+            letter, slot = table.seen(name, False, kept(x))
+            tally[letter] += 1
+            if letter == 'N' and (before >> 8) % 2 == 1:
+                tally[table.settle(table.name_in(slot), name, False, kept(x), (before >> 9) % 4 == 0)] += 1
+        else:
+            tally[table.remove(table.name_in((seed >> 3) % 256).ljust(4, b'\0'))] += 1
+        if call % 1000 == 0:
+            print('crowd: ' + ' '.join('%s %d' % (letter, tally[letter]) for letter in 'mjNOkwPg'))
+            tell(table)
+
+
 def main():
-    table = Table()
+    table = Table(64)
     joined = 0
     for id in range(200):
         name = bytes([id])
@@ -156,6 +177,7 @@ def main():
         print(letters)
         if line % 5 == 0:
             tell(table)
+    crowd()
 
 
 main()

@@ -56,7 +56,8 @@ fn judge(ours: &[u8], id: &[u8]) -> Judged
     Judged { place, bad }
 }
 
-fn seen_outcome(s: Sighting) -> SeenOutcome
+// What a host is told of a sighting.
+pub fn seen_outcome(s: Sighting) -> SeenOutcome
     ensures { λ r. ⌜ r ≡ outcomeOf s ⌝ }
 {
     match s {

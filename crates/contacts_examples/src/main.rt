@@ -1,5 +1,8 @@
 // Runs document 01's example of a full bucket, and 3,000 calls of seen, settle and remove by numbers drawn in turn, on a table of 64 slots.
-// It writes what each call answers, and the first eight bytes of the table's hash now and then. tests/host/contacts_model.py says what must come.
+// Then 6,000 calls with 5,000 peers on a table of 192 slots. Of so many peers only about twelve buckets have any, so that some 140 contacts are
+// held at a time, and most newcomers are turned away.
+// It writes what each call answers, or how many answered so, and the first eight bytes of the table's hash now and then.
+// tests/host/contacts_model.py says what must come.
 //
 // A letter for each call: m moved, j joined, k the head kept, w the head swapped, g gone; a capital letter is a refusal, A for 0 up.
 use contact_calls::RemoveOutcome;
@@ -129,11 +132,29 @@ fn front(list: &[u8], n: usize) -> &[u8] {
     &list[..n]
 }
 
-fn see(table: &mut [u8], ours: &[u8], id: u8, client: bool, x: u8) -> Told {
+fn see_name(table: &mut [u8], ours: &[u8], name: &[u8], client: bool, x: u8) -> Told {
     let mut list = [0u8; 1024];
     let n = put_list(&mut list, x);
+    tell_seen(contact_calls::seen(table, ours, name, client, front(&list, n)))
+}
+
+fn see(table: &mut [u8], ours: &[u8], id: u8, client: bool, x: u8) -> Told {
     let name = [id];
-    tell_seen(contact_calls::seen(table, ours, &name, client, front(&list, n)))
+    see_name(table, ours, &name, client, x)
+}
+
+fn settle_names(
+    table: &mut [u8],
+    ours: &[u8],
+    head: &[u8],
+    name: &[u8],
+    client: bool,
+    x: u8,
+    answered: bool,
+) -> u8 {
+    let mut list = [0u8; 1024];
+    let n = put_list(&mut list, x);
+    tell_settle(contact_calls::settle(table, ours, head, name, client, front(&list, n), answered))
 }
 
 fn settle(
@@ -145,11 +166,9 @@ fn settle(
     x: u8,
     answered: bool,
 ) -> u8 {
-    let mut list = [0u8; 1024];
-    let n = put_list(&mut list, x);
     let old = [head];
     let name = [id];
-    tell_settle(contact_calls::settle(table, ours, &old, &name, client, front(&list, n), answered))
+    settle_names(table, ours, &old, &name, client, x, answered)
 }
 
 // The first byte of the id in a slot.
@@ -311,6 +330,115 @@ fn tell_fifth(table: &[u8], k: usize) {
     tell_table(table);
 }
 
+// ---- a crowd of peers, with ids of four bytes
+
+// The id of peer n of 5,000, from any number.
+fn name_of(n: u32) -> [u8; 4] {
+    let k = n % 5000;
+    [below_256(k), below_256(k / 256), 1, 2]
+}
+
+// The first four bytes of the id in a slot, zeros where it is free.
+fn name_in(table: &[u8], slot: usize) -> [u8; 4] {
+    let mut name = [0u8; 4];
+    octets::copy(&mut name, 0, contacts::id_of(table, slot));
+    name
+}
+
+// One more of a letter.
+fn tally_letter(tally: &mut [usize], letter: u8) {
+    let k = letter as usize;
+    if tally.len() <= k {
+        return;
+    }
+    let n = tally[k];
+    if 1000000 <= n {
+        return;
+    }
+    tally[k] = n + 1;
+}
+
+// A peer is seen. Where its bucket is full, the head is probed in every second case, and answers in one of four.
+fn see_one(table: &mut [u8], ours: &[u8], tally: &mut [usize], name: [u8; 4], seed: u32) {
+    let x = below_256(seed >> 16);
+    let told = see_name(table, ours, &name, false, x);
+    tally_letter(tally, told.letter);
+    if told.letter != b'N' {
+        return;
+    }
+    if (seed >> 8) % 2 == 0 {
+        return;
+    }
+    let head = name_in(table, told.slot);
+    let answered = (seed >> 9) % 4 == 0;
+    tally_letter(
+        tally,
+        settle_names(table, ours, &head, &name, false, x, answered),
+    );
+}
+
+// One call of the crowd: of 16, fourteen are seen, two remove whom a slot below 256 holds, if any.
+fn crowd_step(table: &mut [u8], ours: &[u8], tally: &mut [usize], before: u32) -> u32 {
+    let seed = next(before);
+    let pick = next(seed);
+    if seed % 16 < 14 {
+        see_one(table, ours, tally, name_of(pick >> 3), seed);
+        return pick;
+    }
+    let name = name_in(table, below_256(pick >> 3) as usize);
+    tally_letter(
+        tally,
+        tell_remove(contact_calls::remove(table, ours, &name)),
+    );
+    pick
+}
+
+fn thousand(table: &mut [u8], ours: &[u8], tally: &mut [usize], start: u32) -> u32 {
+    let mut seed = start;
+    let mut i: usize = 0;
+    while i < 1000 {
+        seed = crowd_step(table, ours, tally, seed);
+        i += 1;
+    }
+    seed
+}
+
+fn tell_letter(tally: &[usize], letter: u8) {
+    let k = letter as usize;
+    if tally.len() <= k {
+        return;
+    }
+    let text = [b' ', letter, b' '];
+    say(&text);
+    count(tally[k]);
+}
+
+fn tell_tally(tally: &[usize]) {
+    say(b"crowd:");
+    tell_letter(tally, b'm');
+    tell_letter(tally, b'j');
+    tell_letter(tally, b'N');
+    tell_letter(tally, b'O');
+    tell_letter(tally, b'k');
+    tell_letter(tally, b'w');
+    tell_letter(tally, b'P');
+    tell_letter(tally, b'g');
+    say(b"\n");
+}
+
+fn crowd(ours: &[u8]) {
+    let mut table = [0u8; 118272];
+    let mut tally = [0usize; 128];
+    let mut seed: u32 = 88172645;
+    let mut k: usize = 0;
+    while k < 6 {
+        seed = thousand(&mut table, ours, &mut tally, seed);
+        tell_tally(&tally);
+        tell_table(&table);
+        k += 1;
+    }
+}
+
 fn main() {
     let mut table = [0u8; 39424];
     let ours = place::place_of(b"ours");
@@ -328,4 +456,5 @@ fn main() {
         k += 1;
         tell_fifth(&table, k);
     }
+    crowd(&ours);
 }

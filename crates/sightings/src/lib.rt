@@ -1,9 +1,12 @@
 // Seen, settle and remove on the contact table. Every public function takes any bytes.
 ghost use mathlib.Core.Path.{_≡_};
 ghost use Prim.Native.Nat.{ℕ, _+_, _*_, _<_, max};
+ghost use lib.ListN.{length};
+ghost use Rattle.octets.specs.Octets.{part, number};
 ghost use Rattle.place.specs.Place.{bucketOf};
 ghost use Rattle.contacts.specs.Table.{slotsOf, slot, putSlot, mark, place};
 ghost use Rattle.sightings.specs.Order.{isAt, isHead, markIn, heldAt, freeAt, headAt, tailOf, contactBytes, freeBytes, withAddresses, lowered, closeUp, leave, moveToTail, moveAndRenew, dropped, joinAt, join};
+ghost use Rattle.sightings.specs.Inner.{Sieves, siftedOut};
 ghost use Rattle.sightings.specs.Sightings.{sightingOf, newcomer, seenTable, afterSighting, fits, settlementOf, settledTable, removalOf, removedTable};
 use contacts::SLOT;
 use peer::Peer;
@@ -45,27 +48,70 @@ fn mark_at(table: &[u8], i: usize) -> u8
     table[i * SLOT]
 }
 
+// The place in a slot.
+fn place_at(table: &[u8], i: usize) -> &[u8]
+    requires { ⌜ i < slotsOf (now table) ⌝ }
+    ensures { λ r. ⌜ (now r ≡ place (slot (now (table .entry)) i)) × (length (now r) ≡ 32) ⌝ }
+{
+    let from = i * SLOT + 8;
+    let to = from + 32;
+    &table[from..to]
+}
+
 // The bucket of the place in a slot.
 fn bucket_at(table: &[u8], ours: &[u8], i: usize) -> usize
     requires { ⌜ i < slotsOf (now table) ⌝ }
     ensures { λ r. ⌜ r ≡ bucketOf (place (slot (now (table .entry)) i)) (now (ours .entry)) ⌝ }
 {
-    let from = i * SLOT + 8;
-    let to = from + 32;
-    place::bucket(&table[from..to], ours)
+    place::bucket(place_at(table, i), ours)
 }
 
-// Whether a slot holds the contact at a place.
-fn is_at(table: &[u8], p: &[u8], i: usize) -> bool
+// By which most places are seen not to be of a bucket: ours' first word, and how many of its leading bits such a place shares; 65 where that
+// tells nothing.
+struct Sieve {
+    word: u64,
+    bits: usize,
+}
+
+fn sieve_of(ours: &[u8], b: usize) -> Sieve
+    ensures { λ r. ⌜ Sieves (now (ours .entry)) b r ⌝ }
+{
+    let word = octets::word(ours, 0);
+    if ours.len() != 32 {
+        return Sieve { word, bits: 65 };
+    }
+    if 64 < b {
+        return Sieve { word, bits: 64 };
+    }
+    Sieve { word, bits: b }
+}
+
+// Whether the first word of the place in a slot shows that it isn't of the sieve's bucket. It costs less than the bucket.
+fn sifted(table: &[u8], sieve: Sieve, i: usize) -> bool
     requires { ⌜ i < slotsOf (now table) ⌝ }
+    ensures { λ r. ⌜ r ≡ siftedOut sieve (place (slot (now (table .entry)) i)) ⌝ }
+{
+    if 64 < sieve.bits {
+        return false;
+    }
+    let x = octets::word(place_at(table, i), 0) ^ sieve.word;
+    let shared = u64::leading_zeros(x) as usize;
+    shared != sieve.bits
+}
+
+// Whether a slot holds the contact at a place, whose first word is read once for all slots.
+fn is_at(table: &[u8], p: &[u8], first: u64, i: usize) -> bool
+    requires { ⌜ (i < slotsOf (now table)) × (first ≡ number (part (now p) 0 8)) ⌝ }
     ensures { λ r. ⌜ r ≡ isAt (now (p .entry)) (slot (now (table .entry)) i) ⌝ }
 {
     if mark_at(table, i) == 0 {
         return false;
     }
-    let from = i * SLOT + 8;
-    let to = from + 32;
-    octets::same_bytes(&table[from..to], p)
+    let q = place_at(table, i);
+    if octets::word(q, 0) != first {
+        return false;
+    }
+    octets::same_bytes(q, p)
 }
 
 // Whether a slot holds the head of bucket b. The mark is looked at first: it costs less than the bucket.
@@ -80,12 +126,15 @@ fn is_head(table: &[u8], ours: &[u8], b: usize, i: usize) -> bool
 }
 
 // The mark of a slot, where it is above top and the slot is of bucket b; else top.
-fn higher(table: &[u8], ours: &[u8], b: usize, i: usize, top: u8) -> u8
-    requires { ⌜ i < slotsOf (now table) ⌝ }
+fn higher(table: &[u8], ours: &[u8], b: usize, sieve: Sieve, i: usize, top: u8) -> u8
+    requires { ⌜ (i < slotsOf (now table)) × Sieves (now ours) b sieve ⌝ }
     ensures { λ r. ⌜ r ≡ max top (markIn (now (ours .entry)) b (slot (now (table .entry)) i)) ⌝ }
 {
     let m = mark_at(table, i);
     if m <= top {
+        return top;
+    }
+    if sifted(table, sieve, i) {
         return top;
     }
     if bucket_at(table, ours, i) == b {
@@ -99,9 +148,10 @@ fn held_at(table: &[u8], p: &[u8]) -> usize
     ensures { λ r. ⌜ r ≡ heldAt (now (table .entry)) (now (p .entry)) ⌝ }
 {
     let n = contacts::slots(table);
+    let first = octets::word(p, 0);
     let mut i: usize = 0;
     while i < n {
-        if is_at(table, p, i) {
+        if is_at(table, p, first, i) {
             return i;
         }
         i += 1;
@@ -144,22 +194,26 @@ fn tail_of(table: &[u8], ours: &[u8], b: usize) -> u8
     ensures { λ r. ⌜ r ≡ tailOf (now (table .entry)) (now (ours .entry)) b ⌝ }
 {
     let n = contacts::slots(table);
+    let sieve = sieve_of(ours, b);
     let mut top: u8 = 0;
     let mut i: usize = 0;
     while i < n {
-        top = higher(table, ours, b, i, top);
+        top = higher(table, ours, b, sieve, i, top);
         i += 1;
     }
     top
 }
 
 // Slot i moves one forward, if it is of bucket b and behind the mark m.
-fn lower(table: &mut [u8], ours: &[u8], b: usize, m: u8, i: usize)
-    requires { ⌜ i < slotsOf (now table) ⌝ }
+fn lower(table: &mut [u8], ours: &[u8], b: usize, sieve: Sieve, m: u8, i: usize)
+    requires { ⌜ (i < slotsOf (now table)) × Sieves (now ours) b sieve ⌝ }
     ensures { λ _. ⌜ now (table .exit) ≡ putSlot (now (table .entry)) i (lowered (now (ours .entry)) b m (slot (now (table .entry)) i)) ⌝ }
 {
     let k = mark_at(table, i);
     if k <= m {
+        return;
+    }
+    if sifted(table, sieve, i) {
         return;
     }
     if bucket_at(table, ours, i) != b {
@@ -173,9 +227,10 @@ fn close_up(table: &mut [u8], ours: &[u8], b: usize, m: u8)
     ensures { λ _. ⌜ now (table .exit) ≡ closeUp (now (table .entry)) (now (ours .entry)) b m ⌝ }
 {
     let n = contacts::slots(table);
+    let sieve = sieve_of(ours, b);
     let mut i: usize = 0;
     while i < n {
-        lower(table, ours, b, m, i);
+        lower(table, ours, b, sieve, m, i);
         i += 1;
     }
 }

@@ -60,6 +60,12 @@ loop-less c = search needs
 loop-again : tie.Need-loop-again Inv-loop μ-loop
 loop-again c = search needs
 
+slice-aggregate-crowd : tie.Need-slice-aggregate-crowd Inv-loop μ-loop
+slice-aggregate-crowd c = search needs
+
+crowd-requires : tie.Need-crowd-requires Inv-loop μ-loop
+crowd-requires c κs = search needs
+
 returns : tie.Need-returns Inv-loop μ-loop
 returns c = search needs
 
@@ -85,4 +91,6 @@ main-spec =
     tell-fifth-requires
     loop-less
     loop-again
+    slice-aggregate-crowd
+    crowd-requires
     returns)

@@ -10,23 +10,26 @@ use Rattle.sightings.proofs.held_at.Statement.{statement}
 use Rattle.sightings.proofs.held_at.Tie as tie
 
 abbrev Inv-loop : tie.InvT-loop
-Inv-loop table p n i₀ i = (i ≤ n) × ((j : ℕ) → j < i → isAt p (slot table j) ≡ false)
+Inv-loop table p n first i₀ i = (i ≤ n) × ((j : ℕ) → j < i → isAt p (slot table j) ≡ false)
 
 abbrev μ-loop : tie.MeasureT-loop
-μ-loop table p n i₀ i = n - i
+μ-loop table p n first i₀ i = n - i
 
 slots-requires : tie.Need-slots-requires Inv-loop μ-loop
 slots-requires c κs = omega arith
 
+word-requires : tie.Need-word-requires Inv-loop μ-loop
+word-requires c κs = omega arith
+
 loop-holds : tie.Need-loop-holds Inv-loop μ-loop
-loop-holds c = (omega arith, none-yet (λ (j : ℕ). isAt (c .before .before .before .args .p .now) (slot (c .before .before .before .args .table .now) j)))
+loop-holds c = (omega arith, none-yet (λ (j : ℕ). isAt (c .before .before .before .before .args .p .now) (slot (c .before .before .before .before .args .table .now) j)))
 
 is-at-requires : tie.Need-is-at-requires Inv-loop μ-loop
-is-at-requires c κs = omega (arith, c .before .before .slots .ensures)
+is-at-requires c κs = (omega (arith, c .before .before .before .slots .ensures), c .before .before .word .ensures)
 
 returns : tie.Need-returns Inv-loop μ-loop
 unfolding heldAt
-returns c = found (λ (j : ℕ). isAt (c .before .before .before .before .before .before .before .args .p .now) (slot (c .before .before .before .before .before .before .before .args .table .now) j)) _ _ _ (c .before .before .before .before .slots .ensures) (c .before .before .loop-test .taken) (c .before .before .before .loop .inv .1) (sym (c .before .is-at .ensures) ∙ c .if1 .taken)
+returns c = found (λ (j : ℕ). isAt (c .before .before .before .before .before .before .before .before .args .p .now) (slot (c .before .before .before .before .before .before .before .before .args .table .now) j)) _ _ _ (c .before .before .before .before .before .slots .ensures) (c .before .before .loop-test .taken) (c .before .before .before .loop .inv .1) (sym (c .before .is-at .ensures) ∙ c .if1 .taken)
 
 add-i : tie.Need-add-i Inv-loop μ-loop
 add-i c = omega arith
@@ -35,11 +38,11 @@ loop-less : tie.Need-loop-less Inv-loop μ-loop
 loop-less c = omega arith
 
 loop-again : tie.Need-loop-again Inv-loop μ-loop
-loop-again c = (omega arith, none-still (λ (j : ℕ). isAt (c .before .before .before .before .before .before .before .args .p .now) (slot (c .before .before .before .before .before .before .before .args .table .now) j)) _ (c .before .before .before .loop .inv .1) (sym (c .before .is-at .ensures) ∙ c .if1 .left))
+loop-again c = (omega arith, none-still (λ (j : ℕ). isAt (c .before .before .before .before .before .before .before .before .args .p .now) (slot (c .before .before .before .before .before .before .before .before .args .table .now) j)) _ (c .before .before .before .loop .inv .1) (sym (c .before .is-at .ensures) ∙ c .if1 .left))
 
 returns-2 : tie.Need-returns-2 Inv-loop μ-loop
 unfolding heldAt
-returns-2 c = not-found (λ (j : ℕ). isAt (c .before .before .before .before .before .args .p .now) (slot (c .before .before .before .before .before .args .table .now) j)) _ _ _ (c .before .before .slots .ensures) (c .loop-test .left) (c .before .loop .inv .1)
+returns-2 c = not-found (λ (j : ℕ). isAt (c .before .before .before .before .before .before .args .p .now) (slot (c .before .before .before .before .before .before .args .table .now) j)) _ _ _ (c .before .before .before .slots .ensures) (c .loop-test .left) (c .before .loop .inv .1)
 
 pub held-at-spec : {M : Type 1} → statement M
 held-at-spec =
@@ -48,6 +51,7 @@ held-at-spec =
     Inv-loop
     μ-loop
     slots-requires
+    word-requires
     loop-holds
     is-at-requires
     returns

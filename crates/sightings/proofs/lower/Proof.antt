@@ -1,8 +1,9 @@
 -- `sightings::lower` meets its contract. Assumes nothing.
+use mathlib.Core.Path.{refl, sym, _∙_}
 use native.Mathlib.Omega.{arith}
-use borrow.Author.Needs.{needs}
 use Rattle.contacts.specs.Table.{slotsOf}
 use Rattle.sightings.proofs.Moves.{lower-low, lower-far, lower-on}
+use Rattle.sightings.proofs.FirstWord.{slot-far}
 use borrow.Author.Needs.{needs}
 use Rattle.sightings.proofs.lower.Statement.{statement}
 use Rattle.sightings.proofs.lower.Tie as tie
@@ -14,16 +15,25 @@ same-length : tie.Need-same-length
 same-length c = search needs
 
 returns : tie.Need-returns
-returns c = lower-low (c .before .before .before .before .before .args .table .now) (c .before .before .before .before .before .args .i) (c .before .before .before .before .before .pre) (c .before .before .before .before .before .args .ours .now) (c .before .before .before .before .before .args .b) (c .before .before .before .before .before .args .m) _ (c .before .mark-at .ensures) (c .if1 .taken)
+returns c = lower-low (c .before .before .before .before .before .args .table .now) (c .before .before .before .before .before .args .i) (c .before .before .before .before .before .pre .0) (c .before .before .before .before .before .args .ours .now) (c .before .before .before .before .before .args .b) (c .before .before .before .before .before .args .m) _ (c .before .mark-at .ensures) (c .if1 .taken)
 
-bucket-at-requires : tie.Need-bucket-at-requires
-bucket-at-requires c κs = search needs
+sifted-requires : tie.Need-sifted-requires
+sifted-requires c κs = search needs
 
 same-length-2 : tie.Need-same-length-2
 same-length-2 c = search needs
 
 returns-2 : tie.Need-returns-2
-returns-2 c = lower-far (c .before .before .before .before .before .before .before .before .args .table .now) (c .before .before .before .before .before .before .before .before .args .i) (c .before .before .before .before .before .before .before .before .pre) (c .before .before .before .before .before .before .before .before .args .ours .now) (c .before .before .before .before .before .before .before .before .args .b) (c .before .before .before .before .before .before .before .before .args .m) _ (c .before .before .before .before .mark-at .ensures) _ (c .before .bucket-at .ensures) (c .if2 .taken)
+returns-2 c = lower-far (c .before .before .before .before .before .before .before .before .args .table .now) (c .before .before .before .before .before .before .before .before .args .i) (c .before .before .before .before .before .before .before .before .pre .0) (c .before .before .before .before .before .before .before .before .args .ours .now) (c .before .before .before .before .before .before .before .before .args .b) (c .before .before .before .before .before .before .before .before .args .m) _ (c .before .before .before .before .mark-at .ensures) _ refl (slot-far (c .before .before .before .before .before .before .before .before .args .table .now) (c .before .before .before .before .before .before .before .before .args .ours .now) (c .before .before .before .before .before .before .before .before .args .i) (c .before .before .before .before .before .before .before .before .args .b) (c .before .before .before .before .before .before .before .before .pre .0) (λ k. c .before .before .before .before .before .before .before .slice-known .given k .fits) (λ k. c .before .before .before .before .before .before .shared-slice-known .given k .fits) (c .before .before .before .before .before .before .before .before .args .sieve) (c .before .before .before .before .before .before .before .before .pre .1) (sym (c .before .sifted .ensures) ∙ c .if2 .taken))
+
+bucket-at-requires : tie.Need-bucket-at-requires
+bucket-at-requires c κs = search needs
+
+same-length-3 : tie.Need-same-length-3
+same-length-3 c = search needs
+
+returns-3 : tie.Need-returns-3
+returns-3 c = lower-far (c .before .before .before .before .before .before .before .before .before .before .before .args .table .now) (c .before .before .before .before .before .before .before .before .before .before .before .args .i) (c .before .before .before .before .before .before .before .before .before .before .before .pre .0) (c .before .before .before .before .before .before .before .before .before .before .before .args .ours .now) (c .before .before .before .before .before .before .before .before .before .before .before .args .b) (c .before .before .before .before .before .before .before .before .before .before .before .args .m) _ (c .before .before .before .before .before .before .before .mark-at .ensures) _ (c .before .bucket-at .ensures) (c .if3 .taken)
 
 sub-table : tie.Need-sub-table
 unfolding slotsOf
@@ -37,11 +47,11 @@ slice-write-table : tie.Need-slice-write-table
 unfolding slotsOf
 slice-write-table c = omega arith
 
-same-length-3 : tie.Need-same-length-3
-same-length-3 c = search needs
+same-length-4 : tie.Need-same-length-4
+same-length-4 c = search needs
 
-returns-3 : tie.Need-returns-3
-returns-3 c = lower-on (c .before .before .before .before .before .before .before .before .args .table .now) (c .before .before .before .before .before .before .before .before .args .i) (c .before .before .before .before .before .before .before .before .pre) (c .before .before .before .before .before .before .before .before .args .ours .now) (c .before .before .before .before .before .before .before .before .args .b) (c .before .before .before .before .before .before .before .before .args .m) _ (c .before .before .before .before .mark-at .ensures) (c .before .before .before .if1 .left) _ (c .before .bucket-at .ensures) (c .if2 .left)
+returns-4 : tie.Need-returns-4
+returns-4 c = lower-on (c .before .before .before .before .before .before .before .before .before .before .before .args .table .now) (c .before .before .before .before .before .before .before .before .before .before .before .args .i) (c .before .before .before .before .before .before .before .before .before .before .before .pre .0) (c .before .before .before .before .before .before .before .before .before .before .before .args .ours .now) (c .before .before .before .before .before .before .before .before .before .before .before .args .b) (c .before .before .before .before .before .before .before .before .before .before .before .args .m) _ (c .before .before .before .before .before .before .before .mark-at .ensures) (c .before .before .before .before .before .before .if1 .left) _ (c .before .bucket-at .ensures) (c .if3 .left)
 
 pub lower-spec : {M : Type 1} → statement M
 lower-spec =
@@ -50,11 +60,14 @@ lower-spec =
     mark-at-requires
     same-length
     returns
-    bucket-at-requires
+    sifted-requires
     same-length-2
     returns-2
+    bucket-at-requires
+    same-length-3
+    returns-3
     sub-table
     mul-table
     slice-write-table
-    same-length-3
-    returns-3)
+    same-length-4
+    returns-4)

@@ -10,19 +10,22 @@ use Rattle.sightings.proofs.tail_of.Statement.{statement}
 use Rattle.sightings.proofs.tail_of.Tie as tie
 
 abbrev Inv-loop : tie.InvT-loop
-Inv-loop table ours b n top₀ i₀ top i = (i ≤ n) × (top ≡ largest i (λ (j : ℕ). markIn ours b (slot table j)))
+Inv-loop table ours b n sieve top₀ i₀ top i = (i ≤ n) × (top ≡ largest i (λ (j : ℕ). markIn ours b (slot table j)))
 
 abbrev μ-loop : tie.MeasureT-loop
-μ-loop table ours b n top₀ i₀ top i = n - i
+μ-loop table ours b n sieve top₀ i₀ top i = n - i
 
 slots-requires : tie.Need-slots-requires Inv-loop μ-loop
 slots-requires c κs = omega arith
 
+sieve-of-requires : tie.Need-sieve-of-requires Inv-loop μ-loop
+sieve-of-requires c κs = omega arith
+
 loop-holds : tie.Need-loop-holds Inv-loop μ-loop
-loop-holds c = (omega arith, sym (largest-zero (λ (j : ℕ). markIn (c .before .before .before .args .ours .now) (c .before .before .before .args .b) (slot (c .before .before .before .args .table .now) j))))
+loop-holds c = (omega arith, sym (largest-zero (λ (j : ℕ). markIn (c .before .before .before .before .args .ours .now) (c .before .before .before .before .args .b) (slot (c .before .before .before .before .args .table .now) j))))
 
 higher-requires : tie.Need-higher-requires Inv-loop μ-loop
-higher-requires c κs = omega (arith, c .before .before .slots .ensures)
+higher-requires c κs = (omega (arith, c .before .before .before .slots .ensures), c .before .before .sieve-of .ensures)
 
 add-i : tie.Need-add-i Inv-loop μ-loop
 add-i c = omega arith
@@ -31,11 +34,11 @@ loop-less : tie.Need-loop-less Inv-loop μ-loop
 loop-less c = omega arith
 
 loop-again : tie.Need-loop-again Inv-loop μ-loop
-loop-again c = (omega arith, c .higher .ensures ∙ ap (λ (x : ℕ). max x (markIn (c .before .before .before .before .before .before .args .ours .now) (c .before .before .before .before .before .before .args .b) (slot (c .before .before .before .before .before .before .args .table .now) (c .before .before .loop .i)))) (c .before .before .loop .inv .1) ∙ sym (largest-more (λ (j : ℕ). markIn (c .before .before .before .before .before .before .args .ours .now) (c .before .before .before .before .before .before .args .b) (slot (c .before .before .before .before .before .before .args .table .now) j)) (c .before .before .loop .i)))
+loop-again c = (omega arith, c .higher .ensures ∙ ap (λ (x : ℕ). max x (markIn (c .before .before .before .before .before .before .before .args .ours .now) (c .before .before .before .before .before .before .before .args .b) (slot (c .before .before .before .before .before .before .before .args .table .now) (c .before .before .loop .i)))) (c .before .before .loop .inv .1) ∙ sym (largest-more (λ (j : ℕ). markIn (c .before .before .before .before .before .before .before .args .ours .now) (c .before .before .before .before .before .before .before .args .b) (slot (c .before .before .before .before .before .before .before .args .table .now) j)) (c .before .before .loop .i)))
 
 returns : tie.Need-returns Inv-loop μ-loop
 unfolding tailOf
-returns c = let e : c .before .loop .i ≡ c .before .before .slots .result = omega arith in c .before .loop .inv .1 ∙ ap (λ (k : ℕ). largest k (λ (j : ℕ). markIn (c .before .before .before .before .before .args .ours .now) (c .before .before .before .before .before .args .b) (slot (c .before .before .before .before .before .args .table .now) j))) (e ∙ c .before .before .slots .ensures)
+returns c = let e : c .before .loop .i ≡ c .before .before .before .slots .result = omega arith in c .before .loop .inv .1 ∙ ap (λ (k : ℕ). largest k (λ (j : ℕ). markIn (c .before .before .before .before .before .before .args .ours .now) (c .before .before .before .before .before .before .args .b) (slot (c .before .before .before .before .before .before .args .table .now) j))) (e ∙ c .before .before .before .slots .ensures)
 
 pub tail-of-spec : {M : Type 1} → statement M
 tail-of-spec =
@@ -44,6 +47,7 @@ tail-of-spec =
     Inv-loop
     μ-loop
     slots-requires
+    sieve-of-requires
     loop-holds
     higher-requires
     add-i
