@@ -119,6 +119,7 @@ fn lies_among(table: &[u8], near: &[usize], n: usize, x: &[u8]) -> bool
     false
 }
 
+// A size, cut at a limit.
 fn at_most(size: u8, limit: usize) -> usize
     ensures { λ r. ⌜ r ≡ min size limit ⌝ }
 {
@@ -270,6 +271,7 @@ fn key_fits(key: &[u8]) -> bool
     key.len() <= message::MOST_KEY
 }
 
+// FIND_NODE's reply: the nearest contacts, and a last entry where the target is our place or the requester's and isn't there yet.
 fn find_node(reply: &mut [u8], me: Peer, who: Peer, key: &[u8], table: &[u8]) -> usize
     ensures { λ r. ⌜ Framed (findNodeReply me who (now (table .entry)) (now (key .entry))) (now (reply .entry)) (now (reply .exit)) r ⌝ }
 {
@@ -291,6 +293,7 @@ fn find_node(reply: &mut [u8], me: Peer, who: Peer, key: &[u8], table: &[u8]) ->
     reply_closer(reply, FIND_NODE, table, &at, n)
 }
 
+// GET_VALUE's reply: the nearest contacts, and the record if it is held.
 fn get_value(reply: &mut [u8], key: &[u8], table: &[u8], records: &[u8]) -> usize
     requires { ⌜ length (now key) ≤ 128 ⌝ }
     ensures { λ r. ⌜ Framed (getValueReply (now (table .entry)) (now (records .entry)) (now (key .entry))) (now (reply .entry)) (now (reply .exit)) r ⌝ }
