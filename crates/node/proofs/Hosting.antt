@@ -88,9 +88,10 @@ module _ (me : Peer) (t head id : List ℕ) (client : Bool) (addresses : List �
       → (r ≡ settleCall t (me .place) head id client answered) × (u ≡ settleCallTable t (me .place) head id client addresses answered)
       → (r ≡ settleOf me t head id client answered) × (u ≡ settleAfter me t head id client addresses answered)
   unfolding settleOf settleAfter
-  settle-on r u h e =
-      (e .0 ∙ box-on me t (settle.Refused OutOfForm) (settle.Refused BadPeer) (settleCall t (me .place) head id client answered) h settle-zero,
-      e .1 ∙ sym (cond-yes (ownFits me) _ t h))
+  settle-on r u h e = (
+    e .0 ∙ box-on me t (settle.Refused OutOfForm) (settle.Refused BadPeer) (settleCall t (me .place) head id client answered) h settle-zero,
+    e .1 ∙ sym (cond-yes (ownFits me) _ t h),
+  )
 
 -- ---- remove
 module _ (me : Peer) (t id : List ℕ) where

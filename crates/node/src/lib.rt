@@ -139,8 +139,11 @@ fn refuse_open(server: bool, asking: bool) -> Opened
         server,
         asking,
     };
-    let told = Told::Refused(Refusal::BadPeer);
-    Opened { conn, told }
+    let refused = Told::Refused(Refusal::BadPeer);
+    Opened {
+        conn,
+        told: refused,
+    }
 }
 
 // Opens a connection to a peer: its id, whether it is a server, whether we ask on it, and the peer's addresses.
@@ -223,9 +226,9 @@ fn conn_form(me: Peer, conn: Conn) -> bool
     if !peer_form(p) {
         return false;
     }
-    let at = p.place;
+    let there = p.place;
     let ours = me.place;
-    if octets::same_bytes(&at, &ours) {
+    if octets::same_bytes(&there, &ours) {
         return false;
     }
     stream::in_form(f)

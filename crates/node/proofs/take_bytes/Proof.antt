@@ -16,13 +16,13 @@ enum-known-event : tie.Need-enum-known-event
 enum-known-event c = search needs
 
 slice-reshare-prefix-whole : tie.Need-slice-reshare-prefix-whole
-slice-reshare-prefix-whole c = 
+slice-reshare-prefix-whole c =
     let a = c .before .before .before .before .before .before .before .before .before .before .before .before .before .args in
     let w = message-there (a .conn .framing) (a .buffer .now) (a .piece .now) _ (c .before .event .given .0 .0) (c .before .before .before .before .before .before .receive .ensures .got) (c .before .event .given .1) in
     omega arith
 
 slice-aggregate-whole : tie.Need-slice-aggregate-whole
-slice-aggregate-whole c = 
+slice-aggregate-whole c =
     let a = c .before .before .before .before .before .before .before .before .before .before .before .before .before .before .args in
     let n = c .before .before .event .given .0 .0 in
     let w = message-there (a .conn .framing) (a .buffer .now) (a .piece .now) _ n (c .before .before .before .before .before .before .before .receive .ensures .got) (c .before .before .event .given .1) in
