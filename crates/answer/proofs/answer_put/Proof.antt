@@ -1,4 +1,5 @@
 -- `answer_put`: the keys first, then what the store says.
+use native.Mathlib.Omega.{arith}
 use mathlib.Core.Path.{sym, _∙_}
 use Rattle.answer.proofs.Serving.{taken-fits, put-other, put-taken, put-refused}
 use borrow.Author.Needs.{needs}
@@ -18,7 +19,7 @@ enum-told : tie.Need-enum-told
 enum-told c = search needs
 
 echo-requires : tie.Need-echo-requires
-echo-requires c κs = taken-fits (c .before .before .before .before .before .before .before .before .before .before .before .before .before .before .args .records .now) (c .before .before .before .before .before .before .before .before .before .before .before .before .before .before .args .key .now) (c .before .before .before .before .before .before .before .before .before .before .before .before .before .before .args .value .now) (sym (c .before .before .before .before .before .offer .ensures .0) ∙ c .before .enum-told .given .1)
+echo-requires c κs = let f = taken-fits _ _ _ (sym (c .before .before .before .before .before .offer .ensures .0) ∙ c .before .enum-told .given .1) in (f .0, f .1, omega (arith, f .1, f .2))
 
 enum-known-r : tie.Need-enum-known-r
 enum-known-r c = search needs

@@ -33,7 +33,7 @@ slice-aggregate-reply-closer : tie.Need-slice-aggregate-reply-closer
 slice-aggregate-reply-closer c = search needs
 
 reply-closer-requires : tie.Need-reply-closer-requires
-reply-closer-requires c κs = (near-few _ _ _ (c .before .before .before .before .before .before .before .nearest .ensures), near-long _ _ _ (c .before .before .before .before .before .before .before .nearest .ensures), omega arith)
+reply-closer-requires c κs = (omega (arith, near-few _ _ _ (c .before .before .before .before .before .before .before .nearest .ensures)), omega (arith, near-long _ _ _ (c .before .before .before .before .before .before .before .nearest .ensures)), omega arith)
 
 same-length : tie.Need-same-length
 same-length c = search needs
@@ -54,7 +54,7 @@ slice-aggregate-reply-last : tie.Need-slice-aggregate-reply-last
 slice-aggregate-reply-last c = search needs
 
 reply-last-requires : tie.Need-reply-last-requires
-reply-last-requires c κs = (near-few _ _ _ (c .before .before .before .before .before .before .before .before .before .before .before .before .nearest .ensures), near-long _ _ _ (c .before .before .before .before .before .before .before .before .before .before .before .before .nearest .ensures))
+reply-last-requires c κs = (omega (arith, near-few _ _ _ (c .before .before .before .before .before .before .before .before .before .before .before .before .nearest .ensures)), omega (arith, near-long _ _ _ (c .before .before .before .before .before .before .before .before .before .before .before .before .nearest .ensures)))
 
 same-length-2 : tie.Need-same-length-2
 same-length-2 c = search needs
@@ -75,7 +75,7 @@ slice-aggregate-reply-last-2 : tie.Need-slice-aggregate-reply-last-2
 slice-aggregate-reply-last-2 c = search needs
 
 reply-last-requires-2 : tie.Need-reply-last-requires-2
-reply-last-requires-2 c κs = (near-few _ _ _ (c .before .before .before .before .before .before .before .before .before .before .before .before .before .before .before .before .before .nearest .ensures), near-long _ _ _ (c .before .before .before .before .before .before .before .before .before .before .before .before .before .before .before .before .before .nearest .ensures))
+reply-last-requires-2 c κs = (omega (arith, near-few _ _ _ (c .before .before .before .before .before .before .before .before .before .before .before .before .before .before .before .before .before .nearest .ensures)), omega (arith, near-long _ _ _ (c .before .before .before .before .before .before .before .before .before .before .before .before .before .before .before .before .before .nearest .ensures)))
 
 same-length-3 : tie.Need-same-length-3
 same-length-3 c = search needs
@@ -87,7 +87,7 @@ slice-aggregate-reply-closer-2 : tie.Need-slice-aggregate-reply-closer-2
 slice-aggregate-reply-closer-2 c = search needs
 
 reply-closer-requires-2 : tie.Need-reply-closer-requires-2
-reply-closer-requires-2 c κs = (near-few _ _ _ (c .before .before .before .before .before .before .before .before .before .before .before .before .before .before .before .before .before .nearest .ensures), near-long _ _ _ (c .before .before .before .before .before .before .before .before .before .before .before .before .before .before .before .before .before .nearest .ensures), omega arith)
+reply-closer-requires-2 c κs = (omega (arith, near-few _ _ _ (c .before .before .before .before .before .before .before .before .before .before .before .before .before .before .before .before .before .nearest .ensures)), omega (arith, near-long _ _ _ (c .before .before .before .before .before .before .before .before .before .before .before .before .before .before .before .before .before .nearest .ensures)), omega arith)
 
 same-length-4 : tie.Need-same-length-4
 same-length-4 c = search needs

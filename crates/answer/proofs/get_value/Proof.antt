@@ -23,19 +23,19 @@ enum-known-start : tie.Need-enum-known-start
 enum-known-start c = search needs
 
 sub-reply-held : tie.Need-sub-reply-held
-sub-reply-held c = omega (arith, (held-lies (c .before .before .before .before .before .before .before .before .before .before .before .before .before .args .records .now) (c .before .before .before .before .before .before .before .before .before .before .before .before .before .args .key .now) _ _ (sym (c .before .before .before .before .look .ensures) ∙ c .before .before .start .given .1)) .ordered)
+sub-reply-held c = omega (arith, (held-lies _ _ _ _ (sym (c .before .before .before .before .look .ensures) ∙ c .before .before .start .given .1)) .ordered)
 
 part-reply-held-start : tie.Need-part-reply-held-start
-part-reply-held-start c = omega (arith, (held-lies (c .before .before .before .before .before .before .before .before .before .before .before .before .before .args .records .now) (c .before .before .before .before .before .before .before .before .before .before .before .before .before .args .key .now) _ _ (sym (c .before .before .before .before .look .ensures) ∙ c .before .before .start .given .1)) .ordered)
+part-reply-held-start c = omega (arith, (held-lies _ _ _ _ (sym (c .before .before .before .before .look .ensures) ∙ c .before .before .start .given .1)) .ordered)
 
 part-reply-held-end : tie.Need-part-reply-held-end
-part-reply-held-end c = omega (arith, (held-lies (c .before .before .before .before .before .before .before .before .before .before .before .before .before .args .records .now) (c .before .before .before .before .before .before .before .before .before .before .before .before .before .args .key .now) _ _ (sym (c .before .before .before .before .look .ensures) ∙ c .before .before .start .given .1)) .ends)
+part-reply-held-end c = omega (arith, (held-lies _ _ _ _ (sym (c .before .before .before .before .look .ensures) ∙ c .before .before .start .given .1)) .ends, (held-lies _ _ _ _ (sym (c .before .before .before .before .look .ensures) ∙ c .before .before .start .given .1)) .ordered)
 
 slice-aggregate-reply-held : tie.Need-slice-aggregate-reply-held
 slice-aggregate-reply-held c = search needs
 
 reply-held-requires : tie.Need-reply-held-requires
-reply-held-requires c κs = (near-few _ _ _ (c .before .before .before .before .before .before .before .before .nearest .ensures), near-long _ _ _ (c .before .before .before .before .before .before .before .before .nearest .ensures), c .before .before .before .before .before .before .before .before .before .before .before .before .before .before .before .pre, value-short _ _ _ _ (held-lies (c .before .before .before .before .before .before .before .before .before .before .before .before .before .before .before .args .records .now) (c .before .before .before .before .before .before .before .before .before .before .before .before .before .before .before .args .key .now) _ _ (sym (c .before .before .before .before .before .before .look .ensures) ∙ c .before .before .before .before .start .given .1)))
+reply-held-requires c κs = (omega (arith, near-few _ _ _ (c .before .before .before .before .before .before .before .before .nearest .ensures)), omega (arith, near-long _ _ _ (c .before .before .before .before .before .before .before .before .nearest .ensures)), c .before .before .before .before .before .before .before .before .before .before .before .before .before .before .before .pre, value-short _ _ _ _ (held-lies _ _ _ _ (sym (c .before .before .before .before .before .before .look .ensures) ∙ c .before .before .before .before .start .given .1)))
 
 enum-told : tie.Need-enum-told
 enum-told c = search needs
@@ -44,7 +44,7 @@ slice-aggregate-reply-closer : tie.Need-slice-aggregate-reply-closer
 slice-aggregate-reply-closer c = search needs
 
 reply-closer-requires : tie.Need-reply-closer-requires
-reply-closer-requires c κs = (near-few _ _ _ (c .before .before .before .before .before .before .nearest .ensures), near-long _ _ _ (c .before .before .before .before .before .before .nearest .ensures), omega arith)
+reply-closer-requires c κs = (omega (arith, near-few _ _ _ (c .before .before .before .before .before .before .nearest .ensures)), omega (arith, near-long _ _ _ (c .before .before .before .before .before .before .nearest .ensures)), omega arith)
 
 enum-told-2 : tie.Need-enum-told-2
 enum-told-2 c = search needs
@@ -53,7 +53,7 @@ slice-aggregate-reply-closer-2 : tie.Need-slice-aggregate-reply-closer-2
 slice-aggregate-reply-closer-2 c = search needs
 
 reply-closer-requires-2 : tie.Need-reply-closer-requires-2
-reply-closer-requires-2 c κs = (near-few _ _ _ (c .before .before .before .before .before .before .nearest .ensures), near-long _ _ _ (c .before .before .before .before .before .before .nearest .ensures), omega arith)
+reply-closer-requires-2 c κs = (omega (arith, near-few _ _ _ (c .before .before .before .before .before .before .nearest .ensures)), omega (arith, near-long _ _ _ (c .before .before .before .before .before .before .nearest .ensures)), omega arith)
 
 same-length : tie.Need-same-length
 same-length c = search needs

@@ -12,7 +12,7 @@ add-size : tie.Need-add-size
 add-size c = omega (arith, c .record-len .ensures, record-piece-most (c .before .before .before .before .before .before .args .key .now) (c .before .before .before .before .before .before .args .value .now) (c .before .before .before .before .before .before .pre .2) (c .before .before .before .before .before .before .pre .3))
 
 entries-len-requires : tie.Need-entries-len-requires
-entries-len-requires c κs = (c .before .before .before .before .before .before .pre .0, c .before .before .before .before .before .before .pre .1)
+entries-len-requires c κs = (omega (arith, c .before .before .before .before .before .before .pre .0), omega (arith, c .before .before .before .before .before .before .pre .1))
 
 add-size-2 : tie.Need-add-size-2
 add-size-2 c = omega (arith, c .before .record-len .ensures, c .entries-len .ensures .1, record-piece-most (c .before .before .before .before .before .before .before .args .key .now) (c .before .before .before .before .before .before .before .args .value .now) (c .before .before .before .before .before .before .before .pre .2) (c .before .before .before .before .before .before .before .pre .3))
@@ -24,7 +24,7 @@ put-record-requires : tie.Need-put-record-requires
 put-record-requires c κs = search needs
 
 put-entries-requires : tie.Need-put-entries-requires
-put-entries-requires c κs = (c .before .before .before .before .before .before .before .before .before .before .before .before .before .before .before .before .pre .0, c .before .before .before .before .before .before .before .before .before .before .before .before .before .before .before .before .pre .1)
+put-entries-requires c κs = (omega (arith, c .before .before .before .before .before .before .before .before .before .before .before .before .before .before .before .before .pre .0), omega (arith, c .before .before .before .before .before .before .before .before .before .before .before .before .before .before .before .before .pre .1))
 
 framed-len-requires : tie.Need-framed-len-requires
 framed-len-requires c κs = omega (arith, c .before .before .before .before .before .before .before .before .before .before .before .before .before .record-len .ensures, c .before .before .before .before .before .before .before .before .before .before .before .before .entries-len .ensures .1, record-piece-most (c .before .before .before .before .before .before .before .before .before .before .before .before .before .before .before .before .before .before .before .args .key .now) (c .before .before .before .before .before .before .before .before .before .before .before .before .before .before .before .before .before .before .before .args .value .now) (c .before .before .before .before .before .before .before .before .before .before .before .before .before .before .before .before .before .before .before .pre .2) (c .before .before .before .before .before .before .before .before .before .before .before .before .before .before .before .before .before .before .before .pre .3))
