@@ -1,0 +1,4 @@
+// The workshop's program; see crate console.
+fn main() {
+    console::start();
+}
