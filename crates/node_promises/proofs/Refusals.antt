@@ -28,7 +28,7 @@ use Rattle.node.specs.declared.Conn.{Conn}
 use Rattle.node.specs.declared.Ended.{Ended}
 use Rattle.node.specs.declared.Started.{Started}
 use Rattle.node.specs.declared.Opened.{Opened}
-use Rattle.node.specs.declared.Nearby.{Nearby}
+use Rattle.host_calls.specs.declared.Nearby.{Nearby}
 use Rattle.node.specs.declared.Told.the-variants as tells
 use Rattle.node.specs.declared.Answer.{Answer}
 use Rattle.node.specs.declared.Answer.the-variants.{Reply, Refused, More}
@@ -37,8 +37,8 @@ use Rattle.node.specs.declared.Gate.{Gate}
 use Rattle.node.specs.declared.Gate.the-variants.{Open, Closed}
 use Rattle.node.specs.Box.{ownFits, nobody, startOf, withFraming, openOf, connForm, endConn}
 use Rattle.node.specs.Node.{Dealing, Out, gateOf, done, shutIf, dealingOf, heard, receiveOf}
-use Rattle.node.specs.Hosts.{seenOf, seenAfter, settleOf, settleAfter, removeOf, removeAfter, nearestTo}
-use Rattle.node.proofs.Hosting.{seen-on, seen-off, settle-on, settle-off, remove-on, remove-off}
+use Rattle.host_calls.specs.Hosts.{seenOf, seenAfter, settleOf, settleAfter, removeOf, removeAfter, nearestTo}
+use Rattle.host_calls.proofs.Hosting.{seen-on, seen-off, settle-on, settle-off, remove-on, remove-off}
 use Rattle.node_promises.specs.Promises.{RefusedNothing, Unchanged, NotTaken, Early, Refuses, ReceiveRefused, CallsRefused, ValuesRefused}
 use Rattle.node_promises.proofs.Cases.{deal-cases, afterwards, cases, open-cases}
 

@@ -26,7 +26,7 @@ use Rattle.node.specs.declared.Sight.the-variants.{NotSeen}
 use Rattle.node.specs.declared.Gate.the-variants.{Open, Closed}
 use Rattle.node.specs.Box.{nobody, startOf, withFraming, openOf, connForm, endConn}
 use Rattle.node.specs.Node.{Out, gateOf, receiveOf}
-use Rattle.node.specs.Hosts.{seenOf, seenAfter, settleOf, settleAfter, removeOf, removeAfter, nearestTo}
+use Rattle.host_calls.specs.Hosts.{seenOf, seenAfter, settleOf, settleAfter, removeOf, removeAfter, nearestTo}
 
 -- ---- what is asked of the replies to requests: a refused request changes nothing, and records stay in form
 abbrev pub RefusedNothing : Type 0

@@ -23,9 +23,9 @@ use Rattle.message.specs.declared.Fields.{Fields}
 use Rattle.lookup.specs.declared.Lookup.{Lookup}
 use Rattle.lookup.specs.declared.Step.{Step}
 use Rattle.lookup.specs.Lookup as lookup
 use Rattle.node.specs.Box.{ownFits}
-use Rattle.node.specs.declared.Nearby.{Nearby}
+use Rattle.host_calls.specs.declared.Nearby.{Nearby}
 use Rattle.node.specs.declared.Told.the-variants.{Fine, Refused}
 
 -- 0, then 12
 abbrev pub gated : {A : Type 0} → Peer → List ℕ → A → A → A → A

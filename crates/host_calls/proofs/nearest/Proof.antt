@@ -1,10 +1,10 @@
--- `node::nearest` meets its contract. Assumes nothing.
+-- `host_calls::nearest` meets its contract. Assumes nothing.
 use mathlib.Core.Path.{sym, _∙_}
 use borrow.Author.Tests.{not-true, not-false}
-use Rattle.node.proofs.Hosting.{near-broken, near-none, near-long, near-own, near-found}
+use Rattle.host_calls.proofs.Hosting.{near-broken, near-none, near-long, near-own, near-found}
 use borrow.Author.Needs.{needs}
-use Rattle.node.proofs.nearest.Statement.{statement}
-use Rattle.node.proofs.nearest.Tie as tie
+use Rattle.host_calls.proofs.nearest.Statement.{statement}
+use Rattle.host_calls.proofs.nearest.Tie as tie
 
 slice-aggregate-in-form : tie.Need-slice-aggregate-in-form
 slice-aggregate-in-form c = search needs

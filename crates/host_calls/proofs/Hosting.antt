@@ -29,11 +29,11 @@ use Rattle.message.specs.declared.Fields.{Fields}
 use Rattle.lookup.specs.declared.Lookup.{Lookup}
 use Rattle.lookup.specs.declared.Step.{Step}
 use Rattle.lookup.specs.Lookup as lookup
-use Rattle.node.specs.declared.Nearby.{Nearby}
+use Rattle.host_calls.specs.declared.Nearby.{Nearby}
 use Rattle.node.specs.declared.Told.the-variants.{Fine}
 use Rattle.node.specs.Box.{ownFits}
-use Rattle.node.specs.Hosts.{gated, seenOf, seenAfter, settleOf, settleAfter, removeOf, removeAfter, noneNear, nearestTo, ownId, lookupStart, lookupReply, lookupFailure}
-use Rattle.node.specs.Inner.{refusalOfBox, ownSize}
+use Rattle.host_calls.specs.Hosts.{gated, seenOf, seenAfter, settleOf, settleAfter, removeOf, removeAfter, noneNear, nearestTo, ownId, lookupStart, lookupReply, lookupFailure}
+use Rattle.host_calls.specs.Inner.{refusalOfBox, ownSize}
 
 -- ---- a box that no start gives
 pub box-form : (t ours : List ℕ) → inForm t ours ≡ true → BadPeer ≡ refusalOfBox t ours
