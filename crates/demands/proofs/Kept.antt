@@ -30,7 +30,7 @@ use Rattle.node.specs.declared.Answer.{Answer}
 use Rattle.node.specs.declared.Answer.the-variants.{Reply, Heard, Refused, More}
 use Rattle.node.specs.Box.{ownFits}
 use Rattle.node.specs.Node.{Dealing, contactsAfter, byAnswer, served, heard, dealingOf}
-use Rattle.node.specs.Hosts.{seenAfter, settleAfter, removeAfter}
+use Rattle.host_calls.specs.Hosts.{seenAfter, settleAfter, removeAfter}
 use Rattle.demands.specs.Box as box
 use Rattle.demands.specs.Box.{Box, Who, connOf, offerBy, offerIn, noted, Turn, Ask, dealing, happens, turning, asking, Own, Allowed, Good}
 use Rattle.demands.proofs.Deal.{Leaves, deal-leaves}

@@ -41,7 +41,7 @@ use Rattle.node.specs.declared.Gate.{Gate}
 use Rattle.node.specs.declared.Gate.the-variants.{Open, Closed}
 use Rattle.node.specs.Box.{ownFits, withFraming}
 use Rattle.node.specs.Node.{Dealing, byAnswer, served, heard, dealingOf, gateOf, shutIf, done, byEvent, takenOf, unless, receiveOf}
-use Rattle.node.specs.Hosts.{gated, seenOf, seenAfter, settleOf, settleAfter, removeOf, removeAfter}
+use Rattle.host_calls.specs.Hosts.{gated, seenOf, seenAfter, settleOf, settleAfter, removeOf, removeAfter}
 use Rattle.lookup_runs.proofs.Refusals.{refusals}
 use Rattle.demands.specs.Demands.{LeavesAll, RefusedLeaves}
 use Rattle.demands.proofs.Deal.{deal-leaves}

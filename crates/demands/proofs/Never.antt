@@ -47,12 +47,12 @@ use Rattle.answer.specs.Answers.{keyFits}
 use Rattle.node.specs.declared.Answer.the-variants.{Refused}
 use Rattle.node.specs.declared.Ended.{Ended}
 use Rattle.node.specs.declared.Gate.{Gate}
-use Rattle.node.specs.declared.Nearby.{Nearby}
+use Rattle.host_calls.specs.declared.Nearby.{Nearby}
 use Rattle.node.specs.declared.Told.{Told}
 use Rattle.node.specs.declared.Told.the-variants as nodeTold
 use Rattle.node.specs.Box.{ownFits, endConn}
 use Rattle.node.specs.Node.{Out, takenOf, unless, receiveOf}
-use Rattle.node.specs.Hosts.{seenOf, settleOf, removeOf, nearestTo, ownId, lookupStart}
+use Rattle.host_calls.specs.Hosts.{seenOf, settleOf, removeOf, nearestTo, ownId, lookupStart}
 use Rattle.demands.specs.Box as box
 use Rattle.demands.specs.Box.{Box, Who, connOf, Own, Allowed, Good}
 use Rattle.demands.specs.Demands.{NeverOutOfForm}

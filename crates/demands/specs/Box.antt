@@ -39,13 +39,13 @@ use Rattle.answer.specs.Replies.{putValue}
 use Rattle.answer_promises.specs.Promises.{Roomed}
 use Rattle.node.specs.declared.Conn.{Conn}
 use Rattle.node.specs.declared.Told.{Told}
-use Rattle.node.specs.declared.Nearby.{Nearby}
+use Rattle.host_calls.specs.declared.Nearby.{Nearby}
 use Rattle.node.specs.declared.Sight.{Sight}
 use Rattle.node.specs.declared.Answer.{Answer}
 use Rattle.node.specs.declared.Answer.the-variants.{Reply, Heard, Refused, More}
 use Rattle.node.specs.Box.{ownFits, openOf, endConn}
 use Rattle.node.specs.Node.{Dealing, dealingOf, receiveOf}
-use Rattle.node.specs.Hosts.{seenOf, seenAfter, settleOf, settleAfter, removeOf, removeAfter, nearestTo, lookupStart, lookupReply, lookupFailure}
+use Rattle.host_calls.specs.Hosts.{seenOf, seenAfter, settleOf, settleAfter, removeOf, removeAfter, nearestTo, lookupStart, lookupReply, lookupFailure}
 
 -- ---- what there is to see
 -- what came of an event on a connection: the reply's bytes and the sighting beside it; a message for the host; a refusal; an end

@@ -46,7 +46,7 @@ use Rattle.node.specs.declared.Answer.the-variants.{Refused}
 use Rattle.node.specs.declared.Told.the-variants as nodeTold
 use Rattle.node.specs.Box.{startOf, withFraming, endConn}
 use Rattle.node.specs.Node.{Out, receiveOf}
-use Rattle.node.specs.Hosts.{seenOf, seenAfter, settleOf, settleAfter, removeOf, removeAfter, nearestTo, lookupStart}
+use Rattle.host_calls.specs.Hosts.{seenOf, seenAfter, settleOf, settleAfter, removeOf, removeAfter, nearestTo, lookupStart}
 use Rattle.demands.specs.Box.{Box, Who, connOf, Turn, Fits, Ask, box, Own, Allowed, Good}
 
 -- ==== 1. "Whatever bytes a peer sends, in whatever amount, the box keeps to its memory and gives an answer. Every entry point takes any numbers and

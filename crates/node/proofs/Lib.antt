@@ -2,4 +2,3 @@ pub mod Forms
 pub mod Opening
 pub mod Bounds
 pub mod Receiving
-pub mod Hosting

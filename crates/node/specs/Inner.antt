@@ -1,14 +1,11 @@
 -- What the inner functions of the crate ensure. No reader of the public contracts needs these.
 use Prim.Native.Nat.{ℕ}
 use mathlib.Core.Path.{_≡_}
-use mathlib.Core.Bool.{Bool, cond}
+use mathlib.Core.Bool.{Bool}
 use mathlib.Core.List.{List}
 use lib.ListN.{getD}
 use Rattle.octets.specs.Search.{all}
-use Rattle.refusal.specs.declared.Refusal.{Refusal}
-use Rattle.refusal.specs.declared.Refusal.the-variants.{OutOfForm, BadPeer}
-use Rattle.contacts.specs.Form.{inForm}
-use Rattle.peer.specs.declared.Peer.{Peer}
+use Rattle.refusal.specs.declared.Refusal.the-variants.{BadPeer}
 use Rattle.peer.specs.Addresses.{usableSize}
 use Rattle.stream.specs.declared.Framing.the-variants as framing
 use Rattle.node.specs.declared.Conn.{Conn}
@@ -17,7 +14,7 @@ use Rattle.node.specs.declared.Told.the-variants.{Refused}
 use Rattle.node.specs.declared.Answer.{Answer}
 use Rattle.node.specs.declared.Sight.the-variants.{NotSeen}
 use Rattle.node.specs.declared.Received.{Received}
-use Rattle.node.specs.Box.{ownFits, nobody}
+use Rattle.node.specs.Box.{nobody}
 use Rattle.node.specs.Node.{Dealing, received, shutIf}
 
 -- a connection that starts shut
@@ -38,11 +35,3 @@ pub record Deals (d : Dealing) (c : Conn) (n : ℕ) (r : Received) (t k y : List
   pub contacts : t ≡ d .contacts
   pub records : k ≡ d .records
   pub reply : y ≡ d .reply
-
--- what a call on the contacts gives a box that no start gives
-abbrev pub refusalOfBox : List ℕ → List ℕ → Refusal
-refusalOfBox t ours = cond (inForm t ours) BadPeer OutOfForm
-
--- the length of the id that a box goes by
-abbrev pub ownSize : Peer → ℕ
-ownSize me = cond (ownFits me) (me .size) 0

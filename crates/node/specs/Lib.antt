@@ -1,4 +1,3 @@
 pub mod Box
 pub mod Node
-pub mod Hosts
 pub mod Inner

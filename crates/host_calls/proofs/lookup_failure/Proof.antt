@@ -1,0 +1,34 @@
+-- `host_calls::lookup_failure` meets its contract. Assumes nothing.
+use native.Mathlib.Omega.{arith}
+use mathlib.Core.Path.{_≡_}
+use lib.ListN.{length}
+use Rattle.node.proofs.Bounds.{prefix-length}
+use Rattle.host_calls.proofs.Hosting.{failure-by}
+use borrow.Author.Needs.{needs}
+use Rattle.host_calls.proofs.lookup_failure.Statement.{statement}
+use Rattle.host_calls.proofs.lookup_failure.Tie as tie
+
+own-size-requires : tie.Need-own-size-requires
+own-size-requires c κs = search needs
+
+array-share-prefix-own : tie.Need-array-share-prefix-own
+array-share-prefix-own c = let a : length (c .before .before .before .before .args .me .id) ≡ 64 = search needs in omega arith
+
+slice-aggregate-failure : tie.Need-slice-aggregate-failure
+slice-aggregate-failure c = let a : length (c .before .before .before .before .before .args .me .id) ≡ 64 = search needs in prefix-length (c .before .before .own-size .result) (c .before .before .before .before .before .args .me .id) (omega arith)
+
+failure-requires : tie.Need-failure-requires
+failure-requires c κs = search needs
+
+returns : tie.Need-returns
+returns c = let a = c .before .before .before .before .before .before .args in failure-by (a .me) (c .before .before .before .own-size .result) (c .before .before .before .own-size .ensures .0) (a .lookup) (a .id .now) _ (c .failure .ensures)
+
+pub lookup-failure-spec : {M : Type 1} → statement M
+lookup-failure-spec =
+    tie.close
+    (tie.spec
+    own-size-requires
+    array-share-prefix-own
+    slice-aggregate-failure
+    failure-requires
+    returns)

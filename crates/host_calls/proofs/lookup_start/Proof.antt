@@ -1,0 +1,29 @@
+-- `host_calls::lookup_start` meets its contract. Assumes nothing.
+use native.Mathlib.Omega.{arith}
+use mathlib.Core.Path.{_≡_}
+use lib.ListN.{length}
+use Rattle.node.proofs.Bounds.{prefix-length}
+use Rattle.host_calls.proofs.Hosting.{start-by}
+use borrow.Author.Needs.{needs}
+use Rattle.host_calls.proofs.lookup_start.Statement.{statement}
+use Rattle.host_calls.proofs.lookup_start.Tie as tie
+
+own-size-requires : tie.Need-own-size-requires
+own-size-requires c κs = search needs
+
+array-share-prefix-id : tie.Need-array-share-prefix-id
+array-share-prefix-id c = let a : length (c .before .before .before .before .before .args .me .id) ≡ 64 = search needs in omega arith
+
+slice-aggregate-start : tie.Need-slice-aggregate-start
+slice-aggregate-start c = let a : length (c .before .before .before .before .before .before .args .me .id) ≡ 64 = search needs in prefix-length (c .before .before .own-size .result) (c .before .before .before .before .before .before .args .me .id) (omega arith)
+
+start-requires : tie.Need-start-requires
+start-requires c κs = search needs
+
+returns : tie.Need-returns
+returns c = let a = c .before .before .before .before .before .before .before .args in start-by (a .me) (c .before .before .before .own-size .result) (c .before .before .before .own-size .ensures .0) (a .contacts .now) (a .key .now) (a .limit) _ (c .start .ensures)
+
+pub lookup-start-spec : {M : Type 1} → statement M
+lookup-start-spec =
+    tie.close
+    (tie.spec own-size-requires array-share-prefix-id slice-aggregate-start start-requires returns)

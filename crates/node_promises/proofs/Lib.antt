@@ -1,0 +1,3 @@
+pub mod Cases
+pub mod Refusals
+pub mod Keeping

@@ -1,0 +1,100 @@
+-- What the box's calls promise, as statements; proofs/Refusals.antt and proofs/Keeping.antt prove each.
+use Prim.Native.Nat.{ℕ}
+use mathlib.Core.Path.{_≡_}
+use mathlib.Core.Logic.{_⊎_}
+use mathlib.Core.Bool.{Bool, true, false}
+use mathlib.Core.List.{List}
+use lib.ListN.{length}
+use Rattle.octets.specs.Octets.{Bytes}
+use Rattle.refusal.specs.declared.Refusal.{Refusal}
+use Rattle.refusal.specs.declared.Refusal.the-variants as no
+use Rattle.peer.specs.declared.Peer.{Peer}
+use Rattle.contacts.specs.Form.{inForm as contactsForm}
+use Rattle.records.specs.Store.{inForm as recordsForm}
+use Rattle.contact_calls.specs.declared.SeenOutcome.the-variants as seen
+use Rattle.contact_calls.specs.declared.SettleOutcome.the-variants as settle
+use Rattle.contact_calls.specs.declared.RemoveOutcome.the-variants as remove
+use Rattle.stream.specs.declared.Framing.the-variants as framing
+use Rattle.stream.specs.declared.Ending.the-variants as ends
+use Rattle.stream.specs.Stream.{isShut}
+use Rattle.answer.specs.declared.Answered.the-variants as told
+use Rattle.answer.specs.Answers.{dealOf}
+use Rattle.node.specs.declared.Conn.{Conn}
+use Rattle.node.specs.declared.Told.the-variants as tells
+use Rattle.node.specs.declared.Answer.the-variants.{Refused}
+use Rattle.node.specs.declared.Sight.the-variants.{NotSeen}
+use Rattle.node.specs.declared.Gate.the-variants.{Open, Closed}
+use Rattle.node.specs.Box.{nobody, startOf, withFraming, openOf, connForm, endConn}
+use Rattle.node.specs.Node.{Out, gateOf, receiveOf}
+use Rattle.host_calls.specs.Hosts.{seenOf, seenAfter, settleOf, settleAfter, removeOf, removeAfter, nearestTo}
+
+-- ---- what is asked of the replies to requests: a refused request changes nothing, and records stay in form
+abbrev pub RefusedNothing : Type 0
+RefusedNothing =
+    (me who : Peer) (body t k y : List ℕ) (r : Refusal) → dealOf me who body t k y .told ≡ told.Refused r
+    → (dealOf me who body t k y .records ≡ k) × (dealOf me who body t k y .reply ≡ y)
+
+abbrev pub RecordsKept : Type 0
+RecordsKept = (me who : Peer) (body t k y : List ℕ) → recordsForm k ≡ true → recordsForm (dealOf me who body t k y .records) ≡ true
+
+-- ---- 1. Refused calls change nothing
+-- contacts, records and reply buffer are as they were, and nobody was seen
+pub record Unchanged (t k y : List ℕ) (o : Out) : Type 0 where
+  pub contacts : o .contacts ≡ t
+  pub records : o .records ≡ k
+  pub reply : o .reply ≡ y
+  pub sight : o .got .sight ≡ NotSeen
+
+-- nothing was taken: "0 to 2 consume and change nothing", and so does 12
+pub record NotTaken (c : Conn) (m : List ℕ) (o : Out) : Type 0 where
+  pub taken : o .got .taken ≡ 0
+  pub conn : o .got .conn ≡ c
+  pub buffer : o .buffer ≡ m
+
+-- 0, 1, 2 or 12
+abbrev pub Early : Refusal → Type 0
+Early r = (r ≡ no.OutOfForm) ⊎ ((r ≡ no.SmallBuffer) ⊎ ((r ≡ no.Shut) ⊎ (r ≡ no.BadPeer)))
+
+-- a receive that is refused: by the gate, or it shuts the connection
+pub record Refuses (me : Peer) (c : Conn) (m bs t k y : List ℕ) (r : Refusal) : Type 0 where
+  pub unchanged : Unchanged t k y (receiveOf me c m bs t k y)
+  pub closed : (s : Refusal) → gateOf me c m t k y ≡ Closed s → (s ≡ r) × Early r × NotTaken c m (receiveOf me c m bs t k y)
+  pub shuts : gateOf me c m t k y ≡ Open → receiveOf me c m bs t k y .got .conn ≡ withFraming c framing.Shut
+
+abbrev pub ReceiveRefused : Type 0
+ReceiveRefused =
+    RefusedNothing → (me : Peer) (c : Conn) (m bs t k y : List ℕ) (r : Refusal) → receiveOf me c m bs t k y .got .answer ≡ Refused r → Refuses me c m bs t k y r
+
+-- the host's calls: 13 too, which names a head to probe, changes nothing
+pub record CallsRefused : Type 0 where
+  pub sees : (me : Peer) (t id : List ℕ) (client : Bool) (addresses : List ℕ) (r : Refusal) → seenOf me t id client ≡ seen.Refused r → seenAfter me t id client addresses ≡ t
+  pub probes : (me : Peer) (t id : List ℕ) (client : Bool) (addresses : List ℕ) (h : ℕ) → seenOf me t id client ≡ seen.Probe h → seenAfter me t id client addresses ≡ t
+  pub settles : (me : Peer) (t head id : List ℕ) (client : Bool) (addresses : List ℕ) (answered : Bool) (r : Refusal)
+      → settleOf me t head id client answered ≡ settle.Refused r → settleAfter me t head id client addresses answered ≡ t
+  pub removes : (me : Peer) (t id : List ℕ) (r : Refusal) → removeOf me t id ≡ remove.Refused r → removeAfter me t id ≡ t
+
+-- calls that only hand back values: a refused start gives nobody, a refused open a shut connection to nobody, an end with 0 the connection as it
+-- was, and a refused search no contacts
+pub record ValuesRefused : Type 0 where
+  pub starts : (id addresses : List ℕ) (r : Refusal) → startOf id addresses .told ≡ tells.Refused r → startOf id addresses .me ≡ nobody
+  pub opens : (me : Peer) (id : List ℕ) (server asking : Bool) (addresses : List ℕ) (r : Refusal) → openOf me id server asking addresses .told ≡ tells.Refused r
+      → (openOf me id server asking addresses .conn .framing ≡ framing.Shut) × (openOf me id server asking addresses .conn .peer ≡ nobody)
+  pub ending : (me : Peer) (c : Conn) → connForm me c ≡ false → (endConn me c .conn ≡ c) × (endConn me c .answer ≡ ends.Refused no.OutOfForm)
+  pub nearby : (me : Peer) (t key : List ℕ) (r : Refusal) → nearestTo me t key .told ≡ tells.Refused r → nearestTo me t key .closest .n ≡ 0
+
+-- ---- 2. Form is kept
+-- a peer whose arrays have the lengths that they are declared with, and whose place is bytes
+pub record Made (p : Peer) : Type 0 where
+  pub lensLong : length (p .lens) ≡ 4
+  pub placeLong : length (p .place) ≡ 32
+  pub placeBytes : Bytes (p .place)
+  pub idLong : length (p .id) ≡ 64
+  pub addrsLong : length (p .addrs) ≡ 512
+
+pub record FormKept : Type 0 where
+  pub opens : (me : Peer) (id : List ℕ) (server asking : Bool) (addresses : List ℕ) → connForm me (openOf me id server asking addresses .conn) ≡ true
+  pub closes : (me : Peer) (c : Conn) → connForm me c ≡ true → connForm me (endConn me c .conn) ≡ true
+  pub receives : (me : Peer) (c : Conn) (m bs t k y : List ℕ) → connForm me c ≡ true → connForm me (receiveOf me c m bs t k y .got .conn) ≡ true
+  pub contacts : (me : Peer) (c : Conn) (m bs t k y : List ℕ) → Made me → Made (c .peer) → connForm me c ≡ true → isShut (c .framing) ≡ false
+      → contactsForm t (me .place) ≡ true → contactsForm (receiveOf me c m bs t k y .contacts) (me .place) ≡ true
+  pub records : RecordsKept → (me : Peer) (c : Conn) (m bs t k y : List ℕ) → recordsForm k ≡ true → recordsForm (receiveOf me c m bs t k y .records) ≡ true
