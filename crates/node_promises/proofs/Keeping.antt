@@ -22,9 +22,9 @@ use Rattle.peer.specs.Peers.{idFits, badPeer, peerOf}
 use Rattle.peer.proofs.Meaning.{size-is, count-few, lens-usable, place-is, fits-least, fits-most, not-bad-id, not-bad-place}
 use Rattle.contacts.specs.Form.{inForm as contactsForm}
 use Rattle.records.specs.Store.{inForm as recordsForm}
-use Rattle.sightings.specs.Promises.{Fair}
+use Rattle.sightings_kept.specs.Promises.{Fair}
 use Rattle.sightings.specs.Sightings.{seenTable}
-use Rattle.sightings.proofs.Forms.{seen-keeps}
+use Rattle.sightings_kept.proofs.Forms.{seen-keeps}
 use Rattle.stream.specs.declared.Framing.{Framing}
 use Rattle.stream.specs.declared.Framing.the-variants.{Shut, Prefix, Body}
 use Rattle.stream.specs.Stream as frames
