@@ -2,7 +2,6 @@
 -- (`first`, `second`, `third`). `Box.antt` says what a box in use is; `cutting` what hosts, pieces and the plain reading are.
 use Prim.Native.Nat.{ℕ, _≤_}
 use mathlib.Core.Path.{_≡_}
-use mathlib.Core.Logic.{_⊎_}
 use mathlib.Core.Bool.{Bool, true, false}
 use mathlib.Core.List.{List, []}
 use mathlib.Core.Option.{none, some}
@@ -44,29 +43,22 @@ use Rattle.answer_promises.specs.Promises.{Roomed, ReadsBack}
 use Rattle.node.specs.declared.Conn.{Conn}
 use Rattle.node.specs.declared.Answer.the-variants.{Refused}
 use Rattle.node.specs.declared.Told.the-variants as nodeTold
-use Rattle.node.specs.Box.{startOf, withFraming, endConn}
-use Rattle.node.specs.Node.{Out, receiveOf}
-use Rattle.host_calls.specs.Hosts.{seenOf, seenAfter, settleOf, settleAfter, removeOf, removeAfter, nearestTo, lookupStart}
+use Rattle.node.specs.Box.{startOf, endConn}
+use Rattle.node.specs.Node.{receiveOf}
+use Rattle.host_calls.specs.Hosts.{seenOf, settleOf, removeOf, nearestTo, lookupStart}
+use Rattle.node_promises.specs.Promises.{Refuses, CallsRefused, ValuesRefused}
 use Rattle.demands.specs.Box.{Box, Who, connOf, Turn, Fits, Ask, box, Own, Allowed, Good}
 
 -- ==== 1. "Whatever bytes a peer sends, in whatever amount, the box keeps to its memory and gives an answer. Every entry point takes any numbers and
 -- any buffers": that every function has a contract with no precondition, and meets it, is what the checker shows. Here is the rest.
 
--- a call left contacts, records and reply as they were, and its connection too or shut it
-pub record LeavesAll (c : Conn) (t k y : List ℕ) (o : Out) : Type 0 where
-  pub contacts : o .contacts ≡ t
-  pub records : o .records ≡ k
-  pub reply : o .reply ≡ y
-  pub conn : (o .got .conn ≡ c) ⊎ (o .got .conn ≡ withFraming c Shut)
-
--- "A refused call changes no contact, record, lookup or reply byte; at most it takes bytes and shuts its connection"
+-- "A refused call changes no contact, record, lookup or reply byte; at most it takes bytes and shuts its connection": a receive leaves contacts, records and
+-- reply, and 0, 1, 2 and 12 take nothing, the others shut; seen, settle and remove leave the table; start, open, end and nearest hand back nobody, a shut
+-- connection, the connection as it was, no contacts
 pub record RefusedLeaves (me : Peer) : Type 0 where
-  pub receive : (c : Conn) (m bs t k y : List ℕ) (r : Refusal) → receiveOf me c m bs t k y .got .answer ≡ Refused r → LeavesAll c t k y (receiveOf me c m bs t k y)
-  pub seen : (t id : List ℕ) (client : Bool) (addresses : List ℕ) (r : Refusal) → seenOf me t id client ≡ seenAnswer.Refused r → seenAfter me t id client addresses ≡ t
-  pub probe : (t id : List ℕ) (client : Bool) (addresses : List ℕ) (h : ℕ) → seenOf me t id client ≡ seenAnswer.Probe h → seenAfter me t id client addresses ≡ t
-  pub settle : (t head id : List ℕ) (client : Bool) (addresses : List ℕ) (answered : Bool) (r : Refusal) → settleOf me t head id client answered ≡ settleAnswer.Refused r
-      → settleAfter me t head id client addresses answered ≡ t
-  pub remove : (t id : List ℕ) (r : Refusal) → removeOf me t id ≡ removeAnswer.Refused r → removeAfter me t id ≡ t
+  pub receive : (c : Conn) (m bs t k y : List ℕ) (r : Refusal) → receiveOf me c m bs t k y .got .answer ≡ Refused r → Refuses me c m bs t k y r
+  pub calls : CallsRefused
+  pub values : ValuesRefused
   pub put : (k key value : List ℕ) (r : Refusal) → putAnswer k key value ≡ putTold.Refused r → putAfter k key value ≡ k
   pub write : (y : List ℕ) (m : Message) (r : Refusal) → answerOf y m ≡ writer.Refused r → outAfter y m ≡ y
   pub lookup : (l : Lookup) (c : Step) (r : Refusal) → step c l .answer ≡ lookupAnswer.Refused r → step c l .lookup ≡ l

@@ -37,7 +37,8 @@ use Rattle.node.specs.declared.Answer.the-variants.{Reply, Heard, Refused, More
 use Rattle.node.specs.Box.{ownFits, sizeFits, peerForm, withFraming, openOf, connForm, endConn}
 use Rattle.node.specs.Node.{Dealing, Out, shutIf, done, dealingOf, heard, contactsAfter, receiveOf}
 use Rattle.node.proofs.Bounds.{framing-kept, end-shuts}
-use Rattle.node_promises.specs.Promises.{RecordsKept, Made, FormKept}
+use Rattle.answer_promises.proofs.Promised.{records-stay-in-form}
+use Rattle.node_promises.specs.Promises.{Made, FormKept}
 use Rattle.node_promises.proofs.Cases.{deal-cases, afterwards, cases}
 
 -- ---- a connection in form, taken apart and put together
@@ -193,7 +194,7 @@ module _ (me : Peer) (c : Conn) (m bs t k y : List ℕ) (a : Made me) (b : Made 
   contacts-kept = cases me c m bs t k y Contacts (λ s g. f) (λ g l. deal-contacts _) (λ g x. f) (λ g. f)
 
 -- ---- receive: the records
-module _ (K : RecordsKept) (me : Peer) (c : Conn) (m bs t k y : List ℕ) (f : recordsForm k ≡ true) where
+module _ (me : Peer) (c : Conn) (m bs t k y : List ℕ) (f : recordsForm k ≡ true) where
   abbrev pub Records : Out → Type 0
   Records o = recordsForm (o .records) ≡ true
 
@@ -202,7 +203,7 @@ module _ (K : RecordsKept) (me : Peer) (c : Conn) (m bs t k y : List ℕ) (f : r
 
   deal-records : (c′ : Conn) (body : List ℕ) → DealRecords (dealingOf me c′ body t k y)
   unfolding heard
-  deal-records c′ body = deal-cases me c′ body t k y DealRecords f (λ x q. K me (c′ .peer) body t k y f) (λ n. K me (c′ .peer) body t k y f)
+  deal-records c′ body = deal-cases me c′ body t k y DealRecords f (λ x q. records-stay-in-form me (c′ .peer) body t k y f) (λ n. records-stay-in-form me (c′ .peer) body t k y f)
 
   pub records-kept : Records (receiveOf me c m bs t k y)
   records-kept = cases me c m bs t k y Records (λ s g. f) (λ g l. deal-records _ _) (λ g x. f) (λ g. f)

@@ -1,4 +1,4 @@
--- Refused calls change nothing. Assumes nothing but what is asked of the replies to requests.
+-- Refused calls change nothing. Assumes nothing.
 use Prim.Native.Nat.{ℕ}
 use mathlib.Core.Path.{_≡_, refl, sym, ap, _∙_, subst}
 use mathlib.Core.Logic.{_⊎_, inl, inr, ⊎-elim}
@@ -39,7 +39,8 @@ use Rattle.node.specs.Box.{ownFits, nobody, startOf, withFraming, openOf, connF
 use Rattle.node.specs.Node.{Dealing, Out, gateOf, done, shutIf, dealingOf, heard, receiveOf}
 use Rattle.host_calls.specs.Hosts.{seenOf, seenAfter, settleOf, settleAfter, removeOf, removeAfter, nearestTo}
 use Rattle.host_calls.proofs.Hosting.{seen-on, seen-off, settle-on, settle-off, remove-on, remove-off}
-use Rattle.node_promises.specs.Promises.{RefusedNothing, Unchanged, NotTaken, Early, Refuses, ReceiveRefused, CallsRefused, ValuesRefused}
+use Rattle.answer_promises.proofs.Promised.{refused-changes-nothing}
+use Rattle.node_promises.specs.Promises.{Unchanged, NotTaken, Early, Refuses, ReceiveRefused, CallsRefused, ValuesRefused}
 use Rattle.node_promises.proofs.Cases.{deal-cases, afterwards, cases, open-cases}
 
 -- ---- two outcomes that are told apart
@@ -83,7 +84,7 @@ gate-early me c m t k y =
     one s e = inr (inl (sym (same-closed no.SmallBuffer s e)))
 
 -- ---- receive
-module _ (K : RefusedNothing) (me : Peer) (c : Conn) (m bs t k y : List ℕ) (r : Refusal) where
+module _ (me : Peer) (c : Conn) (m bs t k y : List ℕ) (r : Refusal) where
   record Same (d : Dealing) : Type 0 where
     contacts : d .contacts ≡ t
     records : d .records ≡ k
@@ -97,7 +98,7 @@ module _ (K : RefusedNothing) (me : Peer) (c : Conn) (m bs t k y : List ℕ) (r 
   unfolding heard
   deal-kept c′ body =
       deal-cases me c′ body t k y Kept (λ e. record { contacts = refl; records = refl; reply = refl; sight = refl })
-      (λ x h e. let q = K me (c′ .peer) body t k y x h in record { contacts = refl; records = q .0; reply = q .1; sight = refl })
+      (λ x h e. let q = refused-changes-nothing me (c′ .peer) body t k y x h in record { contacts = refl; records = q .0; reply = q .1; sight = refl })
       (λ n e. reply-not n r e)
 
   abbrev Holds : Out → Type 0
@@ -135,7 +136,7 @@ module _ (K : RefusedNothing) (me : Peer) (c : Conn) (m bs t k y : List ℕ) (r 
       }
 
 pub receive-refused : ReceiveRefused
-receive-refused K me c m bs t k y r e = refuses K me c m bs t k y r e
+receive-refused me c m bs t k y r e = refuses me c m bs t k y r e
 
 -- ---- the host's calls
 own-cases : (C : Type 0) (me : Peer) → (ownFits me ≡ true → C) → (ownFits me ≡ false → C) → C

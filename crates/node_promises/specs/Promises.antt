@@ -17,8 +17,6 @@ use Rattle.contact_calls.specs.declared.RemoveOutcome.the-variants as remove
 use Rattle.stream.specs.declared.Framing.the-variants as framing
 use Rattle.stream.specs.declared.Ending.the-variants as ends
 use Rattle.stream.specs.Stream.{isShut}
-use Rattle.answer.specs.declared.Answered.the-variants as told
-use Rattle.answer.specs.Answers.{dealOf}
 use Rattle.node.specs.declared.Conn.{Conn}
 use Rattle.node.specs.declared.Told.the-variants as tells
 use Rattle.node.specs.declared.Answer.the-variants.{Refused}
@@ -27,15 +25,6 @@ use Rattle.node.specs.declared.Gate.the-variants.{Open, Closed}
 use Rattle.node.specs.Box.{nobody, startOf, withFraming, openOf, connForm, endConn}
 use Rattle.node.specs.Node.{Out, gateOf, receiveOf}
 use Rattle.host_calls.specs.Hosts.{seenOf, seenAfter, settleOf, settleAfter, removeOf, removeAfter, nearestTo}
-
--- ---- what is asked of the replies to requests: a refused request changes nothing, and records stay in form
-abbrev pub RefusedNothing : Type 0
-RefusedNothing =
-    (me who : Peer) (body t k y : List ℕ) (r : Refusal) → dealOf me who body t k y .told ≡ told.Refused r
-    → (dealOf me who body t k y .records ≡ k) × (dealOf me who body t k y .reply ≡ y)
-
-abbrev pub RecordsKept : Type 0
-RecordsKept = (me who : Peer) (body t k y : List ℕ) → recordsForm k ≡ true → recordsForm (dealOf me who body t k y .records) ≡ true
 
 -- ---- 1. Refused calls change nothing
 -- contacts, records and reply buffer are as they were, and nobody was seen
@@ -63,7 +52,7 @@ pub record Refuses (me : Peer) (c : Conn) (m bs t k y : List ℕ) (r : Refusal) 
 
 abbrev pub ReceiveRefused : Type 0
 ReceiveRefused =
-    RefusedNothing → (me : Peer) (c : Conn) (m bs t k y : List ℕ) (r : Refusal) → receiveOf me c m bs t k y .got .answer ≡ Refused r → Refuses me c m bs t k y r
+    (me : Peer) (c : Conn) (m bs t k y : List ℕ) (r : Refusal) → receiveOf me c m bs t k y .got .answer ≡ Refused r → Refuses me c m bs t k y r
 
 -- the host's calls: 13 too, which names a head to probe, changes nothing
 pub record CallsRefused : Type 0 where
@@ -97,4 +86,4 @@ pub record FormKept : Type 0 where
   pub receives : (me : Peer) (c : Conn) (m bs t k y : List ℕ) → connForm me c ≡ true → connForm me (receiveOf me c m bs t k y .got .conn) ≡ true
   pub contacts : (me : Peer) (c : Conn) (m bs t k y : List ℕ) → Made me → Made (c .peer) → connForm me c ≡ true → isShut (c .framing) ≡ false
       → contactsForm t (me .place) ≡ true → contactsForm (receiveOf me c m bs t k y .contacts) (me .place) ≡ true
-  pub records : RecordsKept → (me : Peer) (c : Conn) (m bs t k y : List ℕ) → recordsForm k ≡ true → recordsForm (receiveOf me c m bs t k y .records) ≡ true
+  pub records : (me : Peer) (c : Conn) (m bs t k y : List ℕ) → recordsForm k ≡ true → recordsForm (receiveOf me c m bs t k y .records) ≡ true

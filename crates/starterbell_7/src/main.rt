@@ -1,0 +1,4 @@
+// The same program, run in pieces of 7.
+fn main() {
+    console::start();
+}
