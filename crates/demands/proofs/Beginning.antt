@@ -1,5 +1,5 @@
 -- A start that isn't refused gives a box of which the demands speak, and a host that begins with cleared memory has a ready world. Assumes nothing.
-use Prim.Native.Nat.{ℕ, zero, suc, min}
+use Prim.Native.Nat.{ℕ, zero, suc, _*_, min}
 use mathlib.Core.Path.{_≡_, refl, sym, ap, _∙_, subst}
 use mathlib.Core.Bool.{Bool, true, false, cond, true≢false}
 use mathlib.Core.List.{List}
@@ -7,14 +7,17 @@ use native.Mathlib.Omega.{arith}
 use lib.ListN.{length, getD}
 use borrow.Author.Tests.{le-leb}
 use Rattle.octets.specs.Octets.{Bytes}
-use Rattle.octets.proofs.Bools.{and-i}
+use Rattle.octets.proofs.Bools.{and-i, not-both}
 use Rattle.refusal.specs.declared.Refusal.the-variants.{BadPeer}
 use Rattle.place.specs.Place.{placeOf}
 use Rattle.place.proofs.Places.{length-placeOf, bytes-placeOf}
 use Rattle.peer.specs.declared.Peer.{Peer}
 use Rattle.peer.specs.Peers.{idFits, peerOf}
 use Rattle.peer.proofs.Meaning.{place-is, size-is, id-length, fits-least, fits-most}
+use Rattle.contacts.specs.Table.{slot, used}
 use Rattle.contacts.specs.Form.{inForm as contactsForm}
+use Rattle.contacts.proofs.Cuts.{mark-cut, mark-free}
+use Rattle.sightings_kept.specs.Promises.{Hashed}
 use Rattle.contact_calls.proofs.Theorems.{cleared-in-form}
 use Rattle.records.specs.Store.{inForm as recordsForm}
 use Rattle.records_history.specs.History.{cleared}
@@ -26,6 +29,7 @@ use Rattle.node.specs.declared.Told.the-variants as nodeTold
 use Rattle.node.specs.Box.{ownFits, nobody, startOf}
 use Rattle.demands.specs.Box.{Box, Who, Ask, Own, Allowed, Good}
 use Rattle.demands.specs.Demands.{Begun, Beginnings}
+use Rattle.demands.proofs.Hashing.{Known, Placed}
 
 -- ---- the start
 fits-own : (id place addresses : List ℕ) → idFits id ≡ true → ownFits (peerOf id place addresses) ≡ true
@@ -72,6 +76,18 @@ begun-ready me s b =
         records = ap recordsForm (b .records) ∙ cleared-form (b .recordBytes);
         room = b .reply;
       };
+    }
+
+-- no slot of cleared memory is used
+cleared-hashed : (n : ℕ) → Hashed (cleared n)
+cleared-hashed n i l u = absurd (not-both (used (slot (cleared n) i)) u (mark-free (slot (cleared n) i) (sym (mark-cut (cleared n) i) ∙ zeros n (i * 616))))
+
+pub begun-known : (me : Peer) (s : World Who Box Ask) → Begun s → Ready (Known me) (Placed me) s
+begun-known me s b =
+    let r = begun-ready me s b in
+    record {
+      lines = λ i. record { form = r .lines i .form; room = r .lines i .room; peer = λ z. absurd (true≢false (sym (ap isShut (b .shut i)) ∙ z)) };
+      good = record { good = r .good; hashed = subst Hashed (sym (b .contacts)) (cleared-hashed (b .contactBytes)) };
     }
 
 pub beginnings : Beginnings

@@ -8,5 +8,6 @@ pub mod Blunt
 pub mod Refusals
 pub mod Leaving
 pub mod Never
+pub mod Hashing
 pub mod Beginning
 pub mod Theorems

@@ -23,6 +23,8 @@ use Rattle.demands.proofs.Sound.{sound, sound-held}
 use Rattle.demands.proofs.Ready.{calls-ready}
 use Rattle.demands.proofs.Blunt.{blunt}
 use Rattle.demands.proofs.Leaving.{refused-leaves}
+use Rattle.demands.proofs.Hashing.{placed}
+use Rattle.demands.proofs.Beginning.{begun-known}
 use Rattle.demands.proofs.Never.{never-out-of-form}
 
 pub first : (me : Peer) → Own me → First me
@@ -35,6 +37,7 @@ second me w =
       writes = round-trip;
       replies = λ who h. replies-read-back me who (w .roomed) h;
       nearest = λ t key. nearest-are t (placeOf key) (length-placeOf key);
+      hashed = λ s b cs f. placed me w s (begun-known me s b) cs f;
       lookup = λ t own key limit s. claims t own (me .place) key limit s;
     }
 

@@ -12,6 +12,7 @@ use Rattle.place.specs.Place.{placeOf}
 use Rattle.peer.specs.declared.Peer.{Peer}
 use Rattle.contacts.specs.Near.{nearestSlots}
 use Rattle.contacts.proofs.TwentyNearest.{AreNearest}
+use Rattle.sightings_kept.specs.Promises.{Hashed}
 use Rattle.contact_calls.specs.declared.SeenOutcome.the-variants as seenAnswer
 use Rattle.contact_calls.specs.declared.SettleOutcome.the-variants as settleAnswer
 use Rattle.contact_calls.specs.declared.RemoveOutcome.the-variants as removeAnswer
@@ -87,6 +88,16 @@ pub record ReadsWell (body : List ℕ) : Type 0 where
   pub malformed : readingOf body ≡ reading.Refused Malformed → decode body ≡ none
   pub only : length body ≤ mostBody → decode body ≡ none → readingOf body ≡ reading.Refused Malformed
 
+-- as a host begins: memory cleared, every connection shut, buffers that 1 doesn't refuse
+pub record Begun (s : World Who Box Ask) : Type 0 where
+  pub contactBytes : ℕ
+  pub recordBytes : ℕ
+  pub contacts : s .shared .state .contacts ≡ cleared contactBytes
+  pub records : s .shared .state .records ≡ cleared recordBytes
+  pub reply : leastReply ≤ length (s .shared .state .reply)
+  pub shut : (i : ℕ) → s .lines i .framing ≡ Shut
+  pub buffers : (i : ℕ) → mostBody ≤ length (s .lines i .buffer)
+
 pub record Second (me : Peer) : Type 0 where
   pub reads : (body : List ℕ) → ReadsWell body
   -- "what is written reads back as the same fields"
@@ -96,6 +107,8 @@ pub record Second (me : Peer) : Type 0 where
       → ReadsBack (verdictOf me who (messageOf body) t k) (dealOf me who body t k y) y n
   -- "A query answers the twenty contacts nearest by XOR of SHA-256, or all when fewer, nearest first"
   pub nearest : (t key : List ℕ) → AreNearest t (placeOf key) (nearestSlots t (placeOf key))
+  -- and that is the distance of SHA-256 of the ids: "memory once cleared, since then lent whole and changed by calls alone" holds each contact at its id's hash
+  pub hashed : (s : World Who Box Ask) → Begun s → (cs : List (Call Turn Ask)) → AllFit Fits cs → Hashed (calls (box me) s cs .shared .state .contacts)
   -- "A lookup asks nobody twice. It reports complete only when the twenty nearest peers heard of that haven't failed, or all if fewer, have answered, and
   -- no peer was turned away for want of room": over any calls since its start
   pub lookup : (t own key : List ℕ) (limit : ℕ) → Started t (me .place) key limit → Claims t own (me .place) key limit
@@ -126,16 +139,6 @@ abbrev pub Demands : Type 0
 Demands = (me : Peer) → Own me → First me × Second me × Third me
 
 -- ==== and there are such boxes and such worlds: a start that isn't refused gives one, and so does "memory once cleared"
--- as a host begins: memory cleared, every connection shut, buffers that 1 doesn't refuse
-pub record Begun (s : World Who Box Ask) : Type 0 where
-  pub contactBytes : ℕ
-  pub recordBytes : ℕ
-  pub contacts : s .shared .state .contacts ≡ cleared contactBytes
-  pub records : s .shared .state .records ≡ cleared recordBytes
-  pub reply : leastReply ≤ length (s .shared .state .reply)
-  pub shut : (i : ℕ) → s .lines i .framing ≡ Shut
-  pub buffers : (i : ℕ) → mostBody ≤ length (s .lines i .buffer)
-
 pub record Beginnings : Type 0 where
   pub own : (id addresses : List ℕ) → startOf id addresses .told ≡ nodeTold.Fine → Own (startOf id addresses .me)
   pub ready : (me : Peer) (s : World Who Box Ask) → Begun s → Ready (Allowed me) (Good me) s

@@ -4,3 +4,4 @@ pub mod Forms
 pub mod Said
 pub mod Theorems
 pub mod Holds
+pub mod Hashed

@@ -6,9 +6,10 @@ use mathlib.Core.List.{List}
 use lib.ListN.{length, getD, drop}
 use lib.Dec.{ltb}
 use Rattle.octets.specs.Search.{count}
-use Rattle.place.specs.Place.{bucketOf}
+use Rattle.place.specs.Place.{placeOf, bucketOf}
 use Rattle.contacts.specs.Table.{slotSize, slotsOf, slot, mark, used, place, id, addresses}
 use Rattle.peer.specs.declared.Peer.{Peer}
+use Rattle.peer.specs.Peers.{idIn}
 use Rattle.sightings.specs.Order.{ofBucket, isAt, tailOf}
 
 -- a peer that may come in: an id of 1 to 64 bytes, up to four addresses of 1 to 128, a place that isn't ours
@@ -47,3 +48,10 @@ pub record AtTail (ours : List ℕ) (p : List ℕ) (i : ℕ) (u : List ℕ) : Ty
 -- how many contacts a bucket holds
 unfoldable pub holds : List ℕ → List ℕ → ℕ → ℕ
 holds t ours b = count (slotsOf t) (λ i. ofBucket ours b (slot t i))
+
+-- every contact lies at the hash of its id; and so does a peer
+abbrev pub Hashed : List ℕ → Type 0
+Hashed t = (i : ℕ) → i < slotsOf t → used (slot t i) ≡ true → place (slot t i) ≡ placeOf (id (slot t i))
+
+abbrev pub HashedPeer : Peer → Type 0
+HashedPeer p = p .place ≡ placeOf (idIn p)
