@@ -1,0 +1,3 @@
+pub mod Padding
+pub mod Reading
+pub mod Writing

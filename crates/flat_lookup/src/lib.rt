@@ -49,11 +49,11 @@ fn byte(s: &[u8], at: usize) -> u8
     s[at]
 }
 
-// Two bytes as a number, the lower first.
-fn two(low: u8, high: u8) -> usize
-    ensures { λ r. ⌜ r ≡ low + high * 256 ⌝ }
+// A byte of a slice as a number, 0 past its end.
+fn number(s: &[u8], at: usize) -> usize
+    ensures { λ r. ⌜ (r ≡ getD (now (s .entry)) at 0) × (r < 256) ⌝ }
 {
-    (low as usize) + (high as usize) * 256
+    byte(s, at) as usize
 }
 
 // What a slice holds from a place on.
@@ -67,14 +67,31 @@ fn rest(s: &[u8], at: usize) -> &[u8]
     &s[at..]
 }
 
+// A place that stands in a slice.
+fn place_in(s: &[u8], at: usize) -> [u8; 32]
+    ensures { λ r. ⌜ r ≡ bytesAt 32 (now (s .entry)) at ⌝ }
+{
+    let mut place = [0u8; 32];
+    octets::copy(&mut place, 0, rest(s, at));
+    place
+}
+
+// The key of a lookup.
+fn key_in(s: &[u8]) -> [u8; 128]
+    ensures { λ r. ⌜ r ≡ bytesAt 128 (now (s .entry)) 8 ⌝ }
+{
+    let mut key = [0u8; 128];
+    octets::copy(&mut key, 0, rest(s, KEY_AT));
+    key
+}
+
 // The candidate at the start of a slice.
 fn candidate_in(s: &[u8]) -> Candidate
     ensures { λ r. ⌜ r ≡ candidateIn (now (s .entry)) ⌝ }
 {
     let mut id = [0u8; 64];
     octets::copy(&mut id, 0, rest(s, ID_AT));
-    let mut place = [0u8; 32];
-    octets::copy(&mut place, 0, rest(s, PLACE_AT));
+    let place = place_in(s, PLACE_AT);
     let mark = byte(s, MARK_AT);
     let len = byte(s, LEN_AT);
     Candidate {
@@ -89,6 +106,12 @@ fn candidate_in(s: &[u8]) -> Candidate
 pub fn lookup_in(bytes: &[u8]) -> Lookup
     ensures { λ r. ⌜ r ≡ lookupIn (now (bytes .entry)) ⌝ }
 {
+    let key = key_in(bytes);
+    let target = place_in(bytes, TARGET_AT);
+    let count = number(bytes, COUNT_AT) + number(bytes, COUNT_AT + 1) * 256;
+    let size = number(bytes, SIZE_AT);
+    let limit = number(bytes, LIMIT_AT);
+    let turned = number(bytes, TURNED_AT) > 0;
     let first = candidate_in(rest(bytes, CANDIDATES_AT));
     let mut candidates = [first; 256];
     let mut i: usize = 1;
@@ -97,14 +120,6 @@ pub fn lookup_in(bytes: &[u8]) -> Lookup
         candidates[i] = c;
         i += 1;
     }
-    let mut key = [0u8; 128];
-    octets::copy(&mut key, 0, rest(bytes, KEY_AT));
-    let mut target = [0u8; 32];
-    octets::copy(&mut target, 0, rest(bytes, TARGET_AT));
-    let count = two(byte(bytes, COUNT_AT), byte(bytes, COUNT_AT + 1));
-    let size = byte(bytes, SIZE_AT) as usize;
-    let limit = byte(bytes, LIMIT_AT) as usize;
-    let turned = byte(bytes, TURNED_AT) > 0;
     Lookup {
         candidates,
         key,
