@@ -87,15 +87,17 @@ put-one out₀ cs out i d next hl h e p =
           ∙ sym (ap (sets out₀ candidatesAt) more ∙ sets-append out₀ candidatesAt (candidatesBytes (take i cs)) (candidateBytes (getD cs i d)));
     }
 
-pub put-long : (out₀ : List ℕ) (cs : List Candidate) (out : List ℕ) (i : ℕ) → Putting out₀ cs out i → length out ≡ length out₀
-put-long out₀ cs out i p = ap length (p .done) ∙ length-sets out₀ candidatesAt (candidatesBytes (take i cs))
+pub put-long : (out : List ℕ) (l : Lookup) (x z : List ℕ) (i : ℕ) → x ≡ sets out 0 (headBytes l) → Putting x (l .candidates) z i → length z ≡ length out
+put-long out l x z i ex p =
+    ap length (p .done) ∙ length-sets x candidatesAt (candidatesBytes (take i (l .candidates))) ∙ ap length ex ∙ length-sets out 0 (headBytes l)
 
 pub put-all : (out : List ℕ) (l : Lookup) (x z : List ℕ) (i : ℕ) → x ≡ sets out 0 (headBytes l) → length (l .candidates) ≡ room → room ≤ i
     → Putting x (l .candidates) z i → z ≡ sets out 0 (lookupBytes l)
 unfolding lookupBytes
 put-all out l x z i ex hl h p =
+    let past : candidatesAt ≡ 0 + length (headBytes l) = omega (arith, head-length l) in
     p .done
     ∙ ap (λ (cs : List Candidate). sets x candidatesAt (candidatesBytes cs)) (take-all i (l .candidates) (omega arith))
     ∙ ap (λ (u : List ℕ). sets u candidatesAt (candidatesBytes (l .candidates))) ex
-    ∙ ap (λ (k : ℕ). sets (sets out 0 (headBytes l)) k (candidatesBytes (l .candidates))) (sym (head-length l))
+    ∙ ap (λ (k : ℕ). sets (sets out 0 (headBytes l)) k (candidatesBytes (l .candidates))) past
     ∙ sym (sets-append out 0 (headBytes l) (candidatesBytes (l .candidates)))

@@ -1,62 +1,55 @@
+-- `put_head`: three runs of stores that meet. Assumes nothing.
+use mathlib.Core.Path.{_≡_, sym}
+use lib.ListN.{length, length-map}
+use Rattle.flat_lookup.proofs.Writing.{head-put}
 use borrow.Author.Needs.{needs}
 use Rattle.flat_lookup.proofs.put_head.Statement.{statement}
 use Rattle.flat_lookup.proofs.put_head.Tie as tie
-use Rattle.flat_lookup.proofs.put_head.Reads as reads
-use Rattle.flat_lookup.proofs.put_head.Lts as lts
-use Rattle.flat_lookup.proofs.flag.Reads as flag-reads
-use Rattle.octets.proofs.copy.Reads as copy-reads
 
--- src/lib.rt:150:15
+key-long : (c : tie.Start) → length (c .args .l .key) ≡ 128
+key-long c = simp length-map at (c .good .1 .0 .1 .1 .1 .0 .1 .0 .1)
+
+target-long : (c : tie.Start) → length (c .args .l .target) ≡ 32
+target-long c = simp length-map at (c .good .1 .0 .1 .1 .1 .1 .0 .1 .0 .1)
+
 cast-low : tie.Need-cast-low
 cast-low c = search needs
 
--- src/lib.rt:151:16
 cast-high : tie.Need-cast-high
 cast-high c = search needs
 
--- src/lib.rt:152:16
 cast-size : tie.Need-cast-size
 cast-size c = search needs
 
--- src/lib.rt:153:17
 cast-limit : tie.Need-cast-limit
 cast-limit c = search needs
 
--- src/lib.rt:154:9
 flag-requires : tie.Need-flag-requires
 flag-requires c κs = search needs
 
--- src/lib.rt:156:26
 slice-aggregate-copy : tie.Need-slice-aggregate-copy
 slice-aggregate-copy c = search needs
 
--- src/lib.rt:156:5
 copy-requires : tie.Need-copy-requires
 copy-requires c κs = search needs
 
--- src/lib.rt:157:31
 slice-aggregate-copy-2 : tie.Need-slice-aggregate-copy-2
 slice-aggregate-copy-2 c = search needs
 
--- src/lib.rt:157:5
 copy-requires-2 : tie.Need-copy-requires-2
 copy-requires-2 c κs = search needs
 
--- src/lib.rt:158:34
 slice-aggregate-copy-3 : tie.Need-slice-aggregate-copy-3
-slice-aggregate-copy-3 c = ?
+slice-aggregate-copy-3 c = sym (target-long (c .before .before .before .before .before .before .before .before .before .before .before .before .before .before .before .before .before .before .before .before))
 
--- src/lib.rt:158:5
 copy-requires-3 : tie.Need-copy-requires-3
 copy-requires-3 c κs = search needs
 
--- src/lib.rt:145:1
 same-length : tie.Need-same-length
 same-length c = search needs
 
--- src/lib.rt:145:1
 returns : tie.Need-returns
-returns c = ?
+returns c = head-put _ (c .before .before .before .before .before .before .before .before .before .before .before .before .before .before .before .before .before .before .before .before .before .before .before .args .l) _ (c .before .before .before .before .before .before .before .before .before .before .before .before .before .before .before .flag .ensures) (key-long (c .before .before .before .before .before .before .before .before .before .before .before .before .before .before .before .before .before .before .before .before .before .before .before)) (target-long (c .before .before .before .before .before .before .before .before .before .before .before .before .before .before .before .before .before .before .before .before .before .before .before)) _ _ _ (c .before .before .before .before .before .before .before .before .before .before .before .before .copy .ensures) (c .before .before .before .before .before .before .before .copy2 .ensures) (c .before .before .copy3 .ensures)
 
 pub put-head-spec : {M : Type 1} → statement M
 put-head-spec =

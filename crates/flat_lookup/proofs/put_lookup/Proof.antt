@@ -1,4 +1,6 @@
 -- `put_lookup`: the first i candidates were stored. Assumes nothing.
+use mathlib.Core.Path.{_≡_}
+use lib.ListN.{length, length-map}
 use Prim.Native.Nat.{_-_}
 use native.Mathlib.Omega.{arith}
 use Rattle.flat_lookup.proofs.Writing.{Putting, put-none, put-one, put-long, put-all}
@@ -14,6 +16,9 @@ abbrev μ-loop : tie.MeasureT-loop
 
 put-head-requires : tie.Need-put-head-requires Inv-loop μ-loop
 put-head-requires c κs = search needs
+
+long : (c : tie.Start Inv-loop μ-loop) → length (c .args .t2 .candidates) ≡ 256
+long c = simp length-map at (c .good .1 .0 .1 .1 .0 .1 .0 .1)
 
 loop-holds : tie.Need-loop-holds Inv-loop μ-loop
 loop-holds c = put-none _ _
@@ -40,13 +45,13 @@ loop-less : tie.Need-loop-less Inv-loop μ-loop
 loop-less c = search needs
 
 loop-again : tie.Need-loop-again Inv-loop μ-loop
-loop-again c = ?
+loop-again c = put-one _ _ _ _ _ _ (long (c .before .before .before .before .before .before .before .before .before .before .before .before)) (c .before .before .before .before .before .loop-test .taken) (c .before .before .put-candidate .ensures) (c .before .before .before .before .before .before .loop .inv)
 
 same-length : tie.Need-same-length Inv-loop μ-loop
-same-length c = ?
+same-length c = put-long _ (c .before .before .before .before .before .before .before .args .t2) _ _ _ (c .before .before .before .before .put-head .ensures) (c .before .loop .inv)
 
 returns : tie.Need-returns Inv-loop μ-loop
-returns c = ?
+returns c = put-all _ (c .before .before .before .before .before .before .before .args .t2) _ _ _ (c .before .before .before .before .put-head .ensures) (long (c .before .before .before .before .before .before .before)) (c .loop-test .left) (c .before .loop .inv)
 
 pub put-lookup-spec : {M : Type 1} → statement M
 put-lookup-spec =
