@@ -1,7 +1,7 @@
 -- Laws of a byte string that stands in a row of zeros, and of runs of stores that meet. Assumes nothing.
 use Prim.Native.Nat.{ℕ, _+_, _-_, _≤_}
 use mathlib.Core.Path.{_≡_, sym, ap, _∙_}
-use mathlib.Core.List.{List, [], _++_, append-nil}
+use mathlib.Core.List.{List, _++_, append-nil}
 use native.Mathlib.Omega.{arith}
 use lib.ListN.{length, take, drop, replicate, length-replicate, length-drop, drop-of-length-le}
 use lib.Seq.{sets, sets-eq, length-sets, take-all}

@@ -2,15 +2,13 @@
 use Prim.Native.Nat.{ℕ, zero, suc, _+_, _*_, _≤_, _<_}
 use mathlib.Core.Path.{_≡_, refl, sym, ap, _∙_}
 use mathlib.Core.List.{List, [], _∷_, _++_}
-use mathlib.Core.Bool.{Bool}
 use lib.Dec.{ltb}
 use native.Mathlib.Omega.{arith}
 use native.Mathlib.Numerals.{add-one}
-use lib.ListN.{length, getD, take, drop, set, replicate, length-replicate, length-set, getD-replicate}
+use lib.ListN.{length, getD, take, drop, set, replicate, length-replicate, length-set}
 use lib.Seq.{take-suc, take-suc-set, take-all, drop-drop}
 use Rattle.lookup.specs.Lookup.{room, idMost, keyMost, padded, nobody}
 use Rattle.lookup.specs.declared.Candidate.{Candidate}
-use Rattle.lookup.specs.declared.Lookup.{Lookup}
 use Rattle.flat_lookup.specs.FlatLookup.{placeSize, idAt, placeAt, keyAt, targetAt, candidateSize, candidatesAt, byteAt, bytesAt, candidateIn, candidatesIn, lookupIn}
 
 -- ---- a field, as it is cut out and copied

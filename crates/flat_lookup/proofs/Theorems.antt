@@ -7,7 +7,7 @@ use mathlib.Core.Logic.{⊎-elim}
 use native.Mathlib.Omega.{arith}
 use lib.Dec.{ltb}
 use lib.ListN.{length, getD, take, drop, length-append, length-drop, take-append-drop, List·getD-append}
-use lib.Seq.{sets, sets-eq, take-all, length-take-le, drop-append-le, drop-at}
+use lib.Seq.{sets-eq, take-all, length-take-le, drop-append-le, drop-at}
 use borrow.Author.Tests.{ltb-true, ltb-false}
 use Rattle.octets.proofs.Bools.{either}
 use Rattle.lookup.specs.Lookup.{room, idMost, keyMost, padded, nobody}
@@ -15,7 +15,7 @@ use Rattle.lookup.specs.declared.Candidate.{Candidate}
 use Rattle.lookup.specs.declared.Lookup.{Lookup}
 use Rattle.lookup.proofs.Form.{Formed, formed}
 use Rattle.flat_lookup.specs.FlatLookup.{placeSize, idAt, placeAt, candidateSize, keyAt, targetAt, candidatesAt, flatSize, byteAt, bytesAt, candidateIn, candidatesIn, lookupIn, candidateBytes, candidatesBytes, headBytes, lookupBytes}
-use Rattle.flat_lookup.specs.Promises.{SizedCandidate, Sized, Fits, ReadsBack, FormReadsBack, FlatLength, LooksNoFurther, StoredReadsBack}
+use Rattle.flat_lookup.specs.Promises.{SizedCandidate, Fits, ReadsBack, FormReadsBack, FlatLength, LooksNoFurther, StoredReadsBack}
 use Rattle.flat_lookup.proofs.Padding.{padded-length, padded-whole, padded-enough, padded-front}
 use Rattle.flat_lookup.proofs.Writing.{candidate-length, candidates-long, head-length}
 
@@ -26,11 +26,12 @@ bytes-further n s t i h =
 
 candidate-further : (s t : List ℕ) → candidateSize ≤ length s → candidateIn (s ++ t) ≡ candidateIn s
 candidate-further s t h =
-    rw
-    (bytes-further idMost s t idAt (omega arith),
-    bytes-further placeSize s t placeAt (omega arith),
-    List·getD-append s t 0 0 (omega arith),
-    List·getD-append s t 0 1 (omega arith))
+    rw (
+      bytes-further idMost s t idAt (omega arith),
+      bytes-further placeSize s t placeAt (omega arith),
+      List·getD-append s t 0 0 (omega arith),
+      List·getD-append s t 0 1 (omega arith),
+    )
 
 candidates-further : (n : ℕ) (s t : List ℕ) → n * candidateSize ≤ length s → candidatesIn n (s ++ t) ≡ candidatesIn n s
 unfolding candidatesIn
@@ -42,16 +43,17 @@ candidates-further (suc n) s t h =
 
 further : (s t : List ℕ) → flatSize ≤ length s → lookupIn (s ++ t) ≡ lookupIn s
 further s t h =
-    rw
-    (drop-append-le candidatesAt s t (omega arith),
-    candidates-further room (drop candidatesAt s) t (omega (arith, length-drop candidatesAt s)),
-    bytes-further keyMost s t keyAt (omega arith),
-    bytes-further placeSize s t targetAt (omega arith),
-    List·getD-append s t 0 0 (omega arith),
-    List·getD-append s t 0 1 (omega arith),
-    List·getD-append s t 0 2 (omega arith),
-    List·getD-append s t 0 3 (omega arith),
-    List·getD-append s t 0 4 (omega arith))
+    rw (
+      drop-append-le candidatesAt s t (omega arith),
+      candidates-further room (drop candidatesAt s) t (omega (arith, length-drop candidatesAt s)),
+      bytes-further keyMost s t keyAt (omega arith),
+      bytes-further placeSize s t targetAt (omega arith),
+      List·getD-append s t 0 0 (omega arith),
+      List·getD-append s t 0 1 (omega arith),
+      List·getD-append s t 0 2 (omega arith),
+      List·getD-append s t 0 3 (omega arith),
+      List·getD-append s t 0 4 (omega arith),
+    )
 
 pub looks-no-further : LooksNoFurther
 looks-no-further s = ⊎-elim short long (either (ltb (length s) flatSize))

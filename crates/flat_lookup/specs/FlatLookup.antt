@@ -7,7 +7,7 @@
 --   136..168 target
 --   then 256 candidates of 98 bytes: mark, length of the id, 64 bytes id, 32 bytes place
 use Prim.Native.Nat.{ℕ, zero, suc, _+_, _*_, _/_, _%_}
-use mathlib.Core.Bool.{Bool, cond}
+use mathlib.Core.Bool.{cond}
 use mathlib.Core.List.{List, [], _∷_, _++_}
 use lib.ListN.{getD, drop}
 use lib.Dec.{ltb}
@@ -19,6 +19,13 @@ use Rattle.lookup.specs.declared.Lookup.{Lookup}
 abbrev pub placeSize : ℕ
 placeSize = 32
 
+-- of a candidate
+abbrev pub markAt : ℕ
+markAt = 0
+
+abbrev pub lenAt : ℕ
+lenAt = 1
+
 abbrev pub idAt : ℕ
 idAt = 2
 
@@ -27,6 +34,19 @@ placeAt = 66
 
 abbrev pub candidateSize : ℕ
 candidateSize = 98
+
+-- of a lookup
+abbrev pub countAt : ℕ
+countAt = 0
+
+abbrev pub sizeAt : ℕ
+sizeAt = 2
+
+abbrev pub limitAt : ℕ
+limitAt = 3
+
+abbrev pub turnedAt : ℕ
+turnedAt = 4
 
 abbrev pub keyAt : ℕ
 keyAt = 8
@@ -44,29 +64,30 @@ flatSize = 25256
 abbrev pub byteAt : List ℕ → ℕ → ℕ
 byteAt s i = getD s i 0
 
--- the n bytes from a place on
+-- the n bytes from i on
 abbrev pub bytesAt : ℕ → List ℕ → ℕ → List ℕ
 bytesAt n s i = padded n (drop i s)
 
 -- the candidate at the start of s
 abbrev pub candidateIn : List ℕ → Candidate
-candidateIn s = record { id = bytesAt idMost s idAt; place = bytesAt placeSize s placeAt; mark = byteAt s 0; len = byteAt s 1 }
+candidateIn s = record { id = bytesAt idMost s idAt; place = bytesAt placeSize s placeAt; mark = byteAt s markAt; len = byteAt s lenAt }
 
--- n candidates, one after another
+-- n candidates, one right after another
 unfoldable pub candidatesIn : ℕ → List ℕ → List Candidate
 candidatesIn zero s = []
 candidatesIn (suc n) s = candidateIn s ∷ candidatesIn n (drop candidateSize s)
 
+-- a byte 4 other than 0 says that someone was turned away
 abbrev pub lookupIn : List ℕ → Lookup
 lookupIn s =
     record {
       candidates = candidatesIn room (drop candidatesAt s);
       key = bytesAt keyMost s keyAt;
       target = bytesAt placeSize s targetAt;
-      count = byteAt s 0 + byteAt s 1 * 256;
-      size = byteAt s 2;
-      limit = byteAt s 3;
-      turned = ltb 0 (byteAt s 4);
+      count = byteAt s countAt + byteAt s (countAt + 1) * 256;
+      size = byteAt s sizeAt;
+      limit = byteAt s limitAt;
+      turned = ltb 0 (byteAt s turnedAt);
     }
 
 -- ---- writing: a number that doesn't fit is cut to its lowest byte, the count to its lowest two

@@ -1,6 +1,6 @@
 // A lookup as plain bytes, and back: a host that holds no Rattle values keeps a lookup as bytes that it lends. specs/FlatLookup.antt has the layout.
 ghost use mathlib.Core.Path.{_≡_};
-ghost use Prim.Native.Nat.{_+_, _*_, _<_, _≤_};
+ghost use Prim.Native.Nat.{_<_, _≤_};
 ghost use lib.ListN.{getD, drop};
 ghost use mathlib.Core.Bool.{cond};
 ghost use lib.Seq.{sets};
@@ -115,7 +115,7 @@ pub fn lookup_in(bytes: &[u8]) -> Lookup
     let first = candidate_in(rest(bytes, CANDIDATES_AT));
     let mut candidates = [first; 256];
     let mut i: usize = 1;
-    while i < 256 {
+    while i < lookup::ROOM {
         let c = candidate_in(rest(bytes, CANDIDATES_AT + i * CANDIDATE));
         candidates[i] = c;
         i += 1;
@@ -179,7 +179,7 @@ pub fn put_lookup(out: &mut [u8], l: Lookup)
 {
     put_head(out, l);
     let mut i: usize = 0;
-    while i < 256 {
+    while i < lookup::ROOM {
         let c = l.candidates[i];
         put_candidate(out, CANDIDATES_AT + i * CANDIDATE, c);
         i += 1;

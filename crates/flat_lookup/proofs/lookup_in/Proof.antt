@@ -1,6 +1,5 @@
 -- `lookup_in`: the first i candidates stand in the array. Assumes nothing.
 use Prim.Native.Nat.{_-_}
-use native.Mathlib.Omega.{arith}
 use Rattle.flat_lookup.proofs.Reading.{Filling, fill-first, fill-one, lookup-read}
 use borrow.Author.Needs.{needs}
 use Rattle.flat_lookup.proofs.lookup_in.Statement.{statement}

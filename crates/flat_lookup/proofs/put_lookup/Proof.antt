@@ -2,7 +2,6 @@
 use mathlib.Core.Path.{_≡_}
 use lib.ListN.{length, length-map}
 use Prim.Native.Nat.{_-_}
-use native.Mathlib.Omega.{arith}
 use Rattle.flat_lookup.proofs.Writing.{Putting, put-none, put-one, put-long, put-all}
 use borrow.Author.Needs.{needs}
 use Rattle.flat_lookup.proofs.put_lookup.Statement.{statement}
