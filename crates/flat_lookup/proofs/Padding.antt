@@ -1,10 +1,10 @@
 -- Laws of a byte string that stands in a row of zeros, and of runs of stores that meet. Assumes nothing.
-use Prim.Native.Nat.{ℕ, _+_, _-_, _≤_}
+use Prim.Native.Nat.{ℕ, _+_, _≤_}
 use mathlib.Core.Path.{_≡_, sym, ap, _∙_}
 use mathlib.Core.List.{List, _++_, append-nil}
 use native.Mathlib.Omega.{arith}
-use lib.ListN.{length, take, drop, replicate, length-replicate, length-drop, drop-of-length-le}
-use lib.Seq.{sets, sets-eq, length-sets, take-all}
+use lib.ListN.{length, drop, replicate, length-replicate, drop-of-length-le}
+use lib.Seq.{sets, sets-eq, length-sets}
 use Rattle.lookup.specs.Lookup.{padded}
 use Rattle.octets.proofs.Stores.{sets-append, sets-out}
 
@@ -42,9 +42,6 @@ three-runs out at a b c i j ei ej x y z ex ey ez =
     ∙ sets-append (sets out at a) i b c
     ∙ ap (λ (k : ℕ). sets (sets (sets out at a) i b) k c) ej)
 
--- what a slice holds from a place on, as the code cuts it
-pub cut-end : (s : List ℕ) (a : ℕ) → take (length s - a) (drop a s) ≡ drop a s
-cut-end s a = take-all (length s - a) (drop a s) (simp length-drop (omega arith))
-
+-- from a place past the end on nothing is left
 pub cut-past : (s : List ℕ) (a : ℕ) → length s ≤ a → drop (length s) s ≡ drop a s
 cut-past s a h = let z : length s ≤ length s = omega arith in drop-of-length-le s z ∙ sym (drop-of-length-le s h)

@@ -1,6 +1,7 @@
 -- A lookup as bytes: 25,256 of them, in this order.
 --   0..2     number of candidates, the low byte first
---   2, 3     length of the key; limit
+--   2        length of the key
+--   3        limit
 --   4        someone was turned away: 0 or 1
 --   5..8     zeros
 --   8..136   key, zeros after it
@@ -90,7 +91,8 @@ lookupIn s =
       turned = ltb 0 (byteAt s turnedAt);
     }
 
--- ---- writing: a number that doesn't fit is cut to its lowest byte, the count to its lowest two
+-- ---- writing: a limit or a length of the key that doesn't fit is cut to its lowest byte, the count to its lowest two. A candidate's numbers and
+-- the elements of the arrays are bytes by their types.
 unfoldable pub candidateBytes : Candidate → List ℕ
 candidateBytes c = c .mark ∷ c .len ∷ (padded idMost (c .id) ++ padded placeSize (c .place))
 

@@ -4,11 +4,12 @@ ghost use Prim.Native.Nat.{_<_, _≤_};
 ghost use lib.ListN.{getD, drop};
 ghost use mathlib.Core.Bool.{cond};
 ghost use lib.Seq.{sets};
-ghost use Rattle.flat_lookup.specs.FlatLookup.{bytesAt, candidateIn, lookupIn, candidateBytes, headBytes, lookupBytes};
+ghost use Rattle.lookup.specs.Lookup.{keyMost};
+ghost use Rattle.flat_lookup.specs.FlatLookup.{placeSize, keyAt, flatSize, bytesAt, candidateIn, lookupIn, candidateBytes, headBytes, lookupBytes};
 use lookup::Candidate;
 use lookup::Lookup;
 
-// The bytes of a lookup, and of a candidate.
+// How many bytes a lookup has, and a candidate.
 pub const SIZE: usize = 25256;
 
 pub const CANDIDATE: usize = 98;
@@ -69,7 +70,7 @@ fn rest(s: &[u8], at: usize) -> &[u8]
 
 // A place that stands in a slice.
 fn place_in(s: &[u8], at: usize) -> [u8; 32]
-    ensures { λ r. ⌜ r ≡ bytesAt 32 (now (s .entry)) at ⌝ }
+    ensures { λ r. ⌜ r ≡ bytesAt placeSize (now (s .entry)) at ⌝ }
 {
     let mut place = [0u8; 32];
     octets::copy(&mut place, 0, rest(s, at));
@@ -78,7 +79,7 @@ fn place_in(s: &[u8], at: usize) -> [u8; 32]
 
 // The key of a lookup.
 fn key_in(s: &[u8]) -> [u8; 128]
-    ensures { λ r. ⌜ r ≡ bytesAt 128 (now (s .entry)) 8 ⌝ }
+    ensures { λ r. ⌜ r ≡ bytesAt keyMost (now (s .entry)) keyAt ⌝ }
 {
     let mut key = [0u8; 128];
     octets::copy(&mut key, 0, rest(s, KEY_AT));
@@ -145,7 +146,7 @@ fn flag(b: bool) -> u8
 
 // A candidate from a place on, as far as out goes.
 fn put_candidate(out: &mut [u8], at: usize, c: Candidate)
-    requires { ⌜ at ≤ 25256 ⌝ }
+    requires { ⌜ at ≤ flatSize ⌝ }
     ensures { λ _. ⌜ now (out .exit) ≡ sets (now (out .entry)) at (candidateBytes c) ⌝ }
 {
     let id = c.id;
