@@ -1,0 +1,4 @@
+pub mod Padding
+pub mod Reading
+pub mod Writing
+pub mod Theorems

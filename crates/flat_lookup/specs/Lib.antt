@@ -1,0 +1,2 @@
+pub mod FlatLookup
+pub mod Promises
