@@ -1,34 +1,26 @@
+-- `framing_of` goes by the kind. Assumes nothing.
+use Rattle.flat.proofs.Reading.{kind-shut, kind-prefix, kind-body, kind-other}
 use borrow.Author.Needs.{needs}
 use Rattle.flat.proofs.framing_of.Statement.{statement}
 use Rattle.flat.proofs.framing_of.Tie as tie
-use Rattle.flat.proofs.framing_of.Reads as reads
-use Rattle.flat.proofs.framing_of.Lts as lts
-use Rattle.flat.proofs.prefix_of.Reads as prefix-of-reads
-use Rattle.flat.proofs.unread_framing.Reads as unread-framing-reads
 
--- src/lib.rt:110:9
 returns : tie.Need-returns
-returns c = ?
+returns c = kind-shut (c .before .args .kind) (c .before .args .held) (c .before .args .a) (c .before .args .b) (c .before .args .want) (c .before .args .have) (c .if1 .taken)
 
--- src/lib.rt:113:9
 prefix-of-requires : tie.Need-prefix-of-requires
 prefix-of-requires c κs = search needs
 
--- src/lib.rt:113:9
 returns-2 : tie.Need-returns-2
-returns-2 c = ?
+returns-2 c = kind-prefix (c .before .before .before .args .kind) (c .before .before .before .args .held) (c .before .before .before .args .a) (c .before .before .before .args .b) (c .before .before .before .args .want) (c .before .before .before .args .have) (c .before .before .if1 .left) _ (c .prefix-of .ensures) (c .before .if2 .taken)
 
--- src/lib.rt:116:9
 returns-3 : tie.Need-returns-3
-returns-3 c = ?
+returns-3 c = kind-body (c .before .before .before .args .kind) (c .before .before .before .args .held) (c .before .before .before .args .a) (c .before .before .before .args .b) (c .before .before .before .args .want) (c .before .before .before .args .have) (c .before .before .if1 .left) (c .before .if2 .left) (c .if3 .taken)
 
--- src/lib.rt:118:5
 unread-framing-requires : tie.Need-unread-framing-requires
 unread-framing-requires c κs = search needs
 
--- src/lib.rt:106:1
 returns-4 : tie.Need-returns-4
-returns-4 c = ?
+returns-4 c = kind-other (c .before .before .before .before .args .kind) (c .before .before .before .before .args .held) (c .before .before .before .before .args .a) (c .before .before .before .before .args .b) (c .before .before .before .before .args .want) (c .before .before .before .before .args .have) (c .before .before .before .if1 .left) (c .before .before .if2 .left) _ (c .unread-framing .ensures) (c .before .if3 .left)
 
 pub framing-of-spec : {M : Type 1} → statement M
 framing-of-spec =

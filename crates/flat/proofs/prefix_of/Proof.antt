@@ -1,29 +1,23 @@
+-- `prefix_of` goes by how many bytes are held. Assumes nothing.
+use Rattle.flat.proofs.Reading.{none-held, one-held, two-held, too-many-held}
 use borrow.Author.Needs.{needs}
 use Rattle.flat.proofs.prefix_of.Statement.{statement}
 use Rattle.flat.proofs.prefix_of.Tie as tie
-use Rattle.flat.proofs.prefix_of.Reads as reads
-use Rattle.flat.proofs.prefix_of.Lts as lts
-use Rattle.flat.proofs.unread_framing.Reads as unread-framing-reads
 
--- src/lib.rt:93:9
 returns : tie.Need-returns
-returns c = ?
+returns c = none-held (c .before .args .held) (c .before .args .a) (c .before .args .b) (c .if1 .taken)
 
--- src/lib.rt:97:9
 returns-2 : tie.Need-returns-2
-returns-2 c = ?
+returns-2 c = one-held (c .before .before .args .held) (c .before .before .args .a) (c .before .before .args .b) (c .before .if1 .left) (c .if2 .taken)
 
--- src/lib.rt:101:9
 returns-3 : tie.Need-returns-3
-returns-3 c = ?
+returns-3 c = two-held (c .before .before .before .args .held) (c .before .before .before .args .a) (c .before .before .before .args .b) (c .before .before .if1 .left) (c .before .if2 .left) (c .if3 .taken)
 
--- src/lib.rt:103:5
 unread-framing-requires : tie.Need-unread-framing-requires
 unread-framing-requires c κs = search needs
 
--- src/lib.rt:88:1
 returns-4 : tie.Need-returns-4
-returns-4 c = ?
+returns-4 c = too-many-held (c .before .before .before .before .args .held) (c .before .before .before .before .args .a) (c .before .before .before .before .args .b) (c .before .before .before .if1 .left) (c .before .before .if2 .left) _ (c .unread-framing .ensures) (c .before .if3 .left)
 
 pub prefix-of-spec : {M : Type 1} → statement M
 prefix-of-spec = tie.close (tie.spec returns returns-2 returns-3 unread-framing-requires returns-4)

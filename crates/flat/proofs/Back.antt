@@ -1,0 +1,2 @@
+-- What is written reads back. Assumes nothing.
+use Prim.Native.Nat.{ℕ}
