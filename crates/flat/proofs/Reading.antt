@@ -86,8 +86,22 @@ pub framing-read : (s : List ℕ) (f : Framing) (kind held a b want have : ℕ) 
     → f ≡ framingIn (drop 618 s)
 unfolding framingIn
 framing-read s f kind held a b want have e e0 e1 e2 e3 e4 e6 =
-    e ∙ rw (e0, e1, e2, e3, e4, e6, getD-drop 618 s 0 0, getD-drop 618 s 1 0, getD-drop 618 s 2 0, getD-drop 618 s 3 0, getD-drop 618 s 4 0,
-      getD-drop 618 s 5 0, getD-drop 618 s 6 0, getD-drop 618 s 7 0)
+    e ∙ rw (
+      e0,
+      e1,
+      e2,
+      e3,
+      e4,
+      e6,
+      getD-drop 618 s 0 0,
+      getD-drop 618 s 1 0,
+      getD-drop 618 s 2 0,
+      getD-drop 618 s 3 0,
+      getD-drop 618 s 4 0,
+      getD-drop 618 s 5 0,
+      getD-drop 618 s 6 0,
+      getD-drop 618 s 7 0,
+    )
 
 -- ---- a connection
 pub conn-read : (s : List ℕ) (p : Peer) (f : Framing) (server asking : Bool) (x y : ℕ) → p ≡ peerIn s → f ≡ framingIn (drop 618 s)

@@ -29,8 +29,16 @@ peer-written t p t1 t2 t3 t4 t5 w e1 e2 e3 e4 e5 = write-done t 0 0 1 p t1 t2 t3
 pub length-peer : (p : Peer) → Whole p → length (peerBytes p) ≡ 616
 unfolding contactBytes
 length-peer p w =
-    omega (arith, length-append (p .lens) (p .place ++ (p .id ++ p .addrs)), length-append (p .place) (p .id ++ p .addrs), length-append (p .id) (p .addrs),
-      w .addrs, w .id, w .place, w .lens)
+    omega (
+      arith,
+      length-append (p .lens) (p .place ++ (p .id ++ p .addrs)),
+      length-append (p .place) (p .id ++ p .addrs),
+      length-append (p .id) (p .addrs),
+      w .addrs,
+      w .id,
+      w .place,
+      w .lens,
+    )
 
 -- ---- a framing
 pub eight-written : (kind held a b want have w x h y : ℕ) → w ≡ want % 256 → x ≡ want / 256 % 256 → h ≡ have % 256 → y ≡ have / 256 % 256
@@ -87,5 +95,10 @@ pub length-conn : (c : Conn) → Whole (c .peer) → length (connBytes c) ≡ 64
 unfolding connBytes
 length-conn c w =
     let fs : List ℕ = framingBytes (c .framing) in
-    omega (arith, length-append (peerBytes (c .peer)) (bit (c .server) ∷ bit (c .asking) ∷ fs ++ replicate 14 0), length-peer (c .peer) w,
-      length-append fs (replicate 14 0), length-framing (c .framing))
+    omega (
+      arith,
+      length-append (peerBytes (c .peer)) (bit (c .server) ∷ bit (c .asking) ∷ fs ++ replicate 14 0),
+      length-peer (c .peer) w,
+      length-append fs (replicate 14 0),
+      length-framing (c .framing),
+    )

@@ -12,7 +12,7 @@
 --     622, 623    the length of a begun body, the lowest byte first
 --     624, 625    how many of its bytes are there, the lowest byte first
 --   626 to 639  0
-use Prim.Native.Nat.{ℕ, suc, _+_, _*_, _/_, _%_}
+use Prim.Native.Nat.{ℕ, suc, _+_, _-_, _*_, _/_, _%_}
 use mathlib.Core.Bool.{Bool, cond, not}
 use mathlib.Core.List.{List, [], _∷_, _++_}
 use lib.ListN.{getD, drop, replicate}
@@ -27,9 +27,29 @@ use Rattle.stream.specs.declared.Framing.{Framing}
 use Rattle.stream.specs.declared.Framing.the-variants.{Shut, Prefix, Body}
 use Rattle.node.specs.declared.Conn.{Conn}
 
+-- ---- where the parts of a peer stand
+abbrev pub sizeAt : ℕ
+sizeAt = 2
+
+abbrev pub countAt : ℕ
+countAt = 3
+
+abbrev pub lensAt : ℕ
+lensAt = 4
+
+abbrev pub placeAt : ℕ
+placeAt = 8
+
+abbrev pub idAt : ℕ
+idAt = 40
+
+abbrev pub addressesAt : ℕ
+addressesAt = 104
+
 abbrev pub peerSize : ℕ
 peerSize = 616
 
+-- ---- and those of a connection
 abbrev pub serverAt : ℕ
 serverAt = 616
 
@@ -38,6 +58,10 @@ askingAt = 617
 
 abbrev pub framingAt : ℕ
 framingAt = 618
+
+-- zeros from here on
+abbrev pub restAt : ℕ
+restAt = 626
 
 abbrev pub connSize : ℕ
 connSize = 640
@@ -49,12 +73,12 @@ field a n s = padded n (drop a s)
 
 unfoldable pub peerIn : List ℕ → Peer
 peerIn s = record {
-  addrs = field 104 512 s;
-  id = field 40 64 s;
-  place = field 8 32 s;
-  lens = field 4 4 s;
-  size = getD s 2 0;
-  count = getD s 3 0;
+  addrs = field addressesAt 512 s;
+  id = field idAt 64 s;
+  place = field placeAt 32 s;
+  lens = field lensAt 4 s;
+  size = getD s sizeAt 0;
+  count = getD s countAt 0;
 }
 
 -- out of form: a body that is begun is short of its length
@@ -119,7 +143,7 @@ abbrev pub bit : Bool → ℕ
 bit b = cond b 1 0
 
 unfoldable pub connBytes : Conn → List ℕ
-connBytes c = peerBytes (c .peer) ++ ((bit (c .server) ∷ bit (c .asking) ∷ []) ++ (framingBytes (c .framing) ++ replicate 14 0))
+connBytes c = peerBytes (c .peer) ++ ((bit (c .server) ∷ bit (c .asking) ∷ []) ++ (framingBytes (c .framing) ++ replicate (connSize - restAt) 0))
 
 -- the bytes of a connection with another framing
 abbrev pub withFraming : List ℕ → Framing → List ℕ

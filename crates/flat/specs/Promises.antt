@@ -1,9 +1,9 @@
--- What is written reads back, and reading looks no further than what is written; proofs/Back.antt proves each.
-use Prim.Native.Nat.{ℕ, _≤_}
+-- What is written reads back, reading looks no further than what is written, and what says no framing is out of form; proofs/Back.antt proves each.
+use Prim.Native.Nat.{ℕ, _≤_, _<_}
 use mathlib.Core.Path.{_≡_}
-use mathlib.Core.Bool.{true}
+use mathlib.Core.Bool.{true, false}
 use mathlib.Core.List.{List, _++_}
-use lib.ListN.{length, take}
+use lib.ListN.{length, getD, take}
 use lib.Seq.{sets}
 use Rattle.peer.specs.declared.Peer.{Peer}
 use Rattle.stream.specs.declared.Framing.{Framing}
@@ -42,3 +42,7 @@ pub record LooksNoFurther : Type 0 where
   pub peer : (s : List ℕ) → peerIn (take peerSize s) ≡ peerIn s
   pub conn : (s : List ℕ) → connIn (take connSize s) ≡ connIn s
 
+-- ---- bytes that say no framing read as one out of form, which every call refuses
+pub record NoFraming : Type 0 where
+  pub kind : (s : List ℕ) → 2 < getD s 0 0 → inForm (framingIn s) ≡ false
+  pub held : (s : List ℕ) → getD s 0 0 ≡ 1 → 2 < getD s 1 0 → inForm (framingIn s) ≡ false

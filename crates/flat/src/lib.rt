@@ -5,7 +5,7 @@ use peer::Peer;
 use stream::Framing;
 use stream::Held;
 ghost use mathlib.Core.Path.{_≡_};
-ghost use Prim.Native.Nat.{_<_, _+_, _*_, _%_, _/_, suc};
+ghost use Prim.Native.Nat.{_<_, _%_, _/_};
 ghost use lib.ListN.{getD, drop};
 ghost use lib.Seq.{sets};
 ghost use Rattle.flat.specs.Flat.{peerIn, prefixOf, framingOf, pairAt, framingIn, saysYes, connIn, peerBytes, eightBytes, prefixBytes, framingBytes, bit, connBytes, withFraming};
@@ -15,11 +15,27 @@ pub const PEER: usize = 616;
 
 pub const CONN: usize = 640;
 
+// Where the parts of a peer stand: those of a contact's slot.
+const SIZE: usize = 2;
+
+const COUNT: usize = 3;
+
+const LENS: usize = 4;
+
+const PLACE: usize = 8;
+
+const ID: usize = 40;
+
+const ADDRESSES: usize = 104;
+
+// Where the parts of a connection stand, after its peer.
 const SERVER: usize = 616;
 
 const ASKING: usize = 617;
 
 const FRAMING: usize = 618;
+
+const REST: usize = 626;
 
 // ---- reading
 
@@ -61,12 +77,12 @@ pub fn peer_in(bytes: &[u8]) -> Peer
     let mut id = [0u8; 64];
     let mut place = [0u8; 32];
     let mut lens = [0u8; 4];
-    fill(&mut addrs, bytes, 104);
-    fill(&mut id, bytes, 40);
-    fill(&mut place, bytes, 8);
-    fill(&mut lens, bytes, 4);
-    let size = byte(bytes, 2);
-    let count = byte(bytes, 3);
+    fill(&mut addrs, bytes, ADDRESSES);
+    fill(&mut id, bytes, ID);
+    fill(&mut place, bytes, PLACE);
+    fill(&mut lens, bytes, LENS);
+    let size = byte(bytes, SIZE);
+    let count = byte(bytes, COUNT);
     Peer {
         addrs,
         id,
@@ -103,6 +119,7 @@ fn prefix_of(held: u8, a: u8, b: u8) -> Framing
     unread_framing()
 }
 
+// The framing of its kind, out of what is read for all of them.
 fn framing_of(kind: u8, held: u8, a: u8, b: u8, want: usize, have: usize) -> Framing
     ensures { λ r. ⌜ r ≡ framingOf kind held a b want have ⌝ }
 {
@@ -166,12 +183,13 @@ pub fn put_peer(out: &mut [u8], p: Peer)
     let id = p.id;
     let addrs = p.addrs;
     octets::copy(out, 0, &head);
-    octets::copy(out, 4, &lens);
-    octets::copy(out, 8, &place);
-    octets::copy(out, 40, &id);
-    octets::copy(out, 104, &addrs);
+    octets::copy(out, LENS, &lens);
+    octets::copy(out, PLACE, &place);
+    octets::copy(out, ID, &id);
+    octets::copy(out, ADDRESSES, &addrs);
 }
 
+// The two lowest bytes of a number.
 fn low(n: usize) -> u8
     ensures { λ r. ⌜ r ≡ n % 256 ⌝ }
 {
@@ -184,14 +202,15 @@ fn high(n: usize) -> u8
     (n / 256 % 256) as u8
 }
 
+// A framing's bytes, each kind with zeros for what only another has.
 fn eight(kind: u8, held: u8, a: u8, b: u8, want: usize, have: usize) -> [u8; 8]
     ensures { λ r. ⌜ r ≡ eightBytes kind held a b want have ⌝ }
 {
-    let w = low(want);
-    let x = high(want);
-    let h = low(have);
-    let y = high(have);
-    [kind, held, a, b, w, x, h, y]
+    let want_low = low(want);
+    let want_high = high(want);
+    let have_low = low(have);
+    let have_high = high(have);
+    [kind, held, a, b, want_low, want_high, have_low, have_high]
 }
 
 fn prefix_bytes(held: Held) -> [u8; 8]
@@ -242,5 +261,5 @@ pub fn put_conn(out: &mut [u8], c: Conn)
     octets::copy(out, SERVER, &sides);
     put_framing(out, framing);
     let zeros = [0u8; 14];
-    octets::copy(out, 626, &zeros);
+    octets::copy(out, REST, &zeros);
 }
