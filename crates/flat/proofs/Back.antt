@@ -6,7 +6,6 @@ use mathlib.Core.List.{List, [], _∷_, _++_, append-assoc, append-nil}
 use native.Mathlib.Omega.{arith}
 use lib.ListN.{length, getD, take, drop, replicate, length-append, length-take}
 use lib.Seq.{sets, sets-eq, take-at, take-take, drop-at, drop-drop, getD-take, getD-drop, getD-append-add, length-take-le}
-use Rattle.octets.specs.Octets.{part}
 use Rattle.octets.proofs.Parts.{part-part}
 use Rattle.octets.proofs.Stores.{take-sets, getD-sets-before}
 use Rattle.peer.specs.Addresses.{padded}

@@ -85,6 +85,7 @@ peerIn s = record {
 abbrev pub unread : Framing
 unread = Body 0 0
 
+-- within a prefix of which so many bytes are held, at most two: a and b
 unfoldable pub prefixOf : ℕ → ℕ → ℕ → Framing
 prefixOf held a b =
     cond (eqb held 0) (Prefix Nothing)
@@ -92,6 +93,7 @@ prefixOf held a b =
     (cond (eqb held 2) (Prefix (Two a b))
     unread))
 
+-- by its kind
 unfoldable pub framingOf : ℕ → ℕ → ℕ → ℕ → ℕ → ℕ → Framing
 framingOf kind held a b want have =
     cond (eqb kind 0) Shut
@@ -124,7 +126,7 @@ connIn s = record {
 abbrev pub peerBytes : Peer → List ℕ
 peerBytes p = contactBytes 1 p
 
--- the two lengths are below 65,536 in form; of any other the lowest two bytes are written
+-- the eight bytes of a framing. Its two lengths are below 65,536 in form; of any other the lowest two bytes are written
 abbrev pub eightBytes : ℕ → ℕ → ℕ → ℕ → ℕ → ℕ → List ℕ
 eightBytes kind held a b want have =
     kind ∷ held ∷ a ∷ b ∷ want % 256 ∷ want / 256 % 256 ∷ have % 256 ∷ have / 256 % 256 ∷ []

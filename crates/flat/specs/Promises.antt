@@ -42,7 +42,7 @@ pub record LooksNoFurther : Type 0 where
   pub peer : (s : List ℕ) → peerIn (take peerSize s) ≡ peerIn s
   pub conn : (s : List ℕ) → connIn (take connSize s) ≡ connIn s
 
--- ---- bytes that say no framing read as one out of form, which every call refuses
+-- ---- bytes that say no framing read as one out of form, which receive and end refuse
 pub record NoFraming : Type 0 where
   pub kind : (s : List ℕ) → 2 < getD s 0 0 → inForm (framingIn s) ≡ false
   pub held : (s : List ℕ) → getD s 0 0 ≡ 1 → 2 < getD s 1 0 → inForm (framingIn s) ≡ false
