@@ -38,10 +38,28 @@ fn help() {
     );
 }
 
+// Why a client's bytes are refused. The others can't be given to this program's box, whose memory is its own.
+fn reason(r: Refusal) {
+    match r {
+        Refusal::PrefixNotMinimal => say(b": a length prefix isn't minimal"),
+        Refusal::TooLong => say(b": a message is over 16,384 bytes"),
+        Refusal::Malformed => say(b": a message isn't well formed"),
+        Refusal::UnknownType => say(b": a message's type isn't 0 to 5"),
+        Refusal::Providers => say(b": providers (types 2 and 3) aren't kept"),
+        Refusal::BreaksRules => say(b": a key or record breaks the request rules"),
+        Refusal::BrokenRecipe => say(b": a recipe is broken"),
+        Refusal::Outranked => say(b": the held record ranks higher"),
+        Refusal::NoRecordSlot => say(b": every record slot holds another key"),
+        Refusal::EndedInside => say(b": the input ends inside a message"),
+        _ => (),
+    }
+}
+
 // The refusal that ended the run.
 fn tell(r: Refusal) {
     say(b"starterbell: refused with ");
     count(refusal::number(r) as usize);
+    reason(r);
     say(b"\n");
 }
 
