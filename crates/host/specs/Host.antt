@@ -1,0 +1,210 @@
+-- What C and Rust programs get: each call returns a number, and leaves the memory that the host lent as these definitions say. The box, a connection and a
+-- lookup are bytes (crates/flat, crates/flat_lookup); contacts and records are what they are in the crates below.
+use Prim.Native.Nat.{ℕ}
+use mathlib.Core.Bool.{Bool, cond, _||_}
+use mathlib.Core.List.{List, [], _∷_}
+use lib.ListN.{length}
+use lib.Seq.{sets}
+use lib.Dec.{ltb, leb, eqb}
+use Rattle.refusal.specs.declared.Refusal.{Refusal}
+use Rattle.refusal.specs.Refusal.{numberOf}
+use Rattle.stream.specs.declared.Framing.{Framing}
+use Rattle.stream.specs.declared.Ending.{Ending}
+use Rattle.stream.specs.declared.Ending.the-variants as ending
+use Rattle.contacts.specs.declared.Closest.{Closest}
+use Rattle.contact_calls.specs.declared.SeenOutcome.{SeenOutcome}
+use Rattle.contact_calls.specs.declared.SeenOutcome.the-variants as seen
+use Rattle.contact_calls.specs.declared.SettleOutcome.{SettleOutcome}
+use Rattle.contact_calls.specs.declared.SettleOutcome.the-variants as settle
+use Rattle.contact_calls.specs.declared.RemoveOutcome.{RemoveOutcome}
+use Rattle.contact_calls.specs.declared.RemoveOutcome.the-variants as remove
+use Rattle.records.specs.declared.Answer as records
+use Rattle.records.specs.declared.Answer.the-variants as offer
+use Rattle.records.specs.declared.Found.{Found}
+use Rattle.records.specs.declared.Found.the-variants as found
+use Rattle.records.specs.Store.{putAnswer, putAfter, findOf}
+use Rattle.message.specs.declared.Fields.{Fields}
+use Rattle.message.specs.declared.Reading.{Reading}
+use Rattle.message.specs.declared.Reading.the-variants as reading
+use Rattle.message.specs.View.{readingOf}
+use Rattle.writer.specs.declared.Written.{Written}
+use Rattle.writer.specs.declared.Written.the-variants as written
+use Rattle.node.specs.declared.Told.{Told}
+use Rattle.node.specs.declared.Told.the-variants as told
+use Rattle.node.specs.declared.Started.{Started}
+use Rattle.node.specs.declared.Opened.{Opened}
+use Rattle.node.specs.declared.Ended.{Ended}
+use Rattle.node.specs.Box.{startOf, openOf, endConn}
+use Rattle.host_calls.specs.declared.Nearby.{Nearby}
+use Rattle.host_calls.specs.Hosts.{seenOf, seenAfter, settleOf, settleAfter, removeOf, removeAfter, nearestTo}
+use Rattle.flat.specs.Flat.{peerSize, connSize, peerIn, connIn, saysYes, peerBytes, connBytes, withFraming}
+
+-- ---- memory that the host lends
+-- memory of under n bytes can't be what it is lent for: the first, else the second
+unfoldable pub lent : {A : Type 0} → ℕ → List ℕ → A → A → A
+lent n s short enough = cond (ltb (length s) n) short enough
+
+-- the same for a box and a connection
+abbrev pub lentBoth : {A : Type 0} → List ℕ → List ℕ → A → A → A
+lentBoth me conn short enough = lent peerSize me short (lent connSize conn short enough)
+
+-- ---- start and open
+-- a refusal's number, or 64
+abbrev pub toldCode : Told → ℕ
+toldCode told.Fine = 64
+toldCode (told.Refused r) = numberOf r
+
+-- the first, or the second where the call was refused
+abbrev pub unlessRefused : {A : Type 0} → Told → A → A → A
+unlessRefused told.Fine x y = x
+unlessRefused (told.Refused r) x y = y
+
+-- a refused start leaves the box memory as it was
+abbrev pub boxAfter : List ℕ → Started → List ℕ
+boxAfter me s = unlessRefused (s .told) (sets me 0 (peerBytes (s .me))) me
+
+abbrev pub startCode : List ℕ → List ℕ → List ℕ → ℕ
+startCode me id addresses = lent peerSize me 0 (toldCode (startOf id addresses .told))
+
+abbrev pub startMemory : List ℕ → List ℕ → List ℕ → List ℕ
+startMemory me id addresses = lent peerSize me me (boxAfter me (startOf id addresses))
+
+-- a refused open gives a shut connection, which is written too
+abbrev pub openFor : List ℕ → List ℕ → ℕ → ℕ → List ℕ → Opened
+openFor me id server asking addresses = openOf (peerIn me) id (saysYes server) (saysYes asking) addresses
+
+abbrev pub openCode : List ℕ → List ℕ → List ℕ → ℕ → ℕ → List ℕ → ℕ
+openCode me conn id server asking addresses = lentBoth me conn 0 (toldCode (openFor me id server asking addresses .told))
+
+abbrev pub openMemory : List ℕ → List ℕ → List ℕ → ℕ → ℕ → List ℕ → List ℕ
+openMemory me conn id server asking addresses =
+    lentBoth me conn conn (sets conn 0 (connBytes (openFor me id server asking addresses .conn)))
+
+-- ---- the end of a connection's bytes
+-- 0, 1, 2 and 12 change nothing: the bytes stay as they are
+unfoldable pub changesNothing : Refusal → Bool
+changesNothing r = leb (numberOf r) 2 || eqb (numberOf r) 12
+
+abbrev pub refusedFraming : List ℕ → Framing → Refusal → List ℕ
+refusedFraming conn f r = cond (changesNothing r) conn (withFraming conn f)
+
+abbrev pub endingCode : Ending → ℕ
+endingCode ending.Clean = 64
+endingCode (ending.Refused r) = numberOf r
+
+abbrev pub endingFraming : List ℕ → Framing → Ending → List ℕ
+endingFraming conn f ending.Clean = withFraming conn f
+endingFraming conn f (ending.Refused r) = refusedFraming conn f r
+
+abbrev pub endedMemory : List ℕ → Ended → List ℕ
+endedMemory conn e = endingFraming conn (e .conn .framing) (e .answer)
+
+abbrev pub endCode : List ℕ → List ℕ → ℕ
+endCode me conn = lentBoth me conn 0 (endingCode (endConn (peerIn me) (connIn conn) .answer))
+
+abbrev pub endMemory : List ℕ → List ℕ → List ℕ
+endMemory me conn = lentBoth me conn conn (endedMemory conn (endConn (peerIn me) (connIn conn)))
+
+-- ---- contacts
+-- 64 moved, 65 joined, 13 with the bucket's head
+abbrev pub seenNumber : SeenOutcome → ℕ
+seenNumber (seen.Moved i) = 64
+seenNumber (seen.Joined i) = 65
+seenNumber (seen.Probe h) = 13
+seenNumber (seen.Refused r) = numberOf r
+
+-- the slot goes to out
+abbrev pub seenNumbers : List ℕ → SeenOutcome → List ℕ
+seenNumbers out (seen.Moved i) = sets out 0 (i ∷ [])
+seenNumbers out (seen.Joined i) = sets out 0 (i ∷ [])
+seenNumbers out (seen.Probe h) = sets out 0 (h ∷ [])
+seenNumbers out (seen.Refused r) = out
+
+abbrev pub seenCode : List ℕ → List ℕ → List ℕ → ℕ → ℕ
+seenCode me t id client = lent peerSize me 0 (seenNumber (seenOf (peerIn me) t id (saysYes client)))
+
+abbrev pub seenContacts : List ℕ → List ℕ → List ℕ → ℕ → List ℕ → List ℕ
+seenContacts me t id client addresses = lent peerSize me t (seenAfter (peerIn me) t id (saysYes client) addresses)
+
+abbrev pub seenOut : List ℕ → List ℕ → List ℕ → ℕ → List ℕ → List ℕ
+seenOut me t id client out = lent peerSize me out (seenNumbers out (seenOf (peerIn me) t id (saysYes client)))
+
+-- 64 kept, 65 swapped
+abbrev pub settleNumber : SettleOutcome → ℕ
+settleNumber settle.Kept = 64
+settleNumber settle.Swapped = 65
+settleNumber (settle.Refused r) = numberOf r
+
+abbrev pub settleCode : List ℕ → List ℕ → List ℕ → List ℕ → ℕ → ℕ → ℕ
+settleCode me t head id client answered = lent peerSize me 0 (settleNumber (settleOf (peerIn me) t head id (saysYes client) (saysYes answered)))
+
+abbrev pub settleContacts : List ℕ → List ℕ → List ℕ → List ℕ → ℕ → List ℕ → ℕ → List ℕ
+settleContacts me t head id client addresses answered =
+    lent peerSize me t (settleAfter (peerIn me) t head id (saysYes client) addresses (saysYes answered))
+
+abbrev pub removeNumber : RemoveOutcome → ℕ
+removeNumber remove.Gone = 64
+removeNumber (remove.Refused r) = numberOf r
+
+abbrev pub removeCode : List ℕ → List ℕ → List ℕ → ℕ
+removeCode me t id = lent peerSize me 0 (removeNumber (removeOf (peerIn me) t id))
+
+abbrev pub removeContacts : List ℕ → List ℕ → List ℕ → List ℕ
+removeContacts me t id = lent peerSize me t (removeAfter (peerIn me) t id)
+
+-- how many there are and the twenty slots go to out
+abbrev pub nearestNumbers : List ℕ → Nearby → List ℕ
+nearestNumbers out n = unlessRefused (n .told) (sets out 0 (n .closest .n ∷ n .closest .at)) out
+
+abbrev pub nearestCode : List ℕ → List ℕ → List ℕ → ℕ
+nearestCode me t key = lent peerSize me 0 (toldCode (nearestTo (peerIn me) t key .told))
+
+abbrev pub nearestOut : List ℕ → List ℕ → List ℕ → List ℕ → List ℕ
+nearestOut me t key out = lent peerSize me out (nearestNumbers out (nearestTo (peerIn me) t key))
+
+-- ---- records
+abbrev pub putNumber : records.Answer → ℕ
+putNumber offer.Taken = 64
+putNumber (offer.Refused r) = numberOf r
+
+-- 64 held, 65 not held; where the value starts and ends goes to out
+abbrev pub findNumber : Found → ℕ
+findNumber (found.Held start end) = 64
+findNumber found.NotHeld = 65
+findNumber (found.Refused r) = numberOf r
+
+abbrev pub findNumbers : List ℕ → Found → List ℕ
+findNumbers out (found.Held start end) = sets out 0 (start ∷ end ∷ [])
+findNumbers out found.NotHeld = out
+findNumbers out (found.Refused r) = out
+
+-- ---- messages
+-- a message's type, where its key is, whether it has a record, and where the record's key and value are
+abbrev pub viewNumbers : Fields → List ℕ
+viewNumbers m =
+    m .kind
+    ∷ m .key .at
+    ∷ m .key .end
+    ∷ cond (m .held .there) 1 0
+    ∷ m .held .key .at
+    ∷ m .held .key .end
+    ∷ m .held .value .at
+    ∷ m .held .value .end
+    ∷ []
+
+abbrev pub readNumber : Reading → ℕ
+readNumber (reading.Whole m) = 64
+readNumber (reading.Refused r) = numberOf r
+
+abbrev pub readNumbers : List ℕ → Reading → List ℕ
+readNumbers out (reading.Whole m) = sets out 0 (viewNumbers m)
+readNumbers out (reading.Refused r) = out
+
+-- the length goes to out
+abbrev pub writeNumber : Written → ℕ
+writeNumber (written.Done n) = 64
+writeNumber (written.Refused r) = numberOf r
+
+abbrev pub writeNumbers : List ℕ → Written → List ℕ
+writeNumbers out (written.Done n) = sets out 0 (n ∷ [])
+writeNumbers out (written.Refused r) = out

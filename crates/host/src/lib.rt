@@ -1,0 +1,500 @@
+// What C and Rust programs link: every call of a host, on numbers and slices. A slice crosses as pointer and length; the pointer isn't null, and slices that
+// are written don't overlap others. The box (616 bytes), a connection (640) and a lookup (25,256) are bytes that the host lends, as are contacts and records.
+// Each call returns a refusal's number, 0 to 21, or an answer from 64 up. Further results go to `out`, as many as fit.
+use contact_calls::RemoveOutcome;
+use contact_calls::SeenOutcome;
+use contact_calls::SettleOutcome;
+use host_calls::Nearby;
+use message::Fields;
+use message::Reading;
+use node::Ended;
+use node::Started;
+use node::Told;
+use records::Found;
+use refusal::Refusal;
+use stream::Ending;
+use stream::Framing;
+use writer::Written;
+ghost use mathlib.Core.Path.{_≡_};
+ghost use mathlib.Core.List.{[], _∷_};
+ghost use mathlib.Core.Bool.{cond};
+ghost use Prim.Native.Nat.{_+_, _≤_, _<_};
+ghost use lib.Seq.{sets};
+ghost use Rattle.refusal.specs.Refusal.{numberOf};
+ghost use Rattle.flat.specs.Flat.{saysYes};
+ghost use Rattle.records.specs.Store.{putAnswer, putAfter, findOf};
+ghost use Rattle.message.specs.View.{readingOf};
+ghost use Rattle.writer.specs.Writer.{messageWith, answerOf, outAfter};
+ghost use Rattle.host.specs.Host.{toldCode, boxAfter, startCode, startMemory, openCode, openMemory, changesNothing, refusedFraming, endingCode, endedMemory, endCode, endMemory};
+ghost use Rattle.host.specs.Host.{seenNumber, seenNumbers, seenCode, seenContacts, seenOut, settleNumber, settleCode, settleContacts, removeNumber, removeCode, removeContacts};
+ghost use Rattle.host.specs.Host.{nearestNumbers, nearestCode, nearestOut, putNumber, findNumber, findNumbers, viewNumbers, readNumber, readNumbers, writeNumber, writeNumbers};
+
+// ---- numbers in and out
+
+// The number of a refusal.
+fn code_of(r: Refusal) -> u32
+    ensures { λ n. ⌜ n ≡ numberOf r ⌝ }
+{
+    refusal::number(r) as u32
+}
+
+// Any number but 0 says yes.
+fn says_yes(n: u32) -> bool
+    ensures { λ r. ⌜ r ≡ saysYes n ⌝ }
+{
+    n != 0
+}
+
+fn flag(b: bool) -> usize
+    ensures { λ r. ⌜ r ≡ cond b 1 0 ⌝ }
+{
+    if b {
+        return 1;
+    }
+    0
+}
+
+// How many of the wanted numbers fit from a place on.
+fn room(len: usize, at: usize, wanted: usize) -> usize
+    ensures { λ r. ⌜ (r ≤ wanted) × (r < wanted → len ≤ at + r) × (0 < r → at + r ≤ len) ⌝ }
+{
+    if len <= at {
+        return 0;
+    }
+    if len - at < wanted {
+        return len - at;
+    }
+    wanted
+}
+
+// Writes numbers from a place on, as far as out goes.
+fn put_numbers(out: &mut [u64], at: usize, numbers: &[usize])
+    ensures { λ _. ⌜ now (out .exit) ≡ sets (now (out .entry)) at (now (numbers .entry)) ⌝ }
+{
+    let n = room(out.len(), at, numbers.len());
+    let mut i: usize = 0;
+    while i < n {
+        out[at + i] = numbers[i] as u64;
+        i += 1;
+    }
+}
+
+// Writes one number at the start.
+fn put_number(out: &mut [u64], number: usize)
+    ensures { λ _. ⌜ now (out .exit) ≡ sets (now (out .entry)) 0 (number ∷ []) ⌝ }
+{
+    let numbers = [number];
+    put_numbers(out, 0, &numbers);
+}
+
+// ---- the box and its connections
+
+fn told_code(t: Told) -> u32
+    ensures { λ r. ⌜ r ≡ toldCode t ⌝ }
+{
+    match t {
+        Told::Fine => 64,
+        Told::Refused(r) => code_of(r),
+    }
+}
+
+// Keeps the box that a start gave.
+fn keep_box(me: &mut [u8], s: Started) -> u32
+    ensures { λ r. ⌜ (r ≡ toldCode (s .told)) × (now (me .exit) ≡ boxAfter (now (me .entry)) s) ⌝ }
+{
+    let told = s.told;
+    let p = s.me;
+    match told {
+        Told::Fine => {
+            flat::put_peer(me, p);
+            64
+        }
+        Told::Refused(r) => code_of(r),
+    }
+}
+
+// Starts the box with its id and its addresses, each address with its length before it in two bytes, the lower first. 64, or a refusal. In C:
+//
+//     uint32_t starterbell_start(uint8_t *me, size_t me_length, const uint8_t *id, size_t id_length, const uint8_t *addresses, size_t addresses_length);
+#[no_mangle]
+pub extern "C" fn starterbell_start(me: &mut [u8], id: &[u8], addresses: &[u8]) -> u32
+    ensures { λ r. ⌜ (r ≡ startCode (now (me .entry)) (now (id .entry)) (now (addresses .entry))) × (now (me .exit) ≡ startMemory (now (me .entry)) (now (id .entry)) (now (addresses .entry))) ⌝ }
+{
+    if me.len() < flat::PEER {
+        return 0;
+    }
+    keep_box(me, node::start(id, addresses))
+}
+
+// Opens a connection to a peer: its id, whether it is a server, whether we ask on it, and its addresses. 64, or a refusal and a shut connection. In C:
+//
+//     uint32_t starterbell_open(const uint8_t *me, size_t me_length, uint8_t *conn, size_t conn_length, const uint8_t *id, size_t id_length,
+//         uint32_t server, uint32_t asking, const uint8_t *addresses, size_t addresses_length);
+#[no_mangle]
+pub extern "C" fn starterbell_open(
+    me: &[u8],
+    conn: &mut [u8],
+    id: &[u8],
+    server: u32,
+    asking: u32,
+    addresses: &[u8],
+) -> u32
+    ensures { λ r. ⌜ (r ≡ openCode (now (me .entry)) (now (conn .entry)) (now (id .entry)) server asking (now (addresses .entry))) × (now (conn .exit) ≡ openMemory (now (me .entry)) (now (conn .entry)) (now (id .entry)) server asking (now (addresses .entry))) ⌝ }
+{
+    if me.len() < flat::PEER {
+        return 0;
+    }
+    if conn.len() < flat::CONN {
+        return 0;
+    }
+    let o = node::open(
+        flat::peer_in(me),
+        id,
+        says_yes(server),
+        says_yes(asking),
+        addresses,
+    );
+    let c = o.conn;
+    let told = o.told;
+    flat::put_conn(conn, c);
+    told_code(told)
+}
+
+// Whether a refusal leaves a connection as it is.
+fn changes_nothing(r: Refusal) -> bool
+    ensures { λ b. ⌜ b ≡ changesNothing r ⌝ }
+{
+    let n = refusal::number(r);
+    if n <= 2 {
+        return true;
+    }
+    n == 12
+}
+
+// A refusal on a connection: the framing that came back is written where the refusal changes it.
+fn refuse_on(conn: &mut [u8], f: Framing, r: Refusal) -> u32
+    ensures { λ n. ⌜ (n ≡ numberOf r) × (now (conn .exit) ≡ refusedFraming (now (conn .entry)) f r) ⌝ }
+{
+    if changes_nothing(r) {
+        return code_of(r);
+    }
+    flat::put_framing(conn, f);
+    code_of(r)
+}
+
+// Keeps what an end gave.
+fn keep_end(conn: &mut [u8], e: Ended) -> u32
+    ensures { λ r. ⌜ (r ≡ endingCode (e .answer)) × (now (conn .exit) ≡ endedMemory (now (conn .entry)) e) ⌝ }
+{
+    let c = e.conn;
+    let f = c.framing;
+    let a = e.answer;
+    match a {
+        Ending::Clean => {
+            flat::put_framing(conn, f);
+            64
+        }
+        Ending::Refused(r) => refuse_on(conn, f, r),
+    }
+}
+
+// The peer's bytes are over. 64 where they ended between messages, or a refusal. In C:
+//
+//     uint32_t starterbell_end(const uint8_t *me, size_t me_length, uint8_t *conn, size_t conn_length);
+#[no_mangle]
+pub extern "C" fn starterbell_end(me: &[u8], conn: &mut [u8]) -> u32
+    ensures { λ r. ⌜ (r ≡ endCode (now (me .entry)) (now (conn .entry))) × (now (conn .exit) ≡ endMemory (now (me .entry)) (now (conn .entry))) ⌝ }
+{
+    if me.len() < flat::PEER {
+        return 0;
+    }
+    if conn.len() < flat::CONN {
+        return 0;
+    }
+    let c = flat::conn_in(conn);
+    keep_end(conn, node::end(flat::peer_in(me), c))
+}
+
+// ---- contacts
+
+fn seen_answer(out: &mut [u64], o: SeenOutcome) -> u32
+    ensures { λ r. ⌜ (r ≡ seenNumber o) × (now (out .exit) ≡ seenNumbers (now (out .entry)) o) ⌝ }
+{
+    match o {
+        SeenOutcome::Moved(i) => {
+            put_number(out, i);
+            64
+        }
+        SeenOutcome::Joined(i) => {
+            put_number(out, i);
+            65
+        }
+        SeenOutcome::Probe(h) => {
+            put_number(out, h);
+            13
+        }
+        SeenOutcome::Refused(r) => code_of(r),
+    }
+}
+
+// A peer was seen. 64 where it moved, 65 where it joined, 13 where its bucket is full, or another refusal. Its slot, or that of the bucket's head for 13,
+// goes to out. In C:
+//
+//     uint32_t starterbell_seen(const uint8_t *me, size_t me_length, uint8_t *contacts, size_t contacts_length, const uint8_t *id, size_t id_length,
+//         uint32_t client, const uint8_t *addresses, size_t addresses_length, uint64_t *out, size_t out_length);
+#[no_mangle]
+pub extern "C" fn starterbell_seen(
+    me: &[u8],
+    contacts: &mut [u8],
+    id: &[u8],
+    client: u32,
+    addresses: &[u8],
+    out: &mut [u64],
+) -> u32
+    ensures { λ r. ⌜ (r ≡ seenCode (now (me .entry)) (now (contacts .entry)) (now (id .entry)) client) × (now (contacts .exit) ≡ seenContacts (now (me .entry)) (now (contacts .entry)) (now (id .entry)) client (now (addresses .entry))) × (now (out .exit) ≡ seenOut (now (me .entry)) (now (contacts .entry)) (now (id .entry)) client (now (out .entry))) ⌝ }
+{
+    if me.len() < flat::PEER {
+        return 0;
+    }
+    let o = host_calls::seen(flat::peer_in(me), contacts, id, says_yes(client), addresses);
+    seen_answer(out, o)
+}
+
+fn settle_answer(o: SettleOutcome) -> u32
+    ensures { λ r. ⌜ r ≡ settleNumber o ⌝ }
+{
+    match o {
+        SettleOutcome::Kept => 64,
+        SettleOutcome::Swapped => 65,
+        SettleOutcome::Refused(r) => code_of(r),
+    }
+}
+
+// The probe of a head came back: it answered, or it was silent, and the newcomer takes its place. 64 where the head is kept, 65 where they are swapped, or a
+// refusal. In C:
+//
+//     uint32_t starterbell_settle(const uint8_t *me, size_t me_length, uint8_t *contacts, size_t contacts_length, const uint8_t *head, size_t head_length,
+//         const uint8_t *id, size_t id_length, uint32_t client, const uint8_t *addresses, size_t addresses_length, uint32_t answered);
+#[no_mangle]
+pub extern "C" fn starterbell_settle(
+    me: &[u8],
+    contacts: &mut [u8],
+    head: &[u8],
+    id: &[u8],
+    client: u32,
+    addresses: &[u8],
+    answered: u32,
+) -> u32
+    ensures { λ r. ⌜ (r ≡ settleCode (now (me .entry)) (now (contacts .entry)) (now (head .entry)) (now (id .entry)) client answered) × (now (contacts .exit) ≡ settleContacts (now (me .entry)) (now (contacts .entry)) (now (head .entry)) (now (id .entry)) client (now (addresses .entry)) answered) ⌝ }
+{
+    if me.len() < flat::PEER {
+        return 0;
+    }
+    let p = flat::peer_in(me);
+    let is_client = says_yes(client);
+    let o = host_calls::settle(
+        p,
+        contacts,
+        head,
+        id,
+        is_client,
+        addresses,
+        says_yes(answered),
+    );
+    settle_answer(o)
+}
+
+fn remove_answer(o: RemoveOutcome) -> u32
+    ensures { λ r. ⌜ r ≡ removeNumber o ⌝ }
+{
+    match o {
+        RemoveOutcome::Gone => 64,
+        RemoveOutcome::Refused(r) => code_of(r),
+    }
+}
+
+// Takes a contact out. 64, or a refusal. In C:
+//
+//     uint32_t starterbell_remove(const uint8_t *me, size_t me_length, uint8_t *contacts, size_t contacts_length, const uint8_t *id, size_t id_length);
+#[no_mangle]
+pub extern "C" fn starterbell_remove(me: &[u8], contacts: &mut [u8], id: &[u8]) -> u32
+    ensures { λ r. ⌜ (r ≡ removeCode (now (me .entry)) (now (contacts .entry)) (now (id .entry))) × (now (contacts .exit) ≡ removeContacts (now (me .entry)) (now (contacts .entry)) (now (id .entry))) ⌝ }
+{
+    if me.len() < flat::PEER {
+        return 0;
+    }
+    let o = host_calls::remove(flat::peer_in(me), contacts, id);
+    remove_answer(o)
+}
+
+fn nearest_answer(out: &mut [u64], n: Nearby) -> u32
+    ensures { λ r. ⌜ (r ≡ toldCode (n .told)) × (now (out .exit) ≡ nearestNumbers (now (out .entry)) n) ⌝ }
+{
+    let told = n.told;
+    let closest = n.closest;
+    let at = closest.at;
+    match told {
+        Told::Fine => {
+            put_number(out, closest.n);
+            put_numbers(out, 1, &at);
+            64
+        }
+        Told::Refused(r) => code_of(r),
+    }
+}
+
+// The contacts nearest to a key. 64, or a refusal. How many there are and twenty slots go to out, nearest first, with zeros after the last. In C:
+//
+//     uint32_t starterbell_nearest(const uint8_t *me, size_t me_length, const uint8_t *contacts, size_t contacts_length, const uint8_t *key, size_t key_length,
+//         uint64_t *out, size_t out_length);
+#[no_mangle]
+pub extern "C" fn starterbell_nearest(
+    me: &[u8],
+    contacts: &[u8],
+    key: &[u8],
+    out: &mut [u64],
+) -> u32
+    ensures { λ r. ⌜ (r ≡ nearestCode (now (me .entry)) (now (contacts .entry)) (now (key .entry))) × (now (out .exit) ≡ nearestOut (now (me .entry)) (now (contacts .entry)) (now (key .entry)) (now (out .entry))) ⌝ }
+{
+    if me.len() < flat::PEER {
+        return 0;
+    }
+    let n = host_calls::nearest(flat::peer_in(me), contacts, key);
+    nearest_answer(out, n)
+}
+
+// ---- records
+
+fn put_answer(a: records::Answer) -> u32
+    ensures { λ r. ⌜ r ≡ putNumber a ⌝ }
+{
+    match a {
+        records::Answer::Taken => 64,
+        records::Answer::Refused(r) => code_of(r),
+    }
+}
+
+// Puts a record into the store. 64, or a refusal. In C:
+//
+//     uint32_t starterbell_put(uint8_t *records, size_t records_length, const uint8_t *key, size_t key_length, const uint8_t *value, size_t value_length);
+#[no_mangle]
+pub extern "C" fn starterbell_put(records: &mut [u8], key: &[u8], value: &[u8]) -> u32
+    ensures { λ r. ⌜ (r ≡ putNumber (putAnswer (now (records .entry)) (now (key .entry)) (now (value .entry)))) × (now (records .exit) ≡ putAfter (now (records .entry)) (now (key .entry)) (now (value .entry))) ⌝ }
+{
+    let a = host_calls::put(records, key, value);
+    put_answer(a)
+}
+
+fn find_answer(out: &mut [u64], f: Found) -> u32
+    ensures { λ r. ⌜ (r ≡ findNumber f) × (now (out .exit) ≡ findNumbers (now (out .entry)) f) ⌝ }
+{
+    match f {
+        Found::Held { start, end } => {
+            let ends = [start, end];
+            put_numbers(out, 0, &ends);
+            64
+        }
+        Found::NotHeld => 65,
+        Found::Refused(r) => code_of(r),
+    }
+}
+
+// Where a key's value stands in the store. 64 where it is held: where it starts and ends goes to out. 65 where it isn't, or a refusal. In C:
+//
+//     uint32_t starterbell_find(const uint8_t *records, size_t records_length, const uint8_t *key, size_t key_length, uint64_t *out, size_t out_length);
+#[no_mangle]
+pub extern "C" fn starterbell_find(records: &[u8], key: &[u8], out: &mut [u64]) -> u32
+    ensures { λ r. ⌜ (r ≡ findNumber (findOf (now (records .entry)) (now (key .entry)))) × (now (out .exit) ≡ findNumbers (now (out .entry)) (findOf (now (records .entry)) (now (key .entry)))) ⌝ }
+{
+    let f = host_calls::find(records, key);
+    find_answer(out, f)
+}
+
+// ---- messages
+
+// Writes a view from a place on.
+fn put_view(out: &mut [u64], at: usize, m: Fields)
+    ensures { λ _. ⌜ now (out .exit) ≡ sets (now (out .entry)) at (viewNumbers m) ⌝ }
+{
+    let numbers = [
+        m.kind as usize,
+        m.key.at,
+        m.key.end,
+        flag(m.held.there),
+        m.held.key.at,
+        m.held.key.end,
+        m.held.value.at,
+        m.held.value.end,
+    ];
+    put_numbers(out, at, &numbers);
+}
+
+fn read_answer(out: &mut [u64], r: Reading) -> u32
+    ensures { λ n. ⌜ (n ≡ readNumber r) × (now (out .exit) ≡ readNumbers (now (out .entry)) r) ⌝ }
+{
+    match r {
+        Reading::Whole(m) => {
+            put_view(out, 0, m);
+            64
+        }
+        Reading::Refused(why) => code_of(why),
+    }
+}
+
+// The message that a body is. 64, or a refusal. Its view goes to out, as eight numbers: its type, where its key starts and ends, 1 if it has a record and
+// else 0, and where the record's key and value start and end. In C:
+//
+//     uint32_t starterbell_read(const uint8_t *body, size_t body_length, uint64_t *out, size_t out_length);
+#[no_mangle]
+pub extern "C" fn starterbell_read(body: &[u8], out: &mut [u64]) -> u32
+    ensures { λ r. ⌜ (r ≡ readNumber (readingOf (now (body .entry)))) × (now (out .exit) ≡ readNumbers (now (out .entry)) (readingOf (now (body .entry)))) ⌝ }
+{
+    let r = host_calls::read(body);
+    read_answer(out, r)
+}
+
+fn write_answer(out: &mut [u64], w: Written) -> u32
+    ensures { λ r. ⌜ (r ≡ writeNumber w) × (now (out .exit) ≡ writeNumbers (now (out .entry)) w) ⌝ }
+{
+    match w {
+        Written::Done(n) => {
+            put_number(out, n);
+            64
+        }
+        Written::Refused(r) => code_of(r),
+    }
+}
+
+// Writes a message with its length prefix from the start of `message` on: its type, its key, its record if `held` says that it has one, and its peers, given
+// as crates/writer says. 64, or a refusal. Its length with the prefix goes to out. In C:
+//
+//     uint32_t starterbell_write(uint8_t *message, size_t room, uint64_t kind, const uint8_t *key, size_t key_length, uint32_t held,
+//         const uint8_t *record_key, size_t record_key_length, const uint8_t *value, size_t value_length,
+//         const uint8_t *closer, size_t closer_length, const uint8_t *providers, size_t providers_length, uint64_t *out, size_t out_length);
+#[no_mangle]
+pub extern "C" fn starterbell_write(
+    message: &mut [u8],
+    kind: u64,
+    key: &[u8],
+    held: u32,
+    record_key: &[u8],
+    value: &[u8],
+    closer: &[u8],
+    providers: &[u8],
+    out: &mut [u64],
+) -> u32
+    ensures { λ r. ⌜ (r ≡ writeNumber (answerOf (now (message .entry)) (messageWith kind (now (key .entry)) (saysYes held) (now (record_key .entry)) (now (value .entry)) (now (closer .entry)) (now (providers .entry))))) × (now (message .exit) ≡ outAfter (now (message .entry)) (messageWith kind (now (key .entry)) (saysYes held) (now (record_key .entry)) (now (value .entry)) (now (closer .entry)) (now (providers .entry)))) × (now (out .exit) ≡ writeNumbers (now (out .entry)) (answerOf (now (message .entry)) (messageWith kind (now (key .entry)) (saysYes held) (now (record_key .entry)) (now (value .entry)) (now (closer .entry)) (now (providers .entry))))) ⌝ }
+{
+    let there = says_yes(held);
+    let w = host_calls::write(
+        message,
+        kind,
+        key,
+        there,
+        record_key,
+        value,
+        closer,
+        providers,
+    );
+    write_answer(out, w)
+}
