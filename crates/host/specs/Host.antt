@@ -1,9 +1,10 @@
 -- What C and Rust programs get: each call returns a number, and leaves the memory that the host lent as these definitions say. The box, a connection and a
 -- lookup are bytes (crates/flat, crates/flat_lookup); contacts and records are what they are in the crates below.
 use Prim.Native.Nat.{ℕ}
+use mathlib.Core.Path.{_≡_}
 use mathlib.Core.Bool.{Bool, cond, _||_}
-use mathlib.Core.List.{List, [], _∷_}
-use lib.ListN.{length}
+use mathlib.Core.List.{List, [], _∷_, _++_}
+use lib.ListN.{length, getD}
 use lib.Seq.{sets}
 use lib.Dec.{ltb, leb, eqb}
 use Rattle.refusal.specs.declared.Refusal.{Refusal}
@@ -11,7 +12,8 @@ use Rattle.refusal.specs.Refusal.{numberOf}
 use Rattle.stream.specs.declared.Framing.{Framing}
 use Rattle.stream.specs.declared.Ending.{Ending}
 use Rattle.stream.specs.declared.Ending.the-variants as ending
-use Rattle.contacts.specs.declared.Closest.{Closest}
+use Rattle.sightings.specs.declared.Sighting.{Sighting}
+use Rattle.sightings.specs.declared.Sighting.the-variants as sighting
 use Rattle.contact_calls.specs.declared.SeenOutcome.{SeenOutcome}
 use Rattle.contact_calls.specs.declared.SeenOutcome.the-variants as seen
 use Rattle.contact_calls.specs.declared.SettleOutcome.{SettleOutcome}
@@ -34,10 +36,22 @@ use Rattle.node.specs.declared.Told.the-variants as told
 use Rattle.node.specs.declared.Started.{Started}
 use Rattle.node.specs.declared.Opened.{Opened}
 use Rattle.node.specs.declared.Ended.{Ended}
+use Rattle.node.specs.declared.Answer as node
+use Rattle.node.specs.declared.Answer.the-variants as answer
+use Rattle.node.specs.declared.Sight.{Sight}
+use Rattle.node.specs.declared.Sight.the-variants as sight
+use Rattle.node.specs.declared.Received.{Received}
 use Rattle.node.specs.Box.{startOf, openOf, endConn}
+use Rattle.node.specs.Node.{Out, receiveOf}
+use Rattle.lookup.specs.declared.Answer as lookup
+use Rattle.lookup.specs.declared.Answer.the-variants as step
+use Rattle.lookup.specs.declared.Lookup.{Lookup}
+use Rattle.lookup.specs.declared.Step.{Step}
+use Rattle.lookup.specs.Lookup.{nextOf}
 use Rattle.host_calls.specs.declared.Nearby.{Nearby}
-use Rattle.host_calls.specs.Hosts.{seenOf, seenAfter, settleOf, settleAfter, removeOf, removeAfter, nearestTo}
+use Rattle.host_calls.specs.Hosts.{seenOf, seenAfter, settleOf, settleAfter, removeOf, removeAfter, nearestTo, lookupStart, lookupReply, lookupFailure}
 use Rattle.flat.specs.Flat.{peerSize, connSize, peerIn, connIn, saysYes, peerBytes, connBytes, withFraming}
+use Rattle.flat_lookup.specs.FlatLookup.{flatSize, lookupIn, lookupBytes}
 
 -- ---- memory that the host lends
 -- memory of under n bytes can't be what it is lent for: the first, else the second
@@ -208,3 +222,77 @@ writeNumber (written.Refused r) = numberOf r
 abbrev pub writeNumbers : List ℕ → Written → List ℕ
 writeNumbers out (written.Done n) = sets out 0 (n ∷ [])
 writeNumbers out (written.Refused r) = out
+
+-- ---- receiving
+-- 64 more, 65 a reply, 66 a message for a lookup
+abbrev pub answerNumber : node.Answer → ℕ
+answerNumber (answer.Reply n) = 65
+answerNumber (answer.Heard n m) = 66
+answerNumber (answer.Refused r) = numberOf r
+answerNumber answer.More = 64
+
+-- the length of the reply or of the message
+abbrev pub answerLength : node.Answer → ℕ
+answerLength (answer.Reply n) = n
+answerLength (answer.Heard n m) = n
+answerLength (answer.Refused r) = 0
+answerLength answer.More = 0
+
+abbrev pub answerView : node.Answer → List ℕ
+answerView (answer.Reply n) = []
+answerView (answer.Heard n m) = viewNumbers m
+answerView (answer.Refused r) = []
+answerView answer.More = []
+
+abbrev pub answerFraming : List ℕ → Framing → node.Answer → List ℕ
+answerFraming conn f (answer.Reply n) = withFraming conn f
+answerFraming conn f (answer.Heard n m) = withFraming conn f
+answerFraming conn f (answer.Refused r) = refusedFraming conn f r
+answerFraming conn f answer.More = withFraming conn f
+
+-- 1 moved, 2 joined, 3 the bucket is full, 4 no slot; and the slot, or that of the bucket's head
+abbrev pub sightingNumber : Sighting → ℕ
+sightingNumber (sighting.Moved i) = 1
+sightingNumber (sighting.Joined i) = 2
+sightingNumber (sighting.Full h) = 3
+sightingNumber sighting.NoSlot = 4
+
+abbrev pub sightingSlot : Sighting → ℕ
+sightingSlot (sighting.Moved i) = i
+sightingSlot (sighting.Joined i) = i
+sightingSlot (sighting.Full h) = h
+sightingSlot sighting.NoSlot = 0
+
+-- 0 for no sighting
+abbrev pub sightNumber : Sight → ℕ
+sightNumber sight.NotSeen = 0
+sightNumber (sight.Seen s) = sightingNumber s
+
+abbrev pub sightSlot : Sight → ℕ
+sightSlot sight.NotSeen = 0
+sightSlot (sight.Seen s) = sightingSlot s
+
+-- bytes taken, length, sighting and slot, and the view of a message for a lookup
+abbrev pub receivedNumbers : List ℕ → Received → List ℕ
+receivedNumbers out g =
+    sets out 0 ((g .taken ∷ answerLength (g .answer) ∷ sightNumber (g .sight) ∷ sightSlot (g .sight) ∷ []) ++ answerView (g .answer))
+
+abbrev pub receivedMemory : List ℕ → Received → List ℕ
+receivedMemory conn g = answerFraming conn (g .conn .framing) (g .answer)
+
+-- no byte was taken
+abbrev pub nothingTaken : List ℕ → List ℕ
+nothingTaken out = sets out 0 (0 ∷ 0 ∷ 0 ∷ 0 ∷ [])
+
+abbrev pub receiveFor : List ℕ → List ℕ → List ℕ → List ℕ → List ℕ → List ℕ → List ℕ → Out
+receiveFor me conn m bs t k y = receiveOf (peerIn me) (connIn conn) m bs t k y
+
+-- the box, a connection, its receive buffer, a piece, contacts, records, reply buffer and out; then what is returned and each lent slice afterwards
+pub record Receives (me conn m bs t k y out : List ℕ) (r : ℕ) (conn′ m′ t′ k′ y′ out′ : List ℕ) : Type 0 where
+  pub code : r ≡ lentBoth me conn 0 (answerNumber (receiveFor me conn m bs t k y .got .answer))
+  pub connection : conn′ ≡ lentBoth me conn conn (receivedMemory conn (receiveFor me conn m bs t k y .got))
+  pub buffer : m′ ≡ lentBoth me conn m (receiveFor me conn m bs t k y .buffer)
+  pub contacts : t′ ≡ lentBoth me conn t (receiveFor me conn m bs t k y .contacts)
+  pub records : k′ ≡ lentBoth me conn k (receiveFor me conn m bs t k y .records)
+  pub reply : y′ ≡ lentBoth me conn y (receiveFor me conn m bs t k y .reply)
+  pub numbers : out′ ≡ lentBoth me conn (nothingTaken out) (receivedNumbers out (receiveFor me conn m bs t k y .got))

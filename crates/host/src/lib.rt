@@ -7,11 +7,15 @@ use contact_calls::SettleOutcome;
 use host_calls::Nearby;
 use message::Fields;
 use message::Reading;
+use node::Answer;
 use node::Ended;
+use node::Received;
+use node::Sight;
 use node::Started;
 use node::Told;
 use records::Found;
 use refusal::Refusal;
+use sightings::Sighting;
 use stream::Ending;
 use stream::Framing;
 use writer::Written;
@@ -28,6 +32,7 @@ ghost use Rattle.writer.specs.Writer.{messageWith, answerOf, outAfter};
 ghost use Rattle.host.specs.Host.{toldCode, boxAfter, startCode, startMemory, openCode, openMemory, changesNothing, refusedFraming, endingCode, endedMemory, endCode, endMemory};
 ghost use Rattle.host.specs.Host.{seenNumber, seenNumbers, seenCode, seenContacts, seenOut, settleNumber, settleCode, settleContacts, removeNumber, removeCode, removeContacts};
 ghost use Rattle.host.specs.Host.{nearestNumbers, nearestCode, nearestOut, putNumber, findNumber, findNumbers, viewNumbers, readNumber, readNumbers, writeNumber, writeNumbers};
+ghost use Rattle.host.specs.Host.{answerNumber, answerLength, answerView, answerFraming, sightingNumber, sightingSlot, sightNumber, sightSlot, receivedNumbers, receivedMemory, nothingTaken, Receives};
 
 // ---- numbers in and out
 
@@ -497,4 +502,154 @@ pub extern "C" fn starterbell_write(
         providers,
     );
     write_answer(out, w)
+}
+
+// ---- receiving
+
+fn sighting_number(s: Sighting) -> usize
+    ensures { λ r. ⌜ r ≡ sightingNumber s ⌝ }
+{
+    match s {
+        Sighting::Moved(_) => 1,
+        Sighting::Joined(_) => 2,
+        Sighting::Full(_) => 3,
+        Sighting::NoSlot => 4,
+    }
+}
+
+fn sighting_slot(s: Sighting) -> usize
+    ensures { λ r. ⌜ r ≡ sightingSlot s ⌝ }
+{
+    match s {
+        Sighting::Moved(i) => i,
+        Sighting::Joined(i) => i,
+        Sighting::Full(h) => h,
+        Sighting::NoSlot => 0,
+    }
+}
+
+fn sight_number(s: Sight) -> usize
+    ensures { λ r. ⌜ r ≡ sightNumber s ⌝ }
+{
+    match s {
+        Sight::NotSeen => 0,
+        Sight::Seen(seen) => sighting_number(seen),
+    }
+}
+
+fn sight_slot(s: Sight) -> usize
+    ensures { λ r. ⌜ r ≡ sightSlot s ⌝ }
+{
+    match s {
+        Sight::NotSeen => 0,
+        Sight::Seen(seen) => sighting_slot(seen),
+    }
+}
+
+fn answer_length(a: Answer) -> usize
+    ensures { λ r. ⌜ r ≡ answerLength a ⌝ }
+{
+    match a {
+        Answer::Reply(n) => n,
+        Answer::Heard(n, _) => n,
+        Answer::Refused(_) => 0,
+        Answer::More => 0,
+    }
+}
+
+// Writes the view of a message that was heard, after the first four numbers.
+fn put_heard(out: &mut [u64], a: Answer)
+    ensures { λ _. ⌜ now (out .exit) ≡ sets (now (out .entry)) 4 (answerView a) ⌝ }
+{
+    match a {
+        Answer::Reply(_) => {}
+        Answer::Heard(_, m) => put_view(out, 4, m),
+        Answer::Refused(_) => {}
+        Answer::More => {}
+    }
+}
+
+// Writes what a receive gave.
+fn put_received(out: &mut [u64], got: Received)
+    ensures { λ _. ⌜ now (out .exit) ≡ receivedNumbers (now (out .entry)) got ⌝ }
+{
+    let a = got.answer;
+    let s = got.sight;
+    let head = [got.taken, answer_length(a), sight_number(s), sight_slot(s)];
+    put_numbers(out, 0, &head);
+    put_heard(out, a);
+}
+
+// The number of an answer. The framing that came back is written, unless the answer is a refusal that changes nothing.
+fn keep_framing(conn: &mut [u8], f: Framing, a: Answer) -> u32
+    ensures { λ r. ⌜ (r ≡ answerNumber a) × (now (conn .exit) ≡ answerFraming (now (conn .entry)) f a) ⌝ }
+{
+    match a {
+        Answer::Reply(_) => {
+            flat::put_framing(conn, f);
+            65
+        }
+        Answer::Heard(_, _) => {
+            flat::put_framing(conn, f);
+            66
+        }
+        Answer::Refused(r) => refuse_on(conn, f, r),
+        Answer::More => {
+            flat::put_framing(conn, f);
+            64
+        }
+    }
+}
+
+// Keeps what a receive gave.
+fn keep_received(conn: &mut [u8], out: &mut [u64], got: Received) -> u32
+    ensures { λ r. ⌜ (r ≡ answerNumber (got .answer)) × (now (conn .exit) ≡ receivedMemory (now (conn .entry)) got) × (now (out .exit) ≡ receivedNumbers (now (out .entry)) got) ⌝ }
+{
+    put_received(out, got);
+    let c = got.conn;
+    let f = c.framing;
+    let a = got.answer;
+    keep_framing(conn, f, a)
+}
+
+// A box or a connection in too few bytes: 0, and no byte is taken.
+fn nothing_taken(out: &mut [u64]) -> u32
+    ensures { λ r. ⌜ (r ≡ 0) × (now (out .exit) ≡ nothingTaken (now (out .entry))) ⌝ }
+{
+    let numbers = [0usize, 0usize, 0usize, 0usize];
+    put_numbers(out, 0, &numbers);
+    0
+}
+
+// Takes bytes of a piece up to the first event. 64 where more bytes are wanted, 65 where a request was answered in the reply buffer, 66 where a message for a
+// lookup stands in the receive buffer, or a refusal. Four numbers always go to out: the bytes taken; the length of the reply or of the message, else 0; what
+// came of the sender's sighting, 0 none, 1 moved, 2 joined, 3 the bucket is full, 4 no slot; and its slot, else 0. For 66 the eight numbers of the message's
+// view follow. In C:
+//
+//     uint32_t starterbell_receive(const uint8_t *me, size_t me_length, uint8_t *conn, size_t conn_length, uint8_t *buffer, size_t buffer_length,
+//         const uint8_t *piece, size_t piece_length, uint8_t *contacts, size_t contacts_length, uint8_t *records, size_t records_length,
+//         uint8_t *reply, size_t reply_length, uint64_t *out, size_t out_length);
+#[no_mangle]
+pub extern "C" fn starterbell_receive(
+    me: &[u8],
+    conn: &mut [u8],
+    buffer: &mut [u8],
+    piece: &[u8],
+    contacts: &mut [u8],
+    records: &mut [u8],
+    reply: &mut [u8],
+    out: &mut [u64],
+) -> u32
+    ensures { λ r. ⌜ Receives (now (me .entry)) (now (conn .entry)) (now (buffer .entry)) (now (piece .entry)) (now (contacts .entry)) (now (records .entry)) (now (reply .entry)) (now (out .entry)) r (now (conn .exit)) (now (buffer .exit)) (now (contacts .exit)) (now (records .exit)) (now (reply .exit)) (now (out .exit)) ⌝ }
+{
+    if me.len() < flat::PEER {
+        return nothing_taken(out);
+    }
+    if conn.len() < flat::CONN {
+        return nothing_taken(out);
+    }
+    let p = flat::peer_in(me);
+    let c = flat::conn_in(conn);
+    let got = node::receive(p, c, buffer, piece, contacts, records, reply);
+    keep_received(conn, out, got)
 }
