@@ -1,2 +1,3 @@
 pub mod Handing
 pub mod Receiving
+pub mod Stepping

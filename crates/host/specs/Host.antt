@@ -2,7 +2,7 @@
 -- lookup are bytes (crates/flat, crates/flat_lookup); contacts and records are what they are in the crates below.
 use Prim.Native.Nat.{ℕ}
 use mathlib.Core.Path.{_≡_}
-use mathlib.Core.Bool.{Bool, cond, _||_}
+use mathlib.Core.Bool.{Bool, true, false, cond, _||_}
 use mathlib.Core.List.{List, [], _∷_, _++_}
 use lib.ListN.{length, getD}
 use lib.Seq.{sets}
@@ -296,3 +296,74 @@ pub record Receives (me conn m bs t k y out : List ℕ) (r : ℕ) (conn′ m′ 
   pub records : k′ ≡ lentBoth me conn k (receiveFor me conn m bs t k y .records)
   pub reply : y′ ≡ lentBoth me conn y (receiveFor me conn m bs t k y .reply)
   pub numbers : out′ ≡ lentBoth me conn (nothingTaken out) (receivedNumbers out (receiveFor me conn m bs t k y .got))
+
+-- ---- lookups
+-- 64 going, 65 wait, 66 ask, 67 complete, 68 cut short
+abbrev pub stepNumber : lookup.Answer → ℕ
+stepNumber (step.Refused r) = numberOf r
+stepNumber (step.Complete n) = 67
+stepNumber (step.CutShort n) = 68
+stepNumber step.Wait = 65
+stepNumber (step.Ask i) = 66
+stepNumber step.Going = 64
+
+-- the rank to ask, or the requests sent
+abbrev pub stepFirst : lookup.Answer → ℕ
+stepFirst (step.Refused r) = 0
+stepFirst (step.Complete n) = n
+stepFirst (step.CutShort n) = n
+stepFirst step.Wait = 0
+stepFirst (step.Ask i) = i
+stepFirst step.Going = 0
+
+abbrev pub isRefused : lookup.Answer → Bool
+isRefused (step.Refused r) = true
+isRefused (step.Complete n) = false
+isRefused (step.CutShort n) = false
+isRefused step.Wait = false
+isRefused (step.Ask i) = false
+isRefused step.Going = false
+
+-- that number, how many were found, and their twenty ranks
+abbrev pub stepNumbers : List ℕ → Step → List ℕ
+stepNumbers out s = cond (isRefused (s .answer)) out (sets out 0 ((stepFirst (s .answer) ∷ s .found .n ∷ []) ++ s .found .at))
+
+-- the lookup is written back, unless the step was refused
+abbrev pub stepMemory : List ℕ → Step → List ℕ
+stepMemory m s = cond (isRefused (s .answer)) m (sets m 0 (lookupBytes (s .lookup)))
+
+-- a refused start gives an empty lookup, which is written too
+abbrev pub startedMemory : List ℕ → Step → List ℕ
+startedMemory m s = sets m 0 (lookupBytes (s .lookup))
+
+-- a view in eight numbers; those that are missing read as 0
+abbrev pub viewIn : List ℕ → Fields
+viewIn v = record {
+  kind = getD v 0 0;
+  key = record { at = getD v 1 0; end = getD v 2 0 };
+  held = record { there = saysYes (getD v 3 0); key = record { at = getD v 4 0; end = getD v 5 0 }; value = record { at = getD v 6 0; end = getD v 7 0 } };
+}
+
+-- the memory of a box or of a lookup has too few bytes
+unfoldable pub tooShort : List ℕ → List ℕ → Bool
+tooShort me m = ltb (length me) peerSize || ltb (length m) flatSize
+
+-- whether memory is too short, what the step gave and the lookup memory that it leaves; lookup memory and out; what is returned and those two afterwards
+pub record Steps (short : Bool) (s : Step) (after m out : List ℕ) (r : ℕ) (m′ out′ : List ℕ) : Type 0 where
+  pub code : r ≡ cond short 0 (stepNumber (s .answer))
+  pub memory : m′ ≡ cond short m after
+  pub numbers : out′ ≡ cond short out (stepNumbers out s)
+
+abbrev pub Begins : List ℕ → List ℕ → List ℕ → List ℕ → ℕ → List ℕ → ℕ → List ℕ → List ℕ → Type 0
+Begins me m t key limit out r m′ out′ =
+    let s = lookupStart (peerIn me) t key limit in Steps (tooShort me m) s (startedMemory m s) m out r m′ out′
+
+abbrev pub Nexts : List ℕ → List ℕ → ℕ → List ℕ → List ℕ → Type 0
+Nexts m out r m′ out′ = let s = nextOf (lookupIn m) in Steps (ltb (length m) flatSize) s (stepMemory m s) m out r m′ out′
+
+abbrev pub Replies : List ℕ → List ℕ → List ℕ → List ℕ → List ℕ → List ℕ → ℕ → List ℕ → List ℕ → Type 0
+Replies me m id body view out r m′ out′ =
+    let s = lookupReply (peerIn me) (lookupIn m) id body (viewIn view) in Steps (tooShort me m) s (stepMemory m s) m out r m′ out′
+
+abbrev pub Fails : List ℕ → List ℕ → List ℕ → List ℕ → ℕ → List ℕ → List ℕ → Type 0
+Fails me m id out r m′ out′ = let s = lookupFailure (peerIn me) (lookupIn m) id in Steps (tooShort me m) s (stepMemory m s) m out r m′ out′

@@ -5,7 +5,9 @@ use contact_calls::RemoveOutcome;
 use contact_calls::SeenOutcome;
 use contact_calls::SettleOutcome;
 use host_calls::Nearby;
+use lookup::Step;
 use message::Fields;
+use message::Held;
 use message::Reading;
 use node::Answer;
 use node::Ended;
@@ -18,11 +20,13 @@ use refusal::Refusal;
 use sightings::Sighting;
 use stream::Ending;
 use stream::Framing;
+use wire::Span;
 use writer::Written;
 ghost use mathlib.Core.Path.{_≡_};
 ghost use mathlib.Core.List.{[], _∷_};
 ghost use mathlib.Core.Bool.{cond};
 ghost use Prim.Native.Nat.{_+_, _≤_, _<_};
+ghost use lib.ListN.{getD};
 ghost use lib.Seq.{sets};
 ghost use Rattle.refusal.specs.Refusal.{numberOf};
 ghost use Rattle.flat.specs.Flat.{saysYes};
@@ -33,6 +37,7 @@ ghost use Rattle.host.specs.Host.{toldCode, boxAfter, startCode, startMe
 ghost use Rattle.host.specs.Host.{seenNumber, seenNumbers, seenCode, seenContacts, seenOut, settleNumber, settleCode, settleContacts, removeNumber, removeCode, removeContacts};
 ghost use Rattle.host.specs.Host.{nearestNumbers, nearestCode, nearestOut, putNumber, findNumber, findNumbers, viewNumbers, readNumber, readNumbers, writeNumber, writeNumbers};
 ghost use Rattle.host.specs.Host.{answerNumber, answerLength, answerView, answerFraming, sightingNumber, sightingSlot, sightNumber, sightSlot, receivedNumbers, receivedMemory, nothingTaken, Receives};
+ghost use Rattle.host.specs.Host.{stepNumber, stepFirst, isRefused, stepNumbers, stepMemory, startedMemory, viewIn, Begins, Nexts, Replies, Fails};
 
 // ---- numbers in and out
 
@@ -652,4 +657,222 @@ pub extern "C" fn starterbell_receive(
     let c = flat::conn_in(conn);
     let got = node::receive(p, c, buffer, piece, contacts, records, reply);
     keep_received(conn, out, got)
+}
+
+// ---- lookups
+
+fn step_code(a: lookup::Answer) -> u32
+    ensures { λ r. ⌜ r ≡ stepNumber a ⌝ }
+{
+    match a {
+        lookup::Answer::Refused(r) => code_of(r),
+        lookup::Answer::Complete(_) => 67,
+        lookup::Answer::CutShort(_) => 68,
+        lookup::Answer::Wait => 65,
+        lookup::Answer::Ask(_) => 66,
+        lookup::Answer::Going => 64,
+    }
+}
+
+// The rank to ask, or the requests sent.
+fn step_first(a: lookup::Answer) -> usize
+    ensures { λ r. ⌜ r ≡ stepFirst a ⌝ }
+{
+    match a {
+        lookup::Answer::Refused(_) => 0,
+        lookup::Answer::Complete(n) => n,
+        lookup::Answer::CutShort(n) => n,
+        lookup::Answer::Wait => 0,
+        lookup::Answer::Ask(i) => i,
+        lookup::Answer::Going => 0,
+    }
+}
+
+fn is_refused(a: lookup::Answer) -> bool
+    ensures { λ r. ⌜ r ≡ isRefused a ⌝ }
+{
+    match a {
+        lookup::Answer::Refused(_) => true,
+        lookup::Answer::Complete(_) => false,
+        lookup::Answer::CutShort(_) => false,
+        lookup::Answer::Wait => false,
+        lookup::Answer::Ask(_) => false,
+        lookup::Answer::Going => false,
+    }
+}
+
+// Writes what a step found, unless it was refused.
+fn put_step(out: &mut [u64], s: Step)
+    ensures { λ _. ⌜ now (out .exit) ≡ stepNumbers (now (out .entry)) s ⌝ }
+{
+    let a = s.answer;
+    let found = s.found;
+    let at = found.at;
+    if is_refused(a) {
+        return;
+    }
+    let head = [step_first(a), found.n];
+    put_numbers(out, 0, &head);
+    put_numbers(out, 2, &at);
+}
+
+// Keeps the lookup that a step gave, unless it was refused.
+fn keep_step(memory: &mut [u8], s: Step)
+    ensures { λ _. ⌜ now (memory .exit) ≡ stepMemory (now (memory .entry)) s ⌝ }
+{
+    let a = s.answer;
+    let l = s.lookup;
+    if is_refused(a) {
+        return;
+    }
+    flat_lookup::put_lookup(memory, l);
+}
+
+// Starts a lookup of a key from the contacts, with up to `limit` peers asked at a time. 64 where it is going, 67 where it is complete, or a refusal and an
+// empty lookup. As for the calls below, three things go to out unless the call is refused: the rank to ask for 66, the number of requests sent for 67 and 68,
+// else 0; how many peers were found; and twenty ranks of those, nearest first, with zeros after the last. In C:
+//
+//     uint32_t starterbell_lookup_start(const uint8_t *me, size_t me_length, uint8_t *lookup, size_t lookup_length,
+//         const uint8_t *contacts, size_t contacts_length, const uint8_t *key, size_t key_length, size_t limit, uint64_t *out, size_t out_length);
+#[no_mangle]
+pub extern "C" fn starterbell_lookup_start(
+    me: &[u8],
+    memory: &mut [u8],
+    contacts: &[u8],
+    key: &[u8],
+    limit: usize,
+    out: &mut [u64],
+) -> u32
+    ensures { λ r. ⌜ Begins (now (me .entry)) (now (memory .entry)) (now (contacts .entry)) (now (key .entry)) limit (now (out .entry)) r (now (memory .exit)) (now (out .exit)) ⌝ }
+{
+    if me.len() < flat::PEER {
+        return 0;
+    }
+    if memory.len() < flat_lookup::SIZE {
+        return 0;
+    }
+    let s = host_calls::lookup_start(flat::peer_in(me), contacts, key, limit);
+    let l = s.lookup;
+    let a = s.answer;
+    flat_lookup::put_lookup(memory, l);
+    put_step(out, s);
+    step_code(a)
+}
+
+// The next step of a lookup. 65 where it waits, 66 where a peer is to be asked, 67 where it is complete, 68 where it was cut short, or a refusal. In C:
+//
+//     uint32_t starterbell_lookup_next(uint8_t *lookup, size_t lookup_length, uint64_t *out, size_t out_length);
+#[no_mangle]
+pub extern "C" fn starterbell_lookup_next(memory: &mut [u8], out: &mut [u64]) -> u32
+    ensures { λ r. ⌜ Nexts (now (memory .entry)) (now (out .entry)) r (now (memory .exit)) (now (out .exit)) ⌝ }
+{
+    if memory.len() < flat_lookup::SIZE {
+        return 0;
+    }
+    let s = host_calls::lookup_next(flat_lookup::lookup_in(memory));
+    let a = s.answer;
+    keep_step(memory, s);
+    put_step(out, s);
+    step_code(a)
+}
+
+// A number of a view, 0 past its end.
+fn number(view: &[u64], at: usize) -> u64
+    ensures { λ r. ⌜ r ≡ getD (now (view .entry)) at 0 ⌝ }
+{
+    if view.len() <= at {
+        return 0;
+    }
+    view[at]
+}
+
+fn position(view: &[u64], at: usize) -> usize
+    ensures { λ r. ⌜ r ≡ getD (now (view .entry)) at 0 ⌝ }
+{
+    number(view, at) as usize
+}
+
+// The view that numbers are.
+fn view_in(view: &[u64]) -> Fields
+    ensures { λ r. ⌜ r ≡ viewIn (now (view .entry)) ⌝ }
+{
+    let kind = number(view, 0);
+    let key = Span {
+        at: position(view, 1),
+        end: position(view, 2),
+    };
+    let there = number(view, 3) != 0;
+    let record_key = Span {
+        at: position(view, 4),
+        end: position(view, 5),
+    };
+    let value = Span {
+        at: position(view, 6),
+        end: position(view, 7),
+    };
+    let held = Held {
+        there,
+        key: record_key,
+        value,
+    };
+    Fields { kind, key, held }
+}
+
+// A message that came for a lookup, from the peer with this id: its body, and its view as receive or read gave it. 64 where the lookup is going, 67 where it
+// is complete, 68 where it was cut short, or a refusal. In C:
+//
+//     uint32_t starterbell_lookup_reply(const uint8_t *me, size_t me_length, uint8_t *lookup, size_t lookup_length, const uint8_t *id, size_t id_length,
+//         const uint8_t *body, size_t body_length, const uint64_t *view, size_t view_length, uint64_t *out, size_t out_length);
+#[no_mangle]
+pub extern "C" fn starterbell_lookup_reply(
+    me: &[u8],
+    memory: &mut [u8],
+    id: &[u8],
+    body: &[u8],
+    view: &[u64],
+    out: &mut [u64],
+) -> u32
+    ensures { λ r. ⌜ Replies (now (me .entry)) (now (memory .entry)) (now (id .entry)) (now (body .entry)) (now (view .entry)) (now (out .entry)) r (now (memory .exit)) (now (out .exit)) ⌝ }
+{
+    if me.len() < flat::PEER {
+        return 0;
+    }
+    if memory.len() < flat_lookup::SIZE {
+        return 0;
+    }
+    let p = flat::peer_in(me);
+    let l = flat_lookup::lookup_in(memory);
+    let s = host_calls::lookup_reply(p, l, id, body, view_in(view));
+    let a = s.answer;
+    keep_step(memory, s);
+    put_step(out, s);
+    step_code(a)
+}
+
+// The peer with this id failed a lookup. Returns what a reply returns. In C:
+//
+//     uint32_t starterbell_lookup_failure(const uint8_t *me, size_t me_length, uint8_t *lookup, size_t lookup_length, const uint8_t *id, size_t id_length,
+//         uint64_t *out, size_t out_length);
+#[no_mangle]
+pub extern "C" fn starterbell_lookup_failure(
+    me: &[u8],
+    memory: &mut [u8],
+    id: &[u8],
+    out: &mut [u64],
+) -> u32
+    ensures { λ r. ⌜ Fails (now (me .entry)) (now (memory .entry)) (now (id .entry)) (now (out .entry)) r (now (memory .exit)) (now (out .exit)) ⌝ }
+{
+    if me.len() < flat::PEER {
+        return 0;
+    }
+    if memory.len() < flat_lookup::SIZE {
+        return 0;
+    }
+    let p = flat::peer_in(me);
+    let l = flat_lookup::lookup_in(memory);
+    let s = host_calls::lookup_failure(p, l, id);
+    let a = s.answer;
+    keep_step(memory, s);
+    put_step(out, s);
+    step_code(a)
 }
