@@ -1,0 +1,247 @@
+-- What a call hands over is what the functions below it gave. Assumes nothing.
+use Prim.Native.Nat.{ℕ, _<_, _≤_}
+use mathlib.Core.Path.{_≡_, refl, sym, ap, _∙_}
+use mathlib.Core.Bool.{Bool, true, false, cond, _||_}
+use mathlib.Core.List.{List, [], _∷_}
+use lib.ListN.{length}
+use lib.Seq.{sets}
+use lib.Dec.{leb, eqb}
+use borrow.Author.Tests.{lt-ltb, le-ltb, le-leb, lt-leb}
+use Rattle.octets.proofs.Bools.{or-l, or-off, cond-yes, cond-no}
+use Rattle.octets.proofs.Stores.{sets-append}
+use Rattle.refusal.specs.declared.Refusal.{Refusal}
+use Rattle.refusal.specs.Refusal.{numberOf}
+use Rattle.peer.specs.declared.Peer.{Peer}
+use Rattle.stream.specs.declared.Framing.{Framing}
+use Rattle.stream.specs.declared.Ending.{Ending}
+use Rattle.stream.specs.declared.Ending.the-variants as ending
+use Rattle.contact_calls.specs.declared.SeenOutcome.{SeenOutcome}
+use Rattle.contact_calls.specs.declared.SettleOutcome.{SettleOutcome}
+use Rattle.contact_calls.specs.declared.RemoveOutcome.{RemoveOutcome}
+use Rattle.message.specs.declared.Fields.{Fields}
+use Rattle.writer.specs.declared.Written.{Written}
+use Rattle.writer.specs.Writer.{messageWith, answerOf, outAfter}
+use Rattle.node.specs.declared.Told.{Told}
+use Rattle.node.specs.declared.Told.the-variants as told
+use Rattle.node.specs.declared.Conn.{Conn}
+use Rattle.node.specs.declared.Started.{Started}
+use Rattle.node.specs.declared.Opened.{Opened}
+use Rattle.node.specs.declared.Ended.{Ended}
+use Rattle.node.specs.Box.{startOf, openOf, endConn}
+use Rattle.host_calls.specs.declared.Nearby.{Nearby}
+use Rattle.host_calls.specs.Hosts.{seenOf, seenAfter, settleOf, settleAfter, removeOf, removeAfter, nearestTo}
+use Rattle.flat.specs.Flat.{peerIn, connIn, saysYes, peerBytes, connBytes, withFraming}
+use Rattle.host.specs.Host.{lent, lentBoth, toldCode, unlessRefused, boxAfter, startCode, startMemory, openFor, openCode, openMemory, changesNothing, refusedFraming, endingCode, endingFraming, endedMemory, endCode, endMemory, seenNumber, seenNumbers, seenCode, seenContacts, seenOut, settleNumber, settleCode, settleContacts, removeNumber, removeCode, removeContacts, nearestNumbers, nearestCode, nearestOut, viewNumbers, writeNumber, writeNumbers}
+
+-- ---- by the case of an answer
+pub by-case : {A B : Type 0} (f : A → B) (a v : A) (x : B) → a ≡ v → x ≡ f v → x ≡ f a
+by-case f a v x e h = h ∙ sym (ap f e)
+
+-- ---- memory of enough bytes
+module _ {A : Type 0} (n : ℕ) (s : List ℕ) (x y : A) where
+  pub lent-short : length s < n → x ≡ lent n s x y
+  unfolding lent
+  lent-short l = sym (cond-yes _ x y (lt-ltb (length s) n l))
+
+  pub lent-enough : n ≤ length s → y ≡ lent n s x y
+  unfolding lent
+  lent-enough l = sym (cond-no _ x y (le-ltb (length s) n l))
+
+module _ {A : Type 0} (me conn : List ℕ) (x y : A) where
+  pub both-short : length me < 616 → x ≡ lentBoth me conn x y
+  both-short l = lent-short 616 me x (lent 640 conn x y) l
+
+  pub both-second : 616 ≤ length me → length conn < 640 → x ≡ lentBoth me conn x y
+  both-second l m = lent-short 640 conn x y m ∙ lent-enough 616 me x (lent 640 conn x y) l
+
+  pub both-enough : 616 ≤ length me → 640 ≤ length conn → y ≡ lentBoth me conn x y
+  both-enough l m = lent-enough 640 conn x y m ∙ lent-enough 616 me x (lent 640 conn x y) l
+
+-- ---- start
+module _ (me : List ℕ) (s : Started) where
+  pub box-kept : (new : List ℕ) → s .told ≡ told.Fine → new ≡ sets me 0 (peerBytes (s .me)) → (64 ≡ toldCode (s .told)) × (new ≡ boxAfter me s)
+  box-kept new e h = (sym (ap toldCode e), h ∙ sym (ap (λ (t : Told). unlessRefused t (sets me 0 (peerBytes (s .me))) me) e))
+
+  pub box-left : (n : ℕ) (r : Refusal) → s .told ≡ told.Refused r → n ≡ numberOf r → (n ≡ toldCode (s .told)) × (me ≡ boxAfter me s)
+  box-left n r e h = (h ∙ sym (ap toldCode e), sym (ap (λ (t : Told). unlessRefused t (sets me 0 (peerBytes (s .me))) me) e))
+
+module _ (me id addresses : List ℕ) where
+  pub start-short : length me < 616 → (0 ≡ startCode me id addresses) × (me ≡ startMemory me id addresses)
+  start-short l = (lent-short 616 me 0 (toldCode (startOf id addresses .told)) l, lent-short 616 me me (boxAfter me (startOf id addresses)) l)
+
+  pub start-done : (n : ℕ) (new : List ℕ) (s : Started) → 616 ≤ length me → s ≡ startOf id addresses → (n ≡ toldCode (s .told)) × (new ≡ boxAfter me s)
+      → (n ≡ startCode me id addresses) × (new ≡ startMemory me id addresses)
+  start-done n new s l e h = (
+    h .0 ∙ ap (λ (x : Started). toldCode (x .told)) e ∙ lent-enough 616 me 0 (toldCode (startOf id addresses .told)) l,
+    h .1 ∙ ap (boxAfter me) e ∙ lent-enough 616 me me (boxAfter me (startOf id addresses)) l,
+  )
+
+-- ---- open
+module _ (me conn id : List ℕ) (server asking : ℕ) (addresses : List ℕ) where
+  pub open-short : length me < 616
+      → (0 ≡ openCode me conn id server asking addresses) × (conn ≡ openMemory me conn id server asking addresses)
+  open-short l = (both-short me conn 0 _ l, both-short me conn conn _ l)
+
+  pub open-second : 616 ≤ length me → length conn < 640
+      → (0 ≡ openCode me conn id server asking addresses) × (conn ≡ openMemory me conn id server asking addresses)
+  open-second l m = (both-second me conn 0 _ l m, both-second me conn conn _ l m)
+
+  opened : (p : Peer) (s a : Bool) (o : Opened) → p ≡ peerIn me → s ≡ saysYes server → a ≡ saysYes asking → o ≡ openOf p id s a addresses
+      → o ≡ openFor me id server asking addresses
+  opened p s a o ep es ea eo =
+      eo ∙ ap (λ (x : Peer). openOf x id s a addresses) ep
+      ∙ ap (λ (x : Bool). openOf (peerIn me) id x a addresses) es
+      ∙ ap (λ (x : Bool). openOf (peerIn me) id (saysYes server) x addresses) ea
+
+  pub open-done : (n : ℕ) (new : List ℕ) (p : Peer) (s a : Bool) (o : Opened) → 616 ≤ length me → 640 ≤ length conn
+      → p ≡ peerIn me → s ≡ saysYes server → a ≡ saysYes asking → o ≡ openOf p id s a addresses
+      → n ≡ toldCode (o .told) → new ≡ sets conn 0 (connBytes (o .conn))
+      → (n ≡ openCode me conn id server asking addresses) × (new ≡ openMemory me conn id server asking addresses)
+  open-done n new p s a o l m ep es ea eo hn hc =
+      let e = opened p s a o ep es ea eo in (
+        hn ∙ ap (λ (x : Opened). toldCode (x .told)) e ∙ both-enough me conn 0 (toldCode (openFor me id server asking addresses .told)) l m,
+        hc ∙ ap (λ (x : Opened). sets conn 0 (connBytes (x .conn))) e
+            ∙ both-enough me conn conn (sets conn 0 (connBytes (openFor me id server asking addresses .conn))) l m,
+      )
+
+-- ---- end
+module _ (r : Refusal) (n : ℕ) (e : n ≡ numberOf r) where
+  pub changes-low : n ≤ 2 → true ≡ changesNothing r
+  unfolding changesNothing
+  changes-low l = sym (or-l (leb (numberOf r) 2) (eqb (numberOf r) 12) (ap (λ (x : ℕ). leb x 2) (sym e) ∙ le-leb n 2 l))
+
+  pub changes-high : 2 < n → eqb n 12 ≡ changesNothing r
+  unfolding changesNothing
+  changes-high l =
+      ap (λ (x : ℕ). eqb x 12) e ∙ sym (or-off (leb (numberOf r) 2) (eqb (numberOf r) 12) (ap (λ (x : ℕ). leb x 2) (sym e) ∙ lt-leb n 2 l))
+
+module _ (conn : List ℕ) (f : Framing) (r : Refusal) (b : Bool) (e : b ≡ changesNothing r) where
+  pub framing-left : b ≡ true → conn ≡ refusedFraming conn f r
+  framing-left h = sym (cond-yes (changesNothing r) conn (withFraming conn f) (sym e ∙ h))
+
+  pub framing-written : (new : List ℕ) → b ≡ false → new ≡ withFraming conn f → new ≡ refusedFraming conn f r
+  framing-written new h w = w ∙ sym (cond-no (changesNothing r) conn (withFraming conn f) (sym e ∙ h))
+
+module _ (conn : List ℕ) (x : Ended) where
+  pub end-clean : (new : List ℕ) → x .answer ≡ ending.Clean → new ≡ withFraming conn (x .conn .framing)
+      → (64 ≡ endingCode (x .answer)) × (new ≡ endedMemory conn x)
+  end-clean new e h = (sym (ap endingCode e), h ∙ sym (ap (endingFraming conn (x .conn .framing)) e))
+
+  pub end-refused : (new : List ℕ) (n : ℕ) (r : Refusal) → x .answer ≡ ending.Refused r
+      → (n ≡ numberOf r) × (new ≡ refusedFraming conn (x .conn .framing) r) → (n ≡ endingCode (x .answer)) × (new ≡ endedMemory conn x)
+  end-refused new n r e h = (h .0 ∙ sym (ap endingCode e), h .1 ∙ sym (ap (endingFraming conn (x .conn .framing)) e))
+
+module _ (me conn : List ℕ) where
+  pub end-short : length me < 616 → (0 ≡ endCode me conn) × (conn ≡ endMemory me conn)
+  end-short l = (both-short me conn 0 _ l, both-short me conn conn _ l)
+
+  pub end-second : 616 ≤ length me → length conn < 640 → (0 ≡ endCode me conn) × (conn ≡ endMemory me conn)
+  end-second l m = (both-second me conn 0 _ l m, both-second me conn conn _ l m)
+
+  pub end-done : (n : ℕ) (new : List ℕ) (p : Peer) (c : Conn) (x : Ended) → 616 ≤ length me → 640 ≤ length conn → p ≡ peerIn me → c ≡ connIn conn
+      → x ≡ endConn p c → (n ≡ endingCode (x .answer)) × (new ≡ endedMemory conn x) → (n ≡ endCode me conn) × (new ≡ endMemory me conn)
+  end-done n new p c x l m ep ec ex h =
+      let e = ex ∙ ap (λ (y : Peer). endConn y c) ep ∙ ap (endConn (peerIn me)) ec in (
+        h .0 ∙ ap (λ (y : Ended). endingCode (y .answer)) e ∙ both-enough me conn 0 (endingCode (endConn (peerIn me) (connIn conn) .answer)) l m,
+        h .1 ∙ ap (endedMemory conn) e ∙ both-enough me conn conn (endedMemory conn (endConn (peerIn me) (connIn conn))) l m,
+      )
+
+-- ---- contacts
+module _ (me t id : List ℕ) (client : ℕ) (addresses out : List ℕ) where
+  pub seen-short : length me < 616
+      → (0 ≡ seenCode me t id client) × (t ≡ seenContacts me t id client addresses) × (out ≡ seenOut me t id client out)
+  seen-short l = (lent-short 616 me 0 _ l, lent-short 616 me t _ l, lent-short 616 me out _ l)
+
+  pub seen-done : (n : ℕ) (new wrote : List ℕ) (p : Peer) (b : Bool) (o : SeenOutcome) → 616 ≤ length me → p ≡ peerIn me → b ≡ saysYes client
+      → (o ≡ seenOf p t id b) × (new ≡ seenAfter p t id b addresses) → (n ≡ seenNumber o) × (wrote ≡ seenNumbers out o)
+      → (n ≡ seenCode me t id client) × (new ≡ seenContacts me t id client addresses) × (wrote ≡ seenOut me t id client out)
+  seen-done n new wrote p b o l ep eb h a =
+      let e = h .0 ∙ ap (λ (x : Peer). seenOf x t id b) ep ∙ ap (seenOf (peerIn me) t id) eb in (
+        a .0 ∙ ap seenNumber e ∙ lent-enough 616 me 0 (seenNumber (seenOf (peerIn me) t id (saysYes client))) l,
+        h .1 ∙ ap (λ (x : Peer). seenAfter x t id b addresses) ep ∙ ap (λ (x : Bool). seenAfter (peerIn me) t id x addresses) eb
+            ∙ lent-enough 616 me t (seenAfter (peerIn me) t id (saysYes client) addresses) l,
+        a .1 ∙ ap (seenNumbers out) e ∙ lent-enough 616 me out (seenNumbers out (seenOf (peerIn me) t id (saysYes client))) l,
+      )
+
+module _ (me t head id : List ℕ) (client : ℕ) (addresses : List ℕ) (answered : ℕ) where
+  pub settle-short : length me < 616
+      → (0 ≡ settleCode me t head id client answered) × (t ≡ settleContacts me t head id client addresses answered)
+  settle-short l = (lent-short 616 me 0 _ l, lent-short 616 me t _ l)
+
+  pub settle-done : (n : ℕ) (new : List ℕ) (p : Peer) (b a : Bool) (o : SettleOutcome) → 616 ≤ length me → p ≡ peerIn me → b ≡ saysYes client
+      → a ≡ saysYes answered → (o ≡ settleOf p t head id b a) × (new ≡ settleAfter p t head id b addresses a) → n ≡ settleNumber o
+      → (n ≡ settleCode me t head id client answered) × (new ≡ settleContacts me t head id client addresses answered)
+  settle-done n new p b a o l ep eb ea h hn = (
+    hn ∙ ap settleNumber (
+        h .0 ∙ ap (λ (x : Peer). settleOf x t head id b a) ep
+        ∙ ap (λ (x : Bool). settleOf (peerIn me) t head id x a) eb
+        ∙ ap (settleOf (peerIn me) t head id (saysYes client)) ea
+        )
+        ∙ lent-enough 616 me 0 (settleNumber (settleOf (peerIn me) t head id (saysYes client) (saysYes answered))) l,
+    h .1 ∙ ap (λ (x : Peer). settleAfter x t head id b addresses a) ep
+        ∙ ap (λ (x : Bool). settleAfter (peerIn me) t head id x addresses a) eb
+        ∙ ap (settleAfter (peerIn me) t head id (saysYes client) addresses) ea
+        ∙ lent-enough 616 me t (settleAfter (peerIn me) t head id (saysYes client) addresses (saysYes answered)) l,
+  )
+
+module _ (me t id : List ℕ) where
+  pub remove-short : length me < 616 → (0 ≡ removeCode me t id) × (t ≡ removeContacts me t id)
+  remove-short l = (lent-short 616 me 0 _ l, lent-short 616 me t _ l)
+
+  pub remove-done : (n : ℕ) (new : List ℕ) (p : Peer) (o : RemoveOutcome) → 616 ≤ length me → p ≡ peerIn me
+      → (o ≡ removeOf p t id) × (new ≡ removeAfter p t id) → n ≡ removeNumber o → (n ≡ removeCode me t id) × (new ≡ removeContacts me t id)
+  remove-done n new p o l ep h hn = (
+    hn ∙ ap removeNumber (h .0 ∙ ap (λ (x : Peer). removeOf x t id) ep) ∙ lent-enough 616 me 0 (removeNumber (removeOf (peerIn me) t id)) l,
+    h .1 ∙ ap (λ (x : Peer). removeAfter x t id) ep ∙ lent-enough 616 me t (removeAfter (peerIn me) t id) l,
+  )
+
+module _ (out : List ℕ) (x : Nearby) where
+  pub near-told : (one two : List ℕ) → x .told ≡ told.Fine → one ≡ sets out 0 (x .closest .n ∷ []) → two ≡ sets one 1 (x .closest .at)
+      → (64 ≡ toldCode (x .told)) × (two ≡ nearestNumbers out x)
+  near-told one two e h k = (
+    sym (ap toldCode e),
+    k ∙ ap (λ (s : List ℕ). sets s 1 (x .closest .at)) h
+        ∙ sym (sets-append out 0 (x .closest .n ∷ []) (x .closest .at))
+        ∙ sym (ap (λ (t : Told). unlessRefused t (sets out 0 (x .closest .n ∷ x .closest .at)) out) e),
+  )
+
+  pub near-refused : (n : ℕ) (r : Refusal) → x .told ≡ told.Refused r → n ≡ numberOf r → (n ≡ toldCode (x .told)) × (out ≡ nearestNumbers out x)
+  near-refused n r e h = (
+    h ∙ sym (ap toldCode e),
+    sym (ap (λ (t : Told). unlessRefused t (sets out 0 (x .closest .n ∷ x .closest .at)) out) e),
+  )
+
+module _ (me t key out : List ℕ) where
+  pub nearest-short : length me < 616 → (0 ≡ nearestCode me t key) × (out ≡ nearestOut me t key out)
+  nearest-short l = (lent-short 616 me 0 _ l, lent-short 616 me out _ l)
+
+  pub nearest-done : (n : ℕ) (new : List ℕ) (p : Peer) (x : Nearby) → 616 ≤ length me → p ≡ peerIn me → x ≡ nearestTo p t key
+      → (n ≡ toldCode (x .told)) × (new ≡ nearestNumbers out x) → (n ≡ nearestCode me t key) × (new ≡ nearestOut me t key out)
+  nearest-done n new p x l ep ex h =
+      let e = ex ∙ ap (λ (y : Peer). nearestTo y t key) ep in (
+        h .0 ∙ ap (λ (y : Nearby). toldCode (y .told)) e ∙ lent-enough 616 me 0 (toldCode (nearestTo (peerIn me) t key .told)) l,
+        h .1 ∙ ap (nearestNumbers out) e ∙ lent-enough 616 me out (nearestNumbers out (nearestTo (peerIn me) t key)) l,
+      )
+
+-- ---- messages
+pub view-written : (out new : List ℕ) (at n : ℕ) (m : Fields) → n ≡ cond (m .held .there) 1 0
+    → new ≡ sets out at (m .kind ∷ m .key .at ∷ m .key .end ∷ n ∷ m .held .key .at ∷ m .held .key .end ∷ m .held .value .at ∷ m .held .value .end ∷ [])
+    → new ≡ sets out at (viewNumbers m)
+view-written out new at n m e h =
+    h ∙ ap (λ (x : ℕ).
+    sets out at (m .kind ∷ m .key .at ∷ m .key .end ∷ x ∷ m .held .key .at ∷ m .held .key .end ∷ m .held .value .at ∷ m .held .value .end ∷ [])) e
+
+module _ (message : List ℕ) (kind : ℕ) (key : List ℕ) (held : ℕ) (rkey value closer providers out : List ℕ) where
+  pub write-done : (n : ℕ) (new wrote : List ℕ) (b : Bool) (w : Written) → b ≡ saysYes held
+      → (w ≡ answerOf message (messageWith kind key b rkey value closer providers))
+      × (new ≡ outAfter message (messageWith kind key b rkey value closer providers))
+      → (n ≡ writeNumber w) × (wrote ≡ writeNumbers out w)
+      → (n ≡ writeNumber (answerOf message (messageWith kind key (saysYes held) rkey value closer providers)))
+      × (new ≡ outAfter message (messageWith kind key (saysYes held) rkey value closer providers))
+      × (wrote ≡ writeNumbers out (answerOf message (messageWith kind key (saysYes held) rkey value closer providers)))
+  write-done n new wrote b w eb h a =
+      let e = h .0 ∙ ap (λ (x : Bool). answerOf message (messageWith kind key x rkey value closer providers)) eb in (
+        a .0 ∙ ap writeNumber e,
+        h .1 ∙ ap (λ (x : Bool). outAfter message (messageWith kind key x rkey value closer providers)) eb,
+        a .1 ∙ ap (writeNumbers out) e,
+      )

@@ -1,0 +1,76 @@
+-- What a receive hands over is what the box below it gave. Assumes nothing.
+use Prim.Native.Nat.{ℕ, _<_, _≤_}
+use mathlib.Core.Path.{_≡_, refl, sym, ap, _∙_}
+use mathlib.Core.List.{List, [], _∷_, _++_}
+use lib.ListN.{length}
+use lib.Seq.{sets}
+use Rattle.octets.proofs.Stores.{sets-append}
+use Rattle.peer.specs.declared.Peer.{Peer}
+use Rattle.node.specs.declared.Conn.{Conn}
+use Rattle.node.specs.declared.Received.{Received}
+use Rattle.node.specs.Node.{Out, Gives, receiveOf}
+use Rattle.flat.specs.Flat.{peerIn, connIn}
+use Rattle.host.specs.Host.{lentBoth, answerNumber, answerLength, answerView, sightNumber, sightSlot, receivedNumbers, receivedMemory, nothingTaken, receiveFor, Receives}
+use Rattle.host.proofs.Handing.{both-short, both-second, both-enough}
+
+-- the first four numbers, then the view
+module _ (out : List ℕ) (g : Received) (l n s : ℕ) where
+  head-is : l ≡ answerLength (g .answer) → n ≡ sightNumber (g .sight) → s ≡ sightSlot (g .sight)
+      → _≡_ {A = List ℕ} (g .taken ∷ l ∷ n ∷ s ∷ []) (g .taken ∷ answerLength (g .answer) ∷ sightNumber (g .sight) ∷ sightSlot (g .sight) ∷ [])
+  head-is el en es =
+      ap (λ (x : ℕ). g .taken ∷ x ∷ n ∷ s ∷ []) el
+      ∙ ap (λ (x : ℕ). g .taken ∷ answerLength (g .answer) ∷ x ∷ s ∷ []) en
+      ∙ ap (λ (x : ℕ). g .taken ∷ answerLength (g .answer) ∷ sightNumber (g .sight) ∷ x ∷ []) es
+
+  pub received-written : (one two : List ℕ) → l ≡ answerLength (g .answer) → n ≡ sightNumber (g .sight) → s ≡ sightSlot (g .sight)
+      → one ≡ sets out 0 (g .taken ∷ l ∷ n ∷ s ∷ []) → two ≡ sets one 4 (answerView (g .answer)) → two ≡ receivedNumbers out g
+  received-written one two el en es h k =
+      k ∙ ap (λ (x : List ℕ). sets x 4 (answerView (g .answer))) (h ∙ ap (sets out 0) (head-is el en es))
+      ∙ sym (sets-append out 0 (g .taken ∷ answerLength (g .answer) ∷ sightNumber (g .sight) ∷ sightSlot (g .sight) ∷ []) (answerView (g .answer)))
+
+module _ (me conn m bs t k y out : List ℕ) where
+  pub receive-short : (r : ℕ) (out′ : List ℕ) → length me < 616 → (r ≡ 0) × (out′ ≡ nothingTaken out)
+      → Receives me conn m bs t k y out r conn m t k y out′
+  receive-short r out′ l h = record {
+    code = h .0 ∙ both-short me conn 0 (answerNumber (receiveFor me conn m bs t k y .got .answer)) l;
+    connection = both-short me conn conn _ l;
+    buffer = both-short me conn m _ l;
+    contacts = both-short me conn t _ l;
+    records = both-short me conn k _ l;
+    reply = both-short me conn y _ l;
+    numbers = h .1 ∙ both-short me conn (nothingTaken out) (receivedNumbers out (receiveFor me conn m bs t k y .got)) l;
+  }
+
+  pub receive-second : (r : ℕ) (out′ : List ℕ) → 616 ≤ length me → length conn < 640 → (r ≡ 0) × (out′ ≡ nothingTaken out)
+      → Receives me conn m bs t k y out r conn m t k y out′
+  receive-second r out′ l s h = record {
+    code = h .0 ∙ both-second me conn 0 (answerNumber (receiveFor me conn m bs t k y .got .answer)) l s;
+    connection = both-second me conn conn _ l s;
+    buffer = both-second me conn m _ l s;
+    contacts = both-second me conn t _ l s;
+    records = both-second me conn k _ l s;
+    reply = both-second me conn y _ l s;
+    numbers = h .1 ∙ both-second me conn (nothingTaken out) (receivedNumbers out (receiveFor me conn m bs t k y .got)) l s;
+  }
+
+  same-call : (p : Peer) (c : Conn) → p ≡ peerIn me → c ≡ connIn conn → receiveOf p c m bs t k y ≡ receiveFor me conn m bs t k y
+  same-call p c ep ec = ap (λ (x : Peer). receiveOf x c m bs t k y) ep ∙ ap (λ (x : Conn). receiveOf (peerIn me) x m bs t k y) ec
+
+  pub receive-done : (p : Peer) (c : Conn) (g : Received) (r : ℕ) (conn′ m′ t′ k′ y′ out′ : List ℕ) → 616 ≤ length me → 640 ≤ length conn
+      → p ≡ peerIn me → c ≡ connIn conn → Gives (receiveOf p c m bs t k y) g m′ t′ k′ y′
+      → (r ≡ answerNumber (g .answer)) × (conn′ ≡ receivedMemory conn g) × (out′ ≡ receivedNumbers out g)
+      → Receives me conn m bs t k y out r conn′ m′ t′ k′ y′ out′
+  receive-done p c g r conn′ m′ t′ k′ y′ out′ l s ep ec h a =
+      let e = same-call p c ep ec in
+      let f = h .got ∙ ap (λ (o : Out). o .got) e in
+      record {
+        code = a .0 ∙ ap (λ (x : Received). answerNumber (x .answer)) f
+            ∙ both-enough me conn 0 (answerNumber (receiveFor me conn m bs t k y .got .answer)) l s;
+        connection = a .1 ∙ ap (receivedMemory conn) f ∙ both-enough me conn conn (receivedMemory conn (receiveFor me conn m bs t k y .got)) l s;
+        buffer = h .buffer ∙ ap (λ (o : Out). o .buffer) e ∙ both-enough me conn m (receiveFor me conn m bs t k y .buffer) l s;
+        contacts = h .contacts ∙ ap (λ (o : Out). o .contacts) e ∙ both-enough me conn t (receiveFor me conn m bs t k y .contacts) l s;
+        records = h .records ∙ ap (λ (o : Out). o .records) e ∙ both-enough me conn k (receiveFor me conn m bs t k y .records) l s;
+        reply = h .reply ∙ ap (λ (o : Out). o .reply) e ∙ both-enough me conn y (receiveFor me conn m bs t k y .reply) l s;
+        numbers = a .2 ∙ ap (receivedNumbers out) f
+            ∙ both-enough me conn (nothingTaken out) (receivedNumbers out (receiveFor me conn m bs t k y .got)) l s;
+      }
