@@ -13,7 +13,7 @@ use Rattle.answer.specs.Answers.{keyFits}
 use Rattle.node.specs.Box.{ownFits}
 use Rattle.node.specs.declared.Told.the-variants.{Fine, Refused}
 use Rattle.host_calls.specs.declared.Nearby.{Nearby}
-unfoldable pub use Rattle.host_contacts.specs.Contacts.{gated, seenOf, seenAfter, settleOf, settleAfter, removeOf, removeAfter}
+unfoldable pub use Rattle.host_contacts.specs.Contacts.{seenOf, seenAfter, settleOf, settleAfter, removeOf, removeAfter}
 unfoldable pub use Rattle.host_lookups.specs.Lookups.{ownId, lookupStart, lookupReply, lookupFailure}
 
 -- the nearest contacts to a key: 0, 8 unless it has 1 to 128 bytes, 12
