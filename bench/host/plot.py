@@ -2,11 +2,12 @@
 import math
 from xml.sax.saxutils import escape
 
-WIDTH, LEFT, RIGHT, TOP, STEP = 900, 190, 30, 74, 34
+WIDTH, LEFT, RIGHT, TOP, STEP = 900, 190, 30, 96, 32
 LEAST, MOST = 1 / 8, 8
 COLOURS = {'plain Rust': '#1f6f8b', 'plain C': '#1f6f8b', 'plain C++': '#1f6f8b', 'memcpy': '#8a5a00', 'nanopb': '#7b3f98', 'protoc': '#b3261e', 'protoc, new': '#e08a7d',
            'OpenSSL': '#2e7d32', 'OpenSSL without SHA instructions': '#8bbf8e'}
-NAMES = {'plain Rust': 'plain Rust, C or C++', 'plain C': None, 'plain C++': None}
+# in the legend; None: one of the others says it
+NAMES = {'plain Rust': 'plain Rust, C or C++', 'plain C': None, 'plain C++': None, 'OpenSSL without SHA instructions': 'OpenSSL, no SHA instructions'}
 
 
 def across(ratio):
@@ -32,14 +33,14 @@ def grid(bottom):
 
 
 def legend(used, y):
-    parts, x = [], LEFT
+    parts, x = [], 40
     for way, colour in COLOURS.items():
         name = NAMES.get(way, way)
         if name is None or not any(COLOURS[one] == colour for one in used):
             continue
         parts.append('<circle cx="%.1f" cy="%.1f" r="5" fill="%s"/>' % (x, y - 4, colour))
         parts.append(text(x + 10, y, name, size=12))
-        x += 26 + 6.6 * len(name)
+        x += 34 + 7 * len(name)
     return parts
 
 
@@ -50,7 +51,7 @@ def picture(rows, about):
         lines.setdefault('%s: %s' % (row.script, row.benchmark), []).append(row)
     bottom = TOP + STEP * len(lines)
     parts = ['<svg xmlns="http://www.w3.org/2000/svg" width="%d" height="%d" viewBox="0 0 %d %d" font-family="sans-serif">' % (WIDTH, bottom + 62, WIDTH, bottom + 62),
-             '<rect width="100%" height="100%" fill="#fff"/>', text(20, 28, "Others' time to ours", size=18, more=' font-weight="bold"'), text(220, 28, about.split('. ')[0], size=12, colour='#555')]
+             '<rect width="100%" height="100%" fill="#fff"/>', text(20, 28, "Others' time to ours", size=18, more=' font-weight="bold"'), text(20, 50, about.split('. ')[0], size=12, colour='#555')]
     parts += grid(bottom)
     for at, (name, of) in enumerate(lines.items()):
         y = TOP + STEP * at + STEP / 2
