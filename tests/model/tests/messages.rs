@@ -56,7 +56,7 @@ fn view_holds(body: &[u8], m: &Message) {
 #[test]
 fn any_bytes_are_read_or_refused() {
     let mut rng = Rng::new(13);
-    let mut seen = [0usize; 3];
+    let mut seen = [0usize; 4];
     for _ in 0..20_000 {
         let body = gen::body(&mut rng);
         match decode(&body) {
@@ -67,11 +67,12 @@ fn any_bytes_are_read_or_refused() {
             }
             Err(Refusal::Malformed) => seen[1] += 1,
             Err(Refusal::UnknownType) => seen[2] += 1,
+            Err(Refusal::TooLong) => seen[3] += 1,
             Err(other) => panic!("{other:?}"),
         }
         assert_eq!(read(&body).err(), decode(&body).err());
     }
-    assert!(seen[0] > 5_000 && seen[1] > 3_000 && seen[2] > 50, "{seen:?}");
+    assert!(seen[0] > 5_000 && seen[1] > 3_000 && seen[2] > 50 && seen[3] > 50, "{seen:?}");
 }
 
 #[test]

@@ -35,6 +35,15 @@ pub fn table(rng: &mut Rng, ours: &Place, ids: &[Vec<u8>], slots: usize, clean: 
     contacts.iter().flat_map(|c| contact_slot(rng, c, clean)).collect()
 }
 
+/// A table of contacts as large as they can be: ids of 64 bytes and four addresses of 128. Buckets fill from the first.
+pub fn largest_table(rng: &mut Rng, ours: &Place, slots: usize) -> Vec<u8> {
+    let contact = |rng: &mut Rng, i: usize| {
+        let addresses = (0..limits::ADDRESSES).map(|_| rng.bytes(limits::ADDRESS)).collect();
+        Contact { rank: i % limits::NEAREST, place: place_in(rng, ours, i / limits::NEAREST), id: rng.bytes(limits::ID), addresses }
+    };
+    (0..slots).flat_map(|i| slot_bytes(&contact(rng, i))).collect()
+}
+
 fn contact_slot(rng: &mut Rng, contact: &Option<Contact>, clean: bool) -> Vec<u8> {
     let mut slot = match contact {
         Some(c) => slot_bytes(c),
@@ -112,6 +121,20 @@ pub fn store(rng: &mut Rng, keys: &[Vec<u8>], slots: usize, clean: bool) -> Vec<
     slots_used.iter().flat_map(|r| record_slot(rng, r, clean)).collect()
 }
 
+/// A store in form with a record in every slot; the first ones have the given keys.
+pub fn full_store(rng: &mut Rng, keys: &[Vec<u8>], slots: usize) -> Vec<u8> {
+    let mut own: BTreeSet<Vec<u8>> = BTreeSet::new();
+    let mut all = Vec::new();
+    while all.len() < slots {
+        let key = keys.get(all.len()).cloned().unwrap_or_else(|| wind_key(rng));
+        let key = if own.contains(&key) { wind_key(rng) } else { key };
+        if own.insert(key.clone()) {
+            all.push(key);
+        }
+    }
+    all.iter().flat_map(|key| records::slot_bytes(key, &recipe_value(rng))).collect()
+}
+
 fn record_slot(rng: &mut Rng, record: &Option<(Vec<u8>, Vec<u8>)>, clean: bool) -> Vec<u8> {
     let mut slot = match record {
         Some((key, value)) => records::slot_bytes(key, value),
@@ -177,6 +200,22 @@ pub fn odd_framing(rng: &mut Rng) -> Framing {
             Framing::Body { length, have: *rng.pick(&[0, 1, 4, 5, 16_383, 16_384, 20_000]) }
         }
     }
+}
+
+/// A lookup in form with so many candidates, some of them the given ids, with marks mostly of one kind.
+pub fn lookup_of(rng: &mut Rng, ids: &[Vec<u8>], count: usize) -> Lookup {
+    let n = rng.size(1, limits::KEY);
+    let key = rng.bytes(n);
+    let place = place_of(&key);
+    let usual = *rng.pick(&[Mark::Idle, Mark::Answered, Mark::Failed]);
+    let mut held = BTreeMap::new();
+    while held.len() < count {
+        let id = if held.len() < ids.len() && rng.one_in(2) { rng.pick(ids).clone() } else { id(rng) };
+        let mark = if rng.one_in(4) { *rng.pick(&[Mark::Idle, Mark::InFlight, Mark::Answered, Mark::Failed]) } else { usual };
+        let there = place_of(&id);
+        held.entry(distance(&there, &place)).or_insert(Candidate { mark, id, place: there });
+    }
+    Lookup { key, place, limit: rng.between(1, 10) as u64, candidates: held.into_values().collect(), turned_away: rng.one_in(4) }
 }
 
 /// A lookup that needn't be in form.

@@ -3,7 +3,7 @@
 use super::Rng;
 use crate::limits;
 use crate::message::{encode, Message, Peer, Record};
-use crate::wire::minimal;
+use crate::wire::{minimal, put_bytes};
 
 fn some_record(rng: &mut Rng) -> Record {
     let (n, m) = (rng.size(0, limits::KEY), rng.size(0, 300));
@@ -215,9 +215,25 @@ pub fn damaged_body(rng: &mut Rng, body: &[u8]) -> Vec<u8> {
     out
 }
 
+/// A body that means a message, filled up to a length with a field that is passed over; as it is where there is no room for that.
+pub fn filled_body(m: &Message, length: usize) -> Vec<u8> {
+    let mut body = encode(m);
+    let rest = length.saturating_sub(body.len());
+    for width in 1..=3 {
+        if rest > width && minimal((rest - 1 - width) as u64).len() == width {
+            put_bytes(&mut body, 4, &vec![7; rest - 1 - width]);
+            break;
+        }
+    }
+    body
+}
+
 /// A body to be read: exact, loose, damaged or noise.
 pub fn body(rng: &mut Rng) -> Vec<u8> {
     let m = message(rng);
+    if rng.one_in(60) {
+        return filled_body(&m, rng.between(limits::BODY - 1, limits::BODY + 1));
+    }
     match rng.below(10) {
         0 => {
             let n = rng.size(0, 40);

@@ -127,15 +127,30 @@ impl Source {
             }
             2..=12 => loose_body(&mut self.rng, &m),
             13 => encode(&message(&mut self.rng)),
+            14 if self.rng.one_in(4) => filled_body(&m, self.rng.between(limits::BODY - 1, limits::BODY + 1)),
             _ => encode(&m),
+        }
+    }
+
+    /// A message for a connection: a request, or on the asking side mostly what a peer answers to a lookup.
+    fn for_line(&mut self, world: &World, line: usize) -> Vec<u8> {
+        let conn = &world.lines[line].conn;
+        if conn.side == Side::Serving || self.rng.one_in(3) {
+            return self.request(world, &conn.peer.id);
+        }
+        let key = world.lookups.first().map(|l| l.key.clone()).unwrap_or_default();
+        let m = self.network.answer(&mut self.rng, &conn.peer.id, &key, &world.me.id);
+        if self.rng.one_in(3) {
+            loose_body(&mut self.rng, &m)
+        } else {
+            encode(&m)
         }
     }
 
     /// More bytes for a line: some messages, seldom a bad prefix.
     fn refill(&mut self, world: &World, line: usize) {
-        let requester = world.lines[line].conn.peer.id.clone();
         for _ in 0..self.rng.between(1, 4) {
-            let body = self.request(world, &requester);
+            let body = self.for_line(world, line);
             self.unsent[line].extend(framed(&body));
         }
         if self.rng.one_in(8) {
@@ -147,8 +162,9 @@ impl Source {
     fn on_line(&mut self, world: &World) -> Step {
         let line = self.rng.below(world.lines.len());
         self.unsent.resize(world.lines.len(), vec![]);
-        let shut = world.lines[line].conn.framing == Framing::Shut;
-        if shut && !self.rng.one_in(10) {
+        let conn = &world.lines[line].conn;
+        let dead = conn.framing == Framing::Shut || !conn.in_form(&world.me.place);
+        if dead && !self.rng.one_in(10) {
             self.unsent[line].clear();
             let side = if self.rng.one_in(5) { Side::Asking } else { Side::Serving };
             return Step::Open { line, id: self.id(world), mode: self.mode(), addresses: address_list(&mut self.rng), side };
