@@ -50,6 +50,13 @@ fn peer_in(bytes: &[u8]) -> (Vec<u8>, Place, Vec<Vec<u8>>) {
     (held(&bytes[40..104], bytes[2]), place_at(bytes, 8), (0..bytes[3] as usize).map(address).collect())
 }
 
+/// The places of a peer's bytes that say nothing: after its id, lengths past the number of addresses, after each address. For a peer in form.
+pub fn unsaid(peer: &[u8]) -> Vec<usize> {
+    let count = peer[3] as usize;
+    let room = |k: usize| (if k < count { 104 + 128 * k + peer[4 + k] as usize } else { 104 + 128 * k })..232 + 128 * k;
+    (40 + peer[2] as usize..104).chain(4 + count..8).chain((0..4).flat_map(room)).collect()
+}
+
 pub fn box_bytes(me: &Me) -> Vec<u8> {
     peer_bytes(&me.id, &me.place, &me.addresses)
 }

@@ -1,6 +1,6 @@
 //! Tables, stores, framings and lookups, in and out of form.
 
-use super::{id, odd_id, odd_key, place_in, recipe_value, usable_addresses, wind_key, Rng};
+use super::{id, largest_recipe, odd_id, odd_key, place_in, recipe_value, usable_addresses, wind_key, Rng};
 use crate::contacts::{slot_bytes, Contact};
 use crate::limits;
 use crate::lookup::{Candidate, Lookup, Mark};
@@ -132,7 +132,8 @@ pub fn full_store(rng: &mut Rng, keys: &[Vec<u8>], slots: usize) -> Vec<u8> {
             all.push(key);
         }
     }
-    all.iter().flat_map(|key| records::slot_bytes(key, &recipe_value(rng))).collect()
+    let value = |rng: &mut Rng| if rng.one_in(3) { largest_recipe(rng) } else { recipe_value(rng) };
+    all.iter().flat_map(|key| records::slot_bytes(key, &value(rng))).collect()
 }
 
 fn record_slot(rng: &mut Rng, record: &Option<(Vec<u8>, Vec<u8>)>, clean: bool) -> Vec<u8> {
@@ -207,11 +208,12 @@ pub fn lookup_of(rng: &mut Rng, ids: &[Vec<u8>], count: usize) -> Lookup {
     let n = rng.size(1, limits::KEY);
     let key = rng.bytes(n);
     let place = place_of(&key);
-    let usual = *rng.pick(&[Mark::Idle, Mark::Answered, Mark::Failed]);
+    let usual = *rng.pick(&[Mark::Idle, Mark::Answered, Mark::Answered, Mark::Failed]);
+    let other_one_in = *rng.pick(&[3, 20]);
     let mut held = BTreeMap::new();
     while held.len() < count {
         let id = if held.len() < ids.len() && rng.one_in(2) { rng.pick(ids).clone() } else { id(rng) };
-        let mark = if rng.one_in(4) { *rng.pick(&[Mark::Idle, Mark::InFlight, Mark::Answered, Mark::Failed]) } else { usual };
+        let mark = if rng.one_in(other_one_in) { *rng.pick(&[Mark::Idle, Mark::InFlight, Mark::InFlight, Mark::Answered, Mark::Failed]) } else { usual };
         let there = place_of(&id);
         held.entry(distance(&there, &place)).or_insert(Candidate { mark, id, place: there });
     }

@@ -39,6 +39,15 @@ pub fn recipe_value(rng: &mut Rng) -> Vec<u8> {
     recipe::write(&recipe(rng))
 }
 
+/// A value of 2,048 bytes that is a recipe.
+pub fn largest_recipe(rng: &mut Rng) -> Vec<u8> {
+    let mut made = recipe(rng);
+    made.note.clear();
+    let room = limits::VALUE - recipe::write(&made).len();
+    made.note = rng.bytes(room);
+    recipe::write(&made)
+}
+
 /// Setpoints of a recipe with one rule broken.
 fn broken_setpoints(rng: &mut Rng, mut list: Vec<Setpoint>) -> (Vec<u8>, usize) {
     if list.is_empty() {

@@ -127,7 +127,7 @@ impl Source {
             }
             2..=12 => loose_body(&mut self.rng, &m),
             13 => encode(&message(&mut self.rng)),
-            14 if self.rng.one_in(4) => filled_body(&m, self.rng.between(limits::BODY - 1, limits::BODY + 1)),
+            14 if self.rng.one_in(2) => filled_body(&m, self.rng.between(limits::BODY - 1, limits::BODY + 1)),
             _ => encode(&m),
         }
     }
@@ -135,8 +135,11 @@ impl Source {
     /// A message for a connection: a request, or on the asking side mostly what a peer answers to a lookup.
     fn for_line(&mut self, world: &World, line: usize) -> Vec<u8> {
         let conn = &world.lines[line].conn;
-        if conn.side == Side::Serving || self.rng.one_in(3) {
+        if conn.side == Side::Serving || self.rng.one_in(6) {
             return self.request(world, &conn.peer.id);
+        }
+        if self.rng.one_in(4) {
+            return body(&mut self.rng);
         }
         let key = world.lookups.first().map(|l| l.key.clone()).unwrap_or_default();
         let m = self.network.answer(&mut self.rng, &conn.peer.id, &key, &world.me.id);

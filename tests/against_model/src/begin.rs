@@ -1,0 +1,65 @@
+//! Worlds to begin with, each from its seed: mostly small, some at the limits of document 01.
+
+use crate::script::Script;
+use crate::twin::Twin;
+use starterbell_model::gen::{self, Rng, Source};
+use starterbell_model::limits::{CONTACT_SLOT, CONTACT_SLOTS, RECORD_SLOT, RECORD_SLOTS};
+use starterbell_model::steps::World;
+
+struct Size {
+    contacts: usize,
+    records: usize,
+    peers: usize,
+    steps: u64,
+}
+
+fn size(rng: &mut Rng) -> Size {
+    let contacts = *rng.pick(&[0, 1, 2, 5, 19, 20, 21, 22, 25, 30, 30, 40, 40, 50]);
+    let records = *rng.pick(&[0, 1, 1, 2, 3, 4, 6, 8]);
+    let peers = *rng.pick(&[30, 60, 100]);
+    match rng.below(200) {
+        0 => Size { contacts: rng.between(CONTACT_SLOTS - 2, CONTACT_SLOTS + 3), records, peers, steps: 60 },
+        1 => Size { contacts, records: rng.between(RECORD_SLOTS - 2, RECORD_SLOTS + 3), peers, steps: 150 },
+        2..=9 => Size { contacts: rng.between(60, 300), records: rng.between(9, 30), peers: 400, steps: 400 },
+        _ => Size { contacts, records, peers, steps: 1_000 },
+    }
+}
+
+/// Slots past the last that counts have noise.
+fn past_the_last(rng: &mut Rng, memory: &mut Vec<u8>, slot: usize, most: usize, slots: usize) {
+    if slots > most {
+        memory.truncate(slot * most);
+        let n = (slots - most) * slot + rng.below(slot);
+        memory.extend(rng.bytes(n));
+    }
+}
+
+fn world(rng: &mut Rng, source: &mut Source, size: &Size) -> World {
+    let (contacts, records) = (size.contacts.min(CONTACT_SLOTS), size.records.min(RECORD_SLOTS));
+    let (made_up, clean) = (rng.one_in(2), rng.one_in(2));
+    let mut world = source.world(contacts, records, rng.below(5), rng.below(4), made_up, clean);
+    let largest = rng.one_in(8);
+    if largest {
+        let n = contacts.min(5_000);
+        world.contacts[..n * CONTACT_SLOT].copy_from_slice(&gen::largest_table(rng, &world.me.place, n));
+    }
+    if largest || (records > 200 && rng.one_in(2)) {
+        world.records[..records * RECORD_SLOT].copy_from_slice(&gen::full_store(rng, &source.keys, records));
+    }
+    past_the_last(rng, &mut world.contacts, CONTACT_SLOT, CONTACT_SLOTS, size.contacts);
+    past_the_last(rng, &mut world.records, RECORD_SLOT, RECORD_SLOTS, size.records);
+    world
+}
+
+/// A world twice, what the host does with it, and for how many calls.
+pub fn begin(seed: u64) -> (Twin, Script, u64) {
+    let mut rng = Rng::new(seed ^ 0x5eed_0f_a_b0c5);
+    let size = size(&mut rng);
+    let mut source = Source::new(seed, size.peers);
+    source.poke_one_in = *rng.pick(&[0, 20, 40]);
+    let world = world(&mut rng, &mut source, &size);
+    let n = rng.below(9);
+    let twin = Twin::new(world, &rng.bytes(n));
+    let script = Script::new(rng, source, &twin);
+    (twin, script, size.steps)
+}
