@@ -3,7 +3,7 @@
 use crate::script::Script;
 use crate::twin::Twin;
 use starterbell_model::gen::{self, Rng, Source};
-use starterbell_model::limits::{CONTACT_SLOT, CONTACT_SLOTS, RECORD_SLOT, RECORD_SLOTS};
+use starterbell_model::limits::{CONTACT_SLOT, CONTACT_SLOTS, KEY, RECORD_SLOT, RECORD_SLOTS};
 use starterbell_model::steps::World;
 
 struct Size {
@@ -11,17 +11,21 @@ struct Size {
     records: usize,
     peers: usize,
     steps: u64,
+    /// Contacts, keys and values as large as they can be.
+    largest: bool,
 }
 
 fn size(rng: &mut Rng) -> Size {
     let contacts = *rng.pick(&[0, 1, 2, 5, 19, 20, 21, 22, 25, 30, 30, 40, 40, 50]);
     let records = *rng.pick(&[0, 1, 1, 2, 3, 4, 6, 8]);
     let peers = *rng.pick(&[30, 60, 100]);
-    match rng.below(200) {
-        0 => Size { contacts: rng.between(CONTACT_SLOTS - 2, CONTACT_SLOTS + 3), records, peers, steps: 60 },
-        1 => Size { contacts, records: rng.between(RECORD_SLOTS - 2, RECORD_SLOTS + 3), peers, steps: 150 },
-        2..=9 => Size { contacts: rng.between(60, 300), records: rng.between(9, 30), peers: 400, steps: 400 },
-        _ => Size { contacts, records, peers, steps: 1_000 },
+    let usual = Size { contacts, records, peers, steps: 1_000, largest: false };
+    match rng.below(150) {
+        0 => Size { contacts: rng.between(CONTACT_SLOTS - 2, CONTACT_SLOTS + 3), steps: 60, largest: rng.one_in(4), ..usual },
+        1 => Size { records: rng.between(RECORD_SLOTS - 2, RECORD_SLOTS + 3), steps: 150, largest: rng.one_in(2), ..usual },
+        2..=9 => Size { contacts: rng.between(60, 300), records: rng.between(9, 30), peers: 400, steps: 400, ..usual },
+        10..=25 => Size { contacts: rng.between(19, 40), records: rng.between(1, 12), largest: true, ..usual },
+        _ => usual,
     }
 }
 
@@ -37,13 +41,13 @@ fn past_the_last(rng: &mut Rng, memory: &mut Vec<u8>, slot: usize, most: usize, 
 fn world(rng: &mut Rng, source: &mut Source, size: &Size) -> World {
     let (contacts, records) = (size.contacts.min(CONTACT_SLOTS), size.records.min(RECORD_SLOTS));
     let (made_up, clean) = (rng.one_in(2), rng.one_in(2));
+    if size.largest {
+        source.keys.iter_mut().for_each(|key| key.resize(KEY, b'k'));
+    }
     let mut world = source.world(contacts, records, rng.below(5), rng.below(4), made_up, clean);
-    let largest = rng.one_in(8);
-    if largest {
+    if size.largest {
         let n = contacts.min(5_000);
         world.contacts[..n * CONTACT_SLOT].copy_from_slice(&gen::largest_table(rng, &world.me.place, n));
-    }
-    if largest || (records > 200 && rng.one_in(2)) {
         world.records[..records * RECORD_SLOT].copy_from_slice(&gen::full_store(rng, &source.keys, records));
     }
     past_the_last(rng, &mut world.contacts, CONTACT_SLOT, CONTACT_SLOTS, size.contacts);

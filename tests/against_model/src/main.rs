@@ -21,7 +21,7 @@ use std::sync::atomic::{AtomicBool, Ordering};
 use std::time::{Duration, Instant};
 
 /// In runs of at least so many calls everything that can come up has to, so often.
-const LONG: u64 = 500_000;
+const LONG: u64 = 1_000_000;
 const LEAST: u64 = 10;
 
 /// A difference: where it was found, and what it is.

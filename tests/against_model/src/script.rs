@@ -5,12 +5,13 @@ use crate::answer::{view_numbers, Answer};
 use crate::calls::{Call, Region};
 use crate::layout;
 use crate::twin::Twin;
-use starterbell_model::contacts::contact;
+use starterbell_model::contacts::{contact, in_form};
 use starterbell_model::gen::{self, Rng, Source};
 use starterbell_model::limits::{BODY, CONTACT_SLOT, RECORD_SLOT, REPLY};
-use starterbell_model::lookup::Lookup;
-use starterbell_model::message::{self, Message, View};
+use starterbell_model::lookup::{Lookup, Mark};
+use starterbell_model::message::{self, encode, Message, View};
 use starterbell_model::peer::Mode;
+use starterbell_model::records;
 use starterbell_model::steps::{Memory, Step};
 use starterbell_model::wire::Span;
 use starterbell_model::writer::{peer_list, peers_of};
@@ -202,7 +203,9 @@ impl Script {
 
     fn odd(&mut self, twin: &Twin) -> Action {
         let (lines, lookups) = (twin.world.lines.len(), twin.world.lookups.len());
-        match self.rng.below(18) {
+        match self.rng.below(20) {
+            18 => self.spoil(twin, Region::Contacts, CONTACT_SLOT),
+            19 => self.spoil(twin, Region::Records, RECORD_SLOT),
             16 if lines > 0 => {
                 let line = self.rng.below(lines);
                 Action::Call(self.call(Step::End { line }))
@@ -217,10 +220,7 @@ impl Script {
                 let region = Region::Lookup(self.rng.below(lookups));
                 self.poke_lookup(twin, region)
             }
-            9 | 17 if lookups > 0 => {
-                let region = Region::Lookup(self.rng.below(lookups));
-                Action::Write { region, at: 0, bytes: self.made_up_lookup() }
-            }
+            9 | 17 if lookups > 0 => self.new_lookup(lookups),
             10..=13 => {
                 let step = self.walk_peers();
                 Action::Call(self.call(step))
@@ -230,6 +230,26 @@ impl Script {
                 Action::Call(self.call(step))
             }
         }
+    }
+
+    /// A slot stands twice, or a contact has our place. Where that breaks the form it is set back after two calls: nothing else has changed then.
+    fn spoil(&mut self, twin: &Twin, region: Region, slot: usize) -> Action {
+        let bytes = twin.bytes(region);
+        let slots = (bytes.len() / slot).min(300);
+        if slots < 2 {
+            return Action::Call(self.call(Step::Find { key: vec![] }));
+        }
+        let (from, to) = (self.rng.below(slots) * slot, self.rng.below(slots) * slot);
+        let mut spoiled = bytes.to_vec();
+        spoiled.copy_within(from..from + slot, to);
+        if region == Region::Contacts && self.rng.one_in(3) {
+            spoiled[to + 8..to + 40].copy_from_slice(&twin.world.me.place);
+        }
+        let fits = if region == Region::Contacts { in_form(&spoiled, &twin.world.me.place) } else { records::in_form(&spoiled) };
+        if !fits {
+            self.later.push((2, Action::Write { region, at: to, bytes: bytes[to..to + slot].to_vec() }));
+        }
+        Action::Write { region, at: to, bytes: spoiled[to..to + slot].to_vec() }
     }
 
     /// A byte of the box is written over, and set back some calls later.
@@ -300,12 +320,32 @@ impl Script {
         Action::Write { region, at, bytes: vec![byte] }
     }
 
-    /// A lookup with noise where nothing is said.
-    fn made_up_lookup(&mut self) -> Vec<u8> {
+    /// A lookup is written over with a made-up one, and some of those in flight report.
+    fn new_lookup(&mut self, lookups: usize) -> Action {
         let rng = &mut self.rng;
+        let lookup = rng.below(lookups);
         let count = if rng.one_in(5) { *rng.pick(&[254, 255, 256, 256, 256, 257]) } else { *rng.pick(&[0, 1, 5, 19, 20, 21, 40]) };
-        let made: Lookup = if rng.one_in(4) { gen::odd_lookup(rng, &self.source.network.ids) } else { gen::lookup_of(rng, &self.source.network.ids, count) };
-        let mut bytes = layout::lookup_bytes(&made);
+        let ids = &self.source.network.ids;
+        let made: Lookup = if rng.one_in(4) { gen::odd_lookup(rng, ids) } else { gen::lookup_of(rng, ids, count) };
+        let bytes = self.noisy(&made);
+        let flying = made.candidates.iter().filter(|c| c.mark == Mark::InFlight);
+        for (i, sender) in flying.map(|c| c.id.clone()).take(self.rng.below(4)).enumerate() {
+            let mut m = self.source.network.answer(&mut self.rng, &sender, &made.key, b"ours");
+            m.closer.truncate(*self.rng.pick(&[0, 0, 1, 25]));
+            let body = encode(&m);
+            let view = view_meant(&[], &body);
+            let failed = self.rng.one_in(2);
+            let step = if failed { Step::Failure { lookup, sender } } else { Step::Reply { lookup, sender, view: message::read(&body).unwrap_or(view), body } };
+            let call = self.call(step);
+            self.later.push((i, Action::Call(call)));
+        }
+        Action::Write { region: Region::Lookup(lookup), at: 0, bytes }
+    }
+
+    /// A lookup's bytes, half of the time with noise where nothing is said.
+    fn noisy(&mut self, made: &Lookup) -> Vec<u8> {
+        let rng = &mut self.rng;
+        let mut bytes = layout::lookup_bytes(made);
         if rng.one_in(2) {
             return bytes;
         }

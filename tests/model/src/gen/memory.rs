@@ -132,7 +132,7 @@ pub fn full_store(rng: &mut Rng, keys: &[Vec<u8>], slots: usize) -> Vec<u8> {
             all.push(key);
         }
     }
-    let value = |rng: &mut Rng| if rng.one_in(3) { largest_recipe(rng) } else { recipe_value(rng) };
+    let value = |rng: &mut Rng| if rng.one_in(4) { recipe_value(rng) } else { largest_recipe(rng) };
     all.iter().flat_map(|key| records::slot_bytes(key, &value(rng))).collect()
 }
 

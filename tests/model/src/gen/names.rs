@@ -34,6 +34,21 @@ pub fn wind_key(rng: &mut Rng) -> Vec<u8> {
     [limits::WIND.to_vec(), rng.bytes(n)].concat()
 }
 
+/// Record keys, some of which differ from another one in their last byte alone, or go on where another ends.
+pub fn wind_keys(rng: &mut Rng, n: usize) -> Vec<Vec<u8>> {
+    let mut keys: Vec<Vec<u8>> = vec![wind_key(rng)];
+    while keys.len() < n {
+        let mut key = if rng.one_in(2) { wind_key(rng) } else { rng.pick(&keys).clone() };
+        match rng.below(3) {
+            0 => *key.last_mut().expect("7 bytes or more") ^= 1 << rng.below(8),
+            1 if key.len() < limits::KEY => key.push(rng.byte()),
+            _ => {}
+        }
+        keys.push(key);
+    }
+    keys
+}
+
 /// A key that is nearly a record key.
 pub fn odd_wind_key(rng: &mut Rng) -> Vec<u8> {
     let mut key = wind_key(rng);

@@ -33,7 +33,7 @@ impl Source {
     pub fn new(seed: u64, peers: usize) -> Source {
         let mut rng = Rng::new(seed);
         let network = Network::new(&mut rng, peers, 30);
-        let keys = (0..12).map(|_| wind_key(&mut rng)).collect();
+        let keys = wind_keys(&mut rng, 12);
         Source { rng, network, keys, pending: vec![], unsent: vec![], sequence: 0, poke_one_in: 0 }
     }
 
@@ -107,6 +107,27 @@ impl Source {
         recipe::write(&made)
     }
 
+    /// A value close to the one that is held under a key: the same, one that goes on after it or ends before it, or one with another byte.
+    fn near_held(&mut self, world: &World, key: &[u8]) -> Option<Vec<u8>> {
+        let mut value = records::find(&world.records, key).ok()??.value;
+        let end = value.len();
+        match self.rng.below(6) {
+            0 => {}
+            1 => value.extend([&16u32.to_le_bytes()[..], &[0, 0, 1, 0], &value[end - 8..].to_vec()].concat()),
+            2 if end >= 32 => value.truncate(end - 16),
+            3 => value[end - 8] = value[end - 8].wrapping_add(*self.rng.pick(&[1, 255])),
+            4 => value[0] = value[0].wrapping_add(*self.rng.pick(&[1, 255])),
+            _ => value[self.rng.below(end)] ^= 1 << self.rng.below(8),
+        }
+        Some(value)
+    }
+
+    /// A value for a key.
+    fn value_for(&mut self, world: &World, key: &[u8]) -> Vec<u8> {
+        let near = if self.rng.one_in(4) { self.near_held(world, key) } else { None };
+        near.unwrap_or_else(|| self.value())
+    }
+
     /// A request as a peer may send it; the requester's own id is a key now and then.
     pub fn request(&mut self, world: &World, requester: &[u8]) -> Vec<u8> {
         let kind = *self.rng.pick(&[0, 0, 1, 1, 4, 4, 4, 5]);
@@ -117,7 +138,7 @@ impl Source {
         if kind == message::PUT_VALUE {
             m.key = self.record_key();
             let key = if self.rng.one_in(20) { self.record_key() } else { m.key.clone() };
-            m.record = if self.rng.one_in(30) { None } else { Some(Record { key, value: self.value() }) };
+            m.record = if self.rng.one_in(30) { None } else { Some(Record { value: self.value_for(world, &key), key }) };
         }
         match self.rng.below(40) {
             0 => body(&mut self.rng),
@@ -178,7 +199,7 @@ impl Source {
         if self.unsent[line].is_empty() {
             self.refill(world, line);
         }
-        let most = *self.rng.pick(&[0, 1, 3, 64, 4_096, 40_000]);
+        let most = *self.rng.pick(&[0, 1, 3, 64, 500, 4_096, 40_000, 40_000, 40_000]);
         let n = self.rng.size(0, most).min(self.unsent[line].len());
         Step::Receive { line, piece: self.unsent[line][..n].to_vec() }
     }
@@ -287,7 +308,10 @@ impl Source {
             0 => Step::Read { body: body(&mut self.rng) },
             1 => Step::Write { message: message_to_write(&mut self.rng) },
             2 => Step::Find { key: if self.rng.one_in(4) { self.any_key(world) } else { self.record_key() } },
-            3..=4 => Step::Put { key: self.record_key(), value: self.value() },
+            3..=4 => {
+                let key = self.record_key();
+                Step::Put { value: self.value_for(world, &key), key }
+            }
             5..=9 => self.on_contacts(world),
             10..=13 if !world.lookups.is_empty() => self.on_lookup(world),
             _ if !world.lines.is_empty() => self.on_line(world),
