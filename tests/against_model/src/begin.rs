@@ -4,7 +4,8 @@ use crate::script::Script;
 use crate::twin::Twin;
 use starterbell_model::gen::{self, Rng, Source};
 use starterbell_model::limits::{CONTACT_SLOT, CONTACT_SLOTS, KEY, RECORD_SLOT, RECORD_SLOTS};
-use starterbell_model::steps::World;
+use starterbell_model::peer::Mode;
+use starterbell_model::steps::{Step, World};
 
 struct Size {
     contacts: usize,
@@ -18,7 +19,7 @@ struct Size {
 fn size(rng: &mut Rng) -> Size {
     let contacts = *rng.pick(&[0, 1, 2, 5, 19, 20, 21, 22, 25, 30, 30, 40, 40, 50]);
     let records = *rng.pick(&[0, 1, 1, 2, 3, 4, 6, 8]);
-    let peers = *rng.pick(&[30, 60, 100]);
+    let peers = *rng.pick(&[30, 60, 100, 150]);
     let usual = Size { contacts, records, peers, steps: 1_000, largest: false };
     match rng.below(150) {
         0 => Size { contacts: rng.between(CONTACT_SLOTS - 2, CONTACT_SLOTS + 3), steps: 60, largest: rng.one_in(4), ..usual },
@@ -38,6 +39,16 @@ fn past_the_last(rng: &mut Rng, memory: &mut Vec<u8>, slot: usize, most: usize, 
     }
 }
 
+/// All peers have been seen, and some are gone again: there are full buckets, with free slots among theirs.
+fn crowd(rng: &mut Rng, source: &Source, world: &mut World) {
+    for id in &source.network.ids {
+        world.run(&Step::Seen { id: id.clone(), mode: Mode::Server, addresses: gen::address_list(rng) });
+    }
+    for _ in 0..rng.below(6) {
+        world.run(&Step::Remove { id: rng.pick(&source.network.ids).clone() });
+    }
+}
+
 fn world(rng: &mut Rng, source: &mut Source, size: &Size) -> World {
     let (contacts, records) = (size.contacts.min(CONTACT_SLOTS), size.records.min(RECORD_SLOTS));
     let (made_up, clean) = (rng.one_in(2), rng.one_in(2));
@@ -49,6 +60,9 @@ fn world(rng: &mut Rng, source: &mut Source, size: &Size) -> World {
         let n = contacts.min(5_000);
         world.contacts[..n * CONTACT_SLOT].copy_from_slice(&gen::largest_table(rng, &world.me.place, n));
         world.records[..records * RECORD_SLOT].copy_from_slice(&gen::full_store(rng, &source.keys, records));
+    }
+    if !made_up && rng.one_in(2) {
+        crowd(rng, source, &mut world);
     }
     past_the_last(rng, &mut world.contacts, CONTACT_SLOT, CONTACT_SLOTS, size.contacts);
     past_the_last(rng, &mut world.records, RECORD_SLOT, RECORD_SLOTS, size.records);

@@ -203,7 +203,11 @@ impl Script {
 
     fn odd(&mut self, twin: &Twin) -> Action {
         let (lines, lookups) = (twin.world.lines.len(), twin.world.lookups.len());
-        match self.rng.below(20) {
+        match self.rng.below(21) {
+            20 if lines > 0 => {
+                let (line, at, n) = (self.rng.below(lines), self.rng.below(200), self.rng.between(1, 40));
+                Action::Write { region: Region::Buffer(line), at, bytes: self.rng.bytes(n) }
+            }
             18 => self.spoil(twin, Region::Contacts, CONTACT_SLOT),
             19 => self.spoil(twin, Region::Records, RECORD_SLOT),
             16 if lines > 0 => {
@@ -214,7 +218,7 @@ impl Script {
             2 => self.restart(twin),
             3..=5 if lines > 0 => {
                 let region = Region::Connection(self.rng.below(lines));
-                self.poke_connection(region)
+                self.poke_connection(twin, region)
             }
             6..=8 if lookups > 0 => {
                 let region = Region::Lookup(self.rng.below(lookups));
@@ -282,8 +286,11 @@ impl Script {
         Action::Call(self.call(Step::Box { id, addresses }))
     }
 
-    fn poke_connection(&mut self, region: Region) -> Action {
+    fn poke_connection(&mut self, twin: &Twin, region: Region) -> Action {
         let rng = &mut self.rng;
+        if rng.one_in(8) {
+            return Action::Write { region, at: 8, bytes: twin.world.me.place.to_vec() };
+        }
         if rng.one_in(3) {
             let bytes = layout::framing_bytes(&gen::odd_framing(rng)).to_vec();
             return Action::Write { region, at: layout::FRAMING, bytes };

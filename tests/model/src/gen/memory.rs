@@ -19,7 +19,9 @@ pub fn table(rng: &mut Rng, ours: &Place, ids: &[Vec<u8>], slots: usize, clean: 
     for _ in 0..wanted {
         let (id, place) = if rng.one_in(2) && !ids.is_empty() {
             let id = rng.pick(ids).clone();
-            (id.clone(), place_of(&id))
+            let place = place_of(&id);
+            // now and then a peer is held under another id
+            (if rng.one_in(8) { super::id(rng) } else { id }, place)
         } else {
             let number = if rng.one_in(4) { rng.below(256) } else { rng.below(8) };
             (id(rng), place_in(rng, ours, number))

@@ -242,7 +242,7 @@ pub fn filled_body(m: &Message, length: usize) -> Vec<u8> {
 pub fn body(rng: &mut Rng) -> Vec<u8> {
     let m = message(rng);
     if rng.one_in(30) {
-        return filled_body(&m, rng.between(limits::BODY - 1, limits::BODY + 1));
+        return filled_body(&m, *rng.pick(&[limits::BODY - 1, limits::BODY, limits::BODY, limits::BODY + 1, 65_536 + 10]));
     }
     match rng.below(10) {
         0 => {

@@ -13,7 +13,7 @@ pub fn id(rng: &mut Rng) -> Vec<u8> {
 
 /// An id that is mostly too short or too long.
 pub fn odd_id(rng: &mut Rng) -> Vec<u8> {
-    let n = *rng.pick(&[0, 0, 1, 64, 65, 65, 66, 128, 200]);
+    let n = *rng.pick(&[0, 0, 1, 64, 65, 65, 66, 128, 200, 257, 320]);
     rng.bytes(n)
 }
 
@@ -24,7 +24,7 @@ pub fn key(rng: &mut Rng) -> Vec<u8> {
 }
 
 pub fn odd_key(rng: &mut Rng) -> Vec<u8> {
-    let n = *rng.pick(&[0, 0, 1, 127, 128, 129, 129, 500]);
+    let n = *rng.pick(&[0, 0, 1, 127, 128, 129, 129, 257, 384, 500]);
     rng.bytes(n)
 }
 
@@ -54,7 +54,7 @@ pub fn odd_wind_key(rng: &mut Rng) -> Vec<u8> {
     let mut key = wind_key(rng);
     match rng.below(5) {
         0 => key.truncate(rng.below(7)),
-        1 => key.resize(rng.between(129, 140), b'a'),
+        1 => key.resize(*rng.pick(&[129, 130, 140, 263]), b'a'),
         2 => key[rng.below(6)] ^= 1 << rng.below(8),
         3 => drop(key.remove(0)),
         _ => key.clear(),

@@ -72,7 +72,8 @@ fn at_a_limit(rng: &mut Rng) -> Vec<u8> {
     let sequence = rng.below(6) as u64;
     let of = |note: Vec<u8>, setpoints: Vec<Setpoint>| recipe::write(&Recipe { note, setpoints, sequence });
     let one = |turn: u64, trim: i64| vec![Setpoint { turn, trim }];
-    match rng.below(6) {
+    match rng.below(7) {
+        6 => of(vec![b'n'; 65_536 * over], vec![]),
         0 => of(vec![], (0..limits::SETPOINTS + over).map(|turn| Setpoint { turn: turn as u64, trim: 0 }).collect()),
         1 => of(vec![b'n'; limits::VALUE - 16 + over], vec![]),
         2 => of(vec![], one(limits::TURN + over as u64, 0)),

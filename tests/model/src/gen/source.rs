@@ -7,6 +7,7 @@ use crate::lookup::{Candidate, Mark};
 use crate::message::{self, encode, Message, Record, View};
 use crate::node::Side;
 use crate::peer::{Me, Mode};
+use crate::place::{bucket, Place};
 use crate::recipe;
 use crate::records;
 use crate::steps::{Memory, Step, World};
@@ -214,7 +215,7 @@ impl Source {
         let l = &world.lookups[lookup];
         let done = !l.in_form() || l.is_over();
         if done && !self.rng.one_in(3) {
-            let concurrency = if self.rng.one_in(10) { *self.rng.pick(&[0, 11, u64::MAX]) } else { self.rng.between(1, 10) as u64 };
+            let concurrency = if self.rng.one_in(10) { *self.rng.pick(&[0, 11, 256, 259, (1 << 32) + 3, u64::MAX]) } else { self.rng.between(1, 10) as u64 };
             return Step::Start { lookup, key: self.any_key(world), concurrency };
         }
         let flying: Vec<&Candidate> = l.candidates.iter().filter(|c| c.mark == Mark::InFlight).collect();
@@ -249,21 +250,29 @@ impl Source {
         match self.rng.below(12) {
             0 => Step::Nearest { key: self.any_key(world) },
             1 => Step::Remove { id },
-            2..=4 => Step::Settle { head: self.head(world), newcomer: id, mode, addresses, answered: self.rng.one_in(2) },
+            2..=4 => {
+                let (head, newcomer) = self.head_and_newcomer(world).unwrap_or((self.id(world), id));
+                Step::Settle { head, newcomer, mode, addresses, answered: self.rng.one_in(2) }
+            }
             _ => Step::Seen { id, mode, addresses },
         }
     }
 
-    /// The id of some bucket's head, most often of a full one; or any id.
-    fn head(&mut self, world: &World) -> Vec<u8> {
-        if in_form(&world.contacts, &world.me.place) && !self.rng.one_in(6) {
-            let buckets = buckets(&world.contacts, &world.me.place);
-            let full: Vec<&Vec<Contact>> = buckets.values().filter(|b| b.len() == limits::NEAREST).collect();
-            if !full.is_empty() {
-                return self.rng.pick(&full)[0].id.clone();
-            }
+    /// Mostly the head of a full bucket, and a peer of that bucket that isn't held; now and then another contact of it, or any peer.
+    fn head_and_newcomer(&mut self, world: &World) -> Option<(Vec<u8>, Vec<u8>)> {
+        if !in_form(&world.contacts, &world.me.place) {
+            return None;
         }
-        self.id(world)
+        let buckets = buckets(&world.contacts, &world.me.place);
+        let full: Vec<(&usize, &Vec<Contact>)> = buckets.iter().filter(|(_, b)| b.len() == limits::NEAREST).collect();
+        if full.is_empty() || self.rng.one_in(6) {
+            return None;
+        }
+        let (number, contacts) = *self.rng.pick(&full);
+        let head = if self.rng.one_in(8) { self.rng.pick(contacts) } else { &contacts[0] };
+        let fits = |id: &Vec<u8>, place: &Place| bucket(place, &world.me.place) == *number && contacts.iter().all(|c| c.place != *place && c.id != *id);
+        let newcomer = if self.rng.one_in(8) { None } else { self.network.some(&mut self.rng, fits) };
+        Some((head.id.clone(), newcomer.unwrap_or_else(|| self.id(world))))
     }
 
     fn stays_in_form(&self, world: &World, memory: Memory, at: usize, byte: u8) -> bool {
