@@ -3,7 +3,7 @@
 use crate::contacts::{self, Seen};
 use crate::limits;
 use crate::message::{self, Message, Peer, Record, ADD_PROVIDER, FIND_NODE, GET_PROVIDERS, GET_VALUE, PUT_VALUE};
-use crate::peer::{is_usable, Me, Mode};
+use crate::peer::{Me, Mode};
 use crate::place::{place_of, Place};
 use crate::records;
 use crate::writer;
@@ -18,10 +18,10 @@ pub struct Sender {
     pub addresses: Vec<Vec<u8>>,
 }
 
-/// An entry of closerPeers. Addresses in form pass whole; of a box's own that were never judged, the first four usable do.
+/// An entry of closerPeers. Addresses in form pass whole; of a box's own, which are never judged, the first four do, each cut at 128 bytes.
 fn peer(id: &[u8], addresses: &[Vec<u8>]) -> Peer {
-    let addresses = addresses.iter().filter(|a| is_usable(a)).take(limits::ADDRESSES).cloned().collect();
-    Peer { id: id.to_vec(), addresses, connection: 0 }
+    let cut = |a: &Vec<u8>| a[..a.len().min(limits::ADDRESS)].to_vec();
+    Peer { id: id.to_vec(), addresses: addresses.iter().take(limits::ADDRESSES).map(cut).collect(), connection: 0 }
 }
 
 /// "FIND_NODE, GET_VALUE: key of 1 to 128 bytes, else 8. closerPeers are the 20 nearest contacts, connection 0."

@@ -215,8 +215,10 @@ pub fn seen_place(table: &mut [u8], all: &Entries, ours: &Place, id: &[u8], plac
     if let Some(i) = slot_of(all, place) {
         to_tail(table, all, ours, i);
         if !addresses.is_empty() {
-            let moved = Contact { addresses: addresses.to_vec(), ..contact(table, i) };
-            slot_mut(table, i).copy_from_slice(&slot_bytes(&moved));
+            let moved = slot_bytes(&Contact { addresses: addresses.to_vec(), ..contact(table, i) });
+            let kept = slot_mut(table, i);
+            kept[3..PLACE_AT].copy_from_slice(&moved[3..PLACE_AT]);
+            kept[ADDRESSES_AT..].copy_from_slice(&moved[ADDRESSES_AT..]);
         }
         return Seen::Moved { slot: i };
     }

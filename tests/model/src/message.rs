@@ -1,7 +1,7 @@
 //! Messages: the reader, which gives positions; what the bytes mean, as values; and the bytes of a message.
 
 use crate::limits;
-use crate::wire::{fields, numbers, put_bytes, put_number, put_single, spans, Field, Span};
+use crate::wire::{fields, fields_from, numbers, put_bytes, put_number, put_single, spans, Field, Span};
 use crate::Refusal;
 
 pub const PUT_VALUE: u64 = 0;
@@ -119,6 +119,20 @@ pub fn closer_peers(body: &[u8]) -> Vec<PeerView> {
 /// The entries of providerPeers of a body that reads; else none.
 pub fn provider_peers(body: &[u8]) -> Vec<PeerView> {
     judged(body).map(|p| p.providers).unwrap_or_default()
+}
+
+/// A step of a walk over the peers of a list: the first entry from a position on, its id and its connection. A walk from 0 that goes on from each
+/// entry's end meets what `closer_peers` or `provider_peers` gives. Nothing is judged: what stands after a field that isn't well formed isn't met.
+pub fn next_peer(body: &[u8], providers: bool, from: usize) -> Option<(Span, Span, u64)> {
+    let entry = spans(&fields_from(body, from, body.len()), if providers { 9 } else { 8 }).first().copied()?;
+    let inside = fields_from(body, entry.at, entry.end());
+    let connection = last_number(&inside, 3);
+    Some((entry, last_span(&inside, 1), if connection > 3 { 0 } else { connection }))
+}
+
+/// A step of a walk over the addresses of the entry from `start` up to `end`: the first one from a position on that isn't before the start.
+pub fn next_address(body: &[u8], start: usize, end: usize, from: usize) -> Option<Span> {
+    spans(&fields_from(body, start.max(from), end.min(body.len())), 2).first().copied()
 }
 
 fn peer_at(body: &[u8], view: &PeerView) -> Peer {

@@ -8,6 +8,7 @@ use crate::message::{self, Message, View};
 use crate::node::{self, Conn, Lent, Received, Side};
 use crate::peer::{Me, Mode};
 use crate::records::{self, Found};
+use crate::wire::Span;
 use crate::writer;
 use crate::Refusal;
 
@@ -39,6 +40,11 @@ pub enum Memory {
 /// A host call. Lines and lookups are named by their number, which has to be one of the world's.
 #[derive(Clone, Debug, PartialEq, Eq)]
 pub enum Step {
+    /// The box's start. A refused one leaves the box as it was.
+    Box {
+        id: Vec<u8>,
+        addresses: Vec<u8>,
+    },
     Seen {
         id: Vec<u8>,
         mode: Mode,
@@ -99,6 +105,19 @@ pub enum Step {
     Read {
         body: Vec<u8>,
     },
+    /// A step of a walk over a body's closerPeers or providerPeers.
+    Peer {
+        body: Vec<u8>,
+        providers: bool,
+        from: usize,
+    },
+    /// A step of a walk over the addresses of a peer in a body.
+    Address {
+        body: Vec<u8>,
+        start: usize,
+        end: usize,
+        from: usize,
+    },
     /// The writer, into the reply buffer.
     Write {
         message: Message,
@@ -119,6 +138,7 @@ pub enum Step {
 /// What a call gave back; the world has the rest.
 #[derive(Clone, Debug, PartialEq, Eq)]
 pub enum Outcome {
+    Begun(Option<Refusal>),
     Seen(Seen),
     Settled(Result<Settled, Refusal>),
     /// The slot that was freed.
@@ -133,6 +153,9 @@ pub enum Outcome {
     Step(lookup::Step),
     Next(lookup::Next),
     Read(Result<View, Refusal>),
+    /// The entry, its id and its connection.
+    Peer(Option<(Span, Span, u64)>),
+    Address(Option<Span>),
     Written(Result<usize, Refusal>),
     /// The host did something itself.
     Done,
@@ -148,7 +171,7 @@ impl Outcome {
             Outcome::Nearest(r) => r.as_ref().err().copied(),
             Outcome::Put(r) | Outcome::Ended(r) => r.err(),
             Outcome::Found(r) => r.as_ref().err().copied(),
-            Outcome::Opened(r) => *r,
+            Outcome::Begun(r) | Outcome::Opened(r) => *r,
             Outcome::Received(Received { answer: node::Answer::Refused(r), .. }) => Some(*r),
             Outcome::Step(lookup::Step::Refused(r)) | Outcome::Next(lookup::Next::Refused(r)) => Some(*r),
             Outcome::Read(r) => r.err(),
@@ -173,6 +196,14 @@ impl World {
         }
     }
 
+    fn begin(&mut self, id: &[u8], addresses: &[u8]) -> Option<Refusal> {
+        let (me, refusal) = Me::start(id, addresses);
+        if refusal.is_none() {
+            self.me = me;
+        }
+        refusal
+    }
+
     fn receive(&mut self, line: usize, piece: &[u8]) -> Received {
         let Line { conn, buffer } = &mut self.lines[line];
         let mut lent = Lent { contacts: &mut self.contacts, records: &mut self.records, buffer, reply: &mut self.reply };
@@ -195,9 +226,17 @@ impl World {
         }
     }
 
+    fn poke(&mut self, memory: Memory, at: usize, byte: u8) -> Outcome {
+        if let Some(there) = self.memory(memory).get_mut(at) {
+            *there = byte;
+        }
+        Outcome::Done
+    }
+
     /// Makes a call.
     pub fn run(&mut self, step: &Step) -> Outcome {
         match step {
+            Step::Box { id, addresses } => Outcome::Begun(self.begin(id, addresses)),
             Step::Seen { id, mode, addresses } => Outcome::Seen(contacts::seen(&mut self.contacts, &self.me, id, *mode, addresses)),
             Step::Settle { head, newcomer, mode, addresses, answered } => {
                 let newcomer = Newcomer { id: newcomer, mode: *mode, addresses };
@@ -223,13 +262,10 @@ impl World {
             Step::Reply { lookup, sender, body, view } => Outcome::Step(self.on_lookup(*lookup, |l, me| l.reply(me, sender, body, view))),
             Step::Failure { lookup, sender } => Outcome::Step(self.on_lookup(*lookup, |l, me| l.failure(me, sender))),
             Step::Read { body } => Outcome::Read(message::read(body)),
+            Step::Peer { body, providers, from } => Outcome::Peer(message::next_peer(body, *providers, *from)),
+            Step::Address { body, start, end, from } => Outcome::Address(message::next_address(body, *start, *end, *from)),
             Step::Write { message } => Outcome::Written(writer::write(&mut self.reply, message)),
-            Step::Poke { memory, at, byte } => {
-                if let Some(there) = self.memory(*memory).get_mut(*at) {
-                    *there = *byte;
-                }
-                Outcome::Done
-            }
+            Step::Poke { memory, at, byte } => self.poke(*memory, *at, *byte),
             Step::Lend { memory, length } => {
                 self.memory(*memory).resize(*length, 0);
                 Outcome::Done

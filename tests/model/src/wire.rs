@@ -93,6 +93,18 @@ pub fn fields(body: &[u8], whole: Span) -> Option<Vec<Field>> {
     Some(found)
 }
 
+/// The fields from a position on, up to the end or to one that isn't well formed.
+pub fn fields_from(body: &[u8], from: usize, end: usize) -> Vec<Field> {
+    let mut found = Vec::new();
+    let mut at = from;
+    while at < end {
+        let Some((one, next)) = field(body, at, end) else { break };
+        found.push(one);
+        at = next;
+    }
+    found
+}
+
 /// Where the bytes fields of a number are.
 pub fn spans(fields: &[Field], number: u64) -> Vec<Span> {
     fields.iter().filter(|f| f.number == number).filter_map(|f| if let Held::Bytes(s) = f.held { Some(s) } else { None }).collect()

@@ -1,7 +1,7 @@
 //! Messages, recipes and lists: what is written reads back, other ways to write mean the same, and no bytes do harm.
 
 use starterbell_model::gen::{self, Rng};
-use starterbell_model::message::{closer_peers, decode, encode, provider_peers, read, Message, Peer};
+use starterbell_model::message::{closer_peers, decode, encode, next_address, next_peer, provider_peers, read, Message, Peer};
 use starterbell_model::peer::{address_list, addresses_of};
 use starterbell_model::recipe::{self, outranks};
 use starterbell_model::wire::{fields, minimal, read_varint, Span};
@@ -39,6 +39,24 @@ fn other_ways_to_write_mean_the_same() {
     assert!(padded > 3_000);
 }
 
+/// Walks from 0, on from the end of what was found, meet the lists.
+fn walks_meet_the_lists(body: &[u8]) {
+    for (providers, list) in [(false, closer_peers(body)), (true, provider_peers(body))] {
+        let mut from = 0;
+        for peer in list {
+            assert_eq!(next_peer(body, providers, from), Some((peer.entry, peer.id, peer.connection)));
+            from = peer.entry.end();
+            let mut at = peer.entry.at;
+            for address in peer.addresses {
+                assert_eq!(next_address(body, peer.entry.at, peer.entry.end(), at), Some(address));
+                at = address.end();
+            }
+            assert_eq!(next_address(body, peer.entry.at, peer.entry.end(), at), None);
+        }
+        assert_eq!(next_peer(body, providers, from), None);
+    }
+}
+
 /// The view's parts are the message's fields.
 fn view_holds(body: &[u8], m: &Message) {
     let view = read(body).expect("it reads");
@@ -56,22 +74,24 @@ fn view_holds(body: &[u8], m: &Message) {
 #[test]
 fn any_bytes_are_read_or_refused() {
     let mut rng = Rng::new(13);
-    let mut seen = [0usize; 3];
+    let mut seen = [0usize; 4];
     for _ in 0..20_000 {
         let body = gen::body(&mut rng);
         match decode(&body) {
             Ok(m) => {
                 view_holds(&body, &m);
+                walks_meet_the_lists(&body);
                 assert_eq!(decode(&encode(&m)), Ok(m), "its own writing means the same");
                 seen[0] += 1;
             }
             Err(Refusal::Malformed) => seen[1] += 1,
             Err(Refusal::UnknownType) => seen[2] += 1,
+            Err(Refusal::TooLong) => seen[3] += 1,
             Err(other) => panic!("{other:?}"),
         }
         assert_eq!(read(&body).err(), decode(&body).err());
     }
-    assert!(seen[0] > 5_000 && seen[1] > 3_000 && seen[2] > 50, "{seen:?}");
+    assert!(seen[0] > 5_000 && seen[1] > 3_000 && seen[2] > 50 && seen[3] > 50, "{seen:?}");
 }
 
 #[test]

@@ -274,7 +274,7 @@ fn run(script: &Script, mut world: World, mut cutting: Option<Rng>) -> (World, L
 #[test]
 fn cutting_changes_nothing() {
     let mut events = 0;
-    for seed in 51..91 {
+    for seed in 51..101 {
         let mut source = Source::new(seed, 60);
         let mut rng = Rng::new(seed);
         let mut world = world(&mut rng, 30, 5);

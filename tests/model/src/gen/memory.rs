@@ -1,6 +1,6 @@
 //! Tables, stores, framings and lookups, in and out of form.
 
-use super::{id, odd_id, odd_key, place_in, recipe_value, usable_addresses, wind_key, Rng};
+use super::{id, largest_recipe, odd_id, odd_key, place_in, recipe_value, usable_addresses, wind_key, Rng};
 use crate::contacts::{slot_bytes, Contact};
 use crate::limits;
 use crate::lookup::{Candidate, Lookup, Mark};
@@ -19,7 +19,9 @@ pub fn table(rng: &mut Rng, ours: &Place, ids: &[Vec<u8>], slots: usize, clean: 
     for _ in 0..wanted {
         let (id, place) = if rng.one_in(2) && !ids.is_empty() {
             let id = rng.pick(ids).clone();
-            (id.clone(), place_of(&id))
+            let place = place_of(&id);
+            // now and then a peer is held under another id
+            (if rng.one_in(8) { super::id(rng) } else { id }, place)
         } else {
             let number = if rng.one_in(4) { rng.below(256) } else { rng.below(8) };
             (id(rng), place_in(rng, ours, number))
@@ -33,6 +35,15 @@ pub fn table(rng: &mut Rng, ours: &Place, ids: &[Vec<u8>], slots: usize, clean: 
     contacts.resize(slots, None);
     rng.shuffle(&mut contacts);
     contacts.iter().flat_map(|c| contact_slot(rng, c, clean)).collect()
+}
+
+/// A table of contacts as large as they can be: ids of 64 bytes and four addresses of 128. Buckets fill from the first.
+pub fn largest_table(rng: &mut Rng, ours: &Place, slots: usize) -> Vec<u8> {
+    let contact = |rng: &mut Rng, i: usize| {
+        let addresses = (0..limits::ADDRESSES).map(|_| rng.bytes(limits::ADDRESS)).collect();
+        Contact { rank: i % limits::NEAREST, place: place_in(rng, ours, i / limits::NEAREST), id: rng.bytes(limits::ID), addresses }
+    };
+    (0..slots).flat_map(|i| slot_bytes(&contact(rng, i))).collect()
 }
 
 fn contact_slot(rng: &mut Rng, contact: &Option<Contact>, clean: bool) -> Vec<u8> {
@@ -112,6 +123,21 @@ pub fn store(rng: &mut Rng, keys: &[Vec<u8>], slots: usize, clean: bool) -> Vec<
     slots_used.iter().flat_map(|r| record_slot(rng, r, clean)).collect()
 }
 
+/// A store in form with a record in every slot; the first ones have the given keys.
+pub fn full_store(rng: &mut Rng, keys: &[Vec<u8>], slots: usize) -> Vec<u8> {
+    let mut own: BTreeSet<Vec<u8>> = BTreeSet::new();
+    let mut all = Vec::new();
+    while all.len() < slots {
+        let key = keys.get(all.len()).cloned().unwrap_or_else(|| wind_key(rng));
+        let key = if own.contains(&key) { wind_key(rng) } else { key };
+        if own.insert(key.clone()) {
+            all.push(key);
+        }
+    }
+    let value = |rng: &mut Rng| if rng.one_in(4) { recipe_value(rng) } else { largest_recipe(rng) };
+    all.iter().flat_map(|key| records::slot_bytes(key, &value(rng))).collect()
+}
+
 fn record_slot(rng: &mut Rng, record: &Option<(Vec<u8>, Vec<u8>)>, clean: bool) -> Vec<u8> {
     let mut slot = match record {
         Some((key, value)) => records::slot_bytes(key, value),
@@ -177,6 +203,23 @@ pub fn odd_framing(rng: &mut Rng) -> Framing {
             Framing::Body { length, have: *rng.pick(&[0, 1, 4, 5, 16_383, 16_384, 20_000]) }
         }
     }
+}
+
+/// A lookup in form with so many candidates, some of them the given ids, with marks mostly of one kind.
+pub fn lookup_of(rng: &mut Rng, ids: &[Vec<u8>], count: usize) -> Lookup {
+    let n = rng.size(1, limits::KEY);
+    let key = rng.bytes(n);
+    let place = place_of(&key);
+    let usual = *rng.pick(&[Mark::Idle, Mark::Answered, Mark::Answered, Mark::Failed]);
+    let other_one_in = *rng.pick(&[3, 20]);
+    let mut held = BTreeMap::new();
+    while held.len() < count {
+        let id = if held.len() < ids.len() && rng.one_in(2) { rng.pick(ids).clone() } else { id(rng) };
+        let mark = if rng.one_in(other_one_in) { *rng.pick(&[Mark::Idle, Mark::InFlight, Mark::InFlight, Mark::Answered, Mark::Failed]) } else { usual };
+        let there = place_of(&id);
+        held.entry(distance(&there, &place)).or_insert(Candidate { mark, id, place: there });
+    }
+    Lookup { key, place, limit: rng.between(1, 10) as u64, candidates: held.into_values().collect(), turned_away: rng.one_in(4) }
 }
 
 /// A lookup that needn't be in form.

@@ -3,7 +3,7 @@
 use super::Rng;
 use crate::limits;
 use crate::message::{encode, Message, Peer, Record};
-use crate::wire::minimal;
+use crate::wire::{minimal, put_bytes};
 
 fn some_record(rng: &mut Rng) -> Record {
     let (n, m) = (rng.size(0, limits::KEY), rng.size(0, 300));
@@ -178,9 +178,9 @@ pub fn loose_body(rng: &mut Rng, m: &Message) -> Vec<u8> {
     mixed(rng, vec![kind, key, record, closer, providers], &[1, 10], &[2, 3, 8, 9])
 }
 
-/// A field that breaks a rule of reading (5) wherever it stands.
+/// A field that breaks a rule of reading (5) wherever it stands, in what ends after it.
 pub fn bad_field(rng: &mut Rng) -> Vec<u8> {
-    match rng.below(9) {
+    match rng.below(12) {
         0 => vec![0x0b],
         1 => vec![0x14, 0],
         2 => vec![0x16, 0, 0],
@@ -188,6 +188,10 @@ pub fn bad_field(rng: &mut Rng) -> Vec<u8> {
         4 => vec![rng.below(8) as u8, 0],
         5 => vec![0x88, 0x80, 0x80, 0x80, 0x80, 0x00, 0x00],
         6 => vec![0x88, 0x80, 0x80, 0x80, 0x10, 0x00],
+        // a part past its enclosing end
+        9 => vec![0x0a, rng.between(3, 127) as u8, 1, 2],
+        10 => vec![0x09, 1, 2, 3, 4, 5, 6, 7],
+        11 => vec![0x0d, 1, 2, 3],
         7 => [vec![0x08], vec![0xff; 9], vec![*rng.pick(&[0x02, 0x7f, 0x80, 0xff]), 0]].concat(),
         _ => [vec![0x12], minimal(u64::MAX - rng.below(3) as u64)].concat(),
     }
@@ -197,7 +201,7 @@ pub fn bad_field(rng: &mut Rng) -> Vec<u8> {
 pub fn damaged_body(rng: &mut Rng, body: &[u8]) -> Vec<u8> {
     let mut out = body.to_vec();
     let at = rng.below(out.len() + 1);
-    match rng.below(7) {
+    match rng.below(8) {
         0 => out.truncate(at),
         1 if !out.is_empty() => out[at % body.len()] ^= 1 << rng.below(8),
         2 if !out.is_empty() => out[at % body.len()] = rng.byte(),
@@ -207,6 +211,12 @@ pub fn damaged_body(rng: &mut Rng, body: &[u8]) -> Vec<u8> {
             let kind = *rng.pick(&[6, 7, 127, 128, 256, 1 << 32, (1 << 32) + 5, u64::MAX]);
             out.extend(loose_number(rng, 1, kind));
         }
+        // in a record or a peer, with more after it
+        6 => {
+            let field = bad_field(rng);
+            put_bytes(&mut out, *rng.pick(&[3, 8, 9, 8]), &field);
+            put_bytes(&mut out, 4, &vec![7; rng.below(150)]);
+        }
         _ => {
             let field = bad_field(rng);
             out.extend(field);
@@ -215,9 +225,25 @@ pub fn damaged_body(rng: &mut Rng, body: &[u8]) -> Vec<u8> {
     out
 }
 
+/// A body that means a message, filled up to a length with a field that is passed over; as it is where there is no room for that.
+pub fn filled_body(m: &Message, length: usize) -> Vec<u8> {
+    let mut body = encode(m);
+    let rest = length.saturating_sub(body.len());
+    for width in 1..=3 {
+        if rest > width && minimal((rest - 1 - width) as u64).len() == width {
+            put_bytes(&mut body, 4, &vec![7; rest - 1 - width]);
+            break;
+        }
+    }
+    body
+}
+
 /// A body to be read: exact, loose, damaged or noise.
 pub fn body(rng: &mut Rng) -> Vec<u8> {
     let m = message(rng);
+    if rng.one_in(30) {
+        return filled_body(&m, *rng.pick(&[limits::BODY - 1, limits::BODY, limits::BODY, limits::BODY + 1, 65_536 + 10]));
+    }
     match rng.below(10) {
         0 => {
             let n = rng.size(0, 40);

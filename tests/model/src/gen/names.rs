@@ -13,7 +13,7 @@ pub fn id(rng: &mut Rng) -> Vec<u8> {
 
 /// An id that is mostly too short or too long.
 pub fn odd_id(rng: &mut Rng) -> Vec<u8> {
-    let n = *rng.pick(&[0, 0, 1, 64, 65, 65, 66, 128, 200]);
+    let n = *rng.pick(&[0, 0, 1, 64, 65, 65, 66, 128, 200, 257, 320]);
     rng.bytes(n)
 }
 
@@ -24,7 +24,7 @@ pub fn key(rng: &mut Rng) -> Vec<u8> {
 }
 
 pub fn odd_key(rng: &mut Rng) -> Vec<u8> {
-    let n = *rng.pick(&[0, 0, 1, 127, 128, 129, 129, 500]);
+    let n = *rng.pick(&[0, 0, 1, 127, 128, 129, 129, 257, 384, 500]);
     rng.bytes(n)
 }
 
@@ -34,12 +34,27 @@ pub fn wind_key(rng: &mut Rng) -> Vec<u8> {
     [limits::WIND.to_vec(), rng.bytes(n)].concat()
 }
 
+/// Record keys, some of which differ from another one in their last byte alone, or go on where another ends.
+pub fn wind_keys(rng: &mut Rng, n: usize) -> Vec<Vec<u8>> {
+    let mut keys: Vec<Vec<u8>> = vec![wind_key(rng)];
+    while keys.len() < n {
+        let mut key = if rng.one_in(2) { wind_key(rng) } else { rng.pick(&keys).clone() };
+        match rng.below(3) {
+            0 => *key.last_mut().expect("7 bytes or more") ^= 1 << rng.below(8),
+            1 if key.len() < limits::KEY => key.push(rng.byte()),
+            _ => {}
+        }
+        keys.push(key);
+    }
+    keys
+}
+
 /// A key that is nearly a record key.
 pub fn odd_wind_key(rng: &mut Rng) -> Vec<u8> {
     let mut key = wind_key(rng);
     match rng.below(5) {
         0 => key.truncate(rng.below(7)),
-        1 => key.resize(rng.between(129, 140), b'a'),
+        1 => key.resize(*rng.pick(&[129, 130, 140, 263]), b'a'),
         2 => key[rng.below(6)] ^= 1 << rng.below(8),
         3 => drop(key.remove(0)),
         _ => key.clear(),

@@ -21,6 +21,13 @@ impl Network {
         Network { ids, places, known }
     }
 
+    /// Some peer that fits, by its id and place.
+    pub fn some(&self, rng: &mut Rng, fits: impl Fn(&Vec<u8>, &Place) -> bool) -> Option<Vec<u8>> {
+        let first = rng.below(self.ids.len());
+        let mut all = (first..self.ids.len()).chain(0..first);
+        all.find(|i| fits(&self.ids[*i], &self.places[*i])).map(|i| self.ids[i].clone())
+    }
+
     /// What a peer answers to FIND_NODE: the nearest it knows, and now and then more entries than it should, with bad ids among them.
     /// One in eight names peers that nobody knows.
     pub fn answer(&self, rng: &mut Rng, sender: &[u8], key: &[u8], ours: &[u8]) -> Message {

@@ -39,6 +39,15 @@ pub fn recipe_value(rng: &mut Rng) -> Vec<u8> {
     recipe::write(&recipe(rng))
 }
 
+/// A value of 2,048 bytes that is a recipe.
+pub fn largest_recipe(rng: &mut Rng) -> Vec<u8> {
+    let mut made = recipe(rng);
+    made.note.clear();
+    let room = limits::VALUE - recipe::write(&made).len();
+    made.note = rng.bytes(room);
+    recipe::write(&made)
+}
+
 /// Setpoints of a recipe with one rule broken.
 fn broken_setpoints(rng: &mut Rng, mut list: Vec<Setpoint>) -> (Vec<u8>, usize) {
     if list.is_empty() {
@@ -57,8 +66,28 @@ fn broken_setpoints(rng: &mut Rng, mut list: Vec<Setpoint>) -> (Vec<u8>, usize) 
     ([recipe::write_setpoints(&list), extra].concat(), list.len())
 }
 
+/// A value of which one thing is at its limit or one past it, all else being right.
+fn at_a_limit(rng: &mut Rng) -> Vec<u8> {
+    let over = rng.below(2);
+    let sequence = rng.below(6) as u64;
+    let of = |note: Vec<u8>, setpoints: Vec<Setpoint>| recipe::write(&Recipe { note, setpoints, sequence });
+    let one = |turn: u64, trim: i64| vec![Setpoint { turn, trim }];
+    match rng.below(7) {
+        6 => of(vec![b'n'; 65_536 * over], vec![]),
+        0 => of(vec![], (0..limits::SETPOINTS + over).map(|turn| Setpoint { turn: turn as u64, trim: 0 }).collect()),
+        1 => of(vec![b'n'; limits::VALUE - 16 + over], vec![]),
+        2 => of(vec![], one(limits::TURN + over as u64, 0)),
+        3 => of(vec![], one(0, 20_000 + over as i64)),
+        4 => of(vec![], one(0, -20_000 - over as i64)),
+        _ => of(vec![], vec![])[over..].to_vec(),
+    }
+}
+
 /// A value that is nearly a recipe; by chance it may still be one.
 pub fn damaged_recipe(rng: &mut Rng) -> Vec<u8> {
+    if rng.one_in(12) {
+        return at_a_limit(rng);
+    }
     let good = recipe(rng);
     let mut value = recipe::write(&good);
     let end = value.len();

@@ -7,6 +7,7 @@ use crate::lookup::{Candidate, Mark};
 use crate::message::{self, encode, Message, Record, View};
 use crate::node::Side;
 use crate::peer::{Me, Mode};
+use crate::place::{bucket, Place};
 use crate::recipe;
 use crate::records;
 use crate::steps::{Memory, Step, World};
@@ -33,7 +34,7 @@ impl Source {
     pub fn new(seed: u64, peers: usize) -> Source {
         let mut rng = Rng::new(seed);
         let network = Network::new(&mut rng, peers, 30);
-        let keys = (0..12).map(|_| wind_key(&mut rng)).collect();
+        let keys = wind_keys(&mut rng, 12);
         Source { rng, network, keys, pending: vec![], unsent: vec![], sequence: 0, poke_one_in: 0 }
     }
 
@@ -107,6 +108,27 @@ impl Source {
         recipe::write(&made)
     }
 
+    /// A value close to the one that is held under a key: the same, one that goes on after it or ends before it, or one with another byte.
+    fn near_held(&mut self, world: &World, key: &[u8]) -> Option<Vec<u8>> {
+        let mut value = records::find(&world.records, key).ok()??.value;
+        let end = value.len();
+        match self.rng.below(6) {
+            0 => {}
+            1 => value.extend([&16u32.to_le_bytes()[..], &[0, 0, 1, 0], &value[end - 8..].to_vec()].concat()),
+            2 if end >= 32 => value.truncate(end - 16),
+            3 => value[end - 8] = value[end - 8].wrapping_add(*self.rng.pick(&[1, 255])),
+            4 => value[0] = value[0].wrapping_add(*self.rng.pick(&[1, 255])),
+            _ => value[self.rng.below(end)] ^= 1 << self.rng.below(8),
+        }
+        Some(value)
+    }
+
+    /// A value for a key.
+    fn value_for(&mut self, world: &World, key: &[u8]) -> Vec<u8> {
+        let near = if self.rng.one_in(4) { self.near_held(world, key) } else { None };
+        near.unwrap_or_else(|| self.value())
+    }
+
     /// A request as a peer may send it; the requester's own id is a key now and then.
     pub fn request(&mut self, world: &World, requester: &[u8]) -> Vec<u8> {
         let kind = *self.rng.pick(&[0, 0, 1, 1, 4, 4, 4, 5]);
@@ -117,7 +139,7 @@ impl Source {
         if kind == message::PUT_VALUE {
             m.key = self.record_key();
             let key = if self.rng.one_in(20) { self.record_key() } else { m.key.clone() };
-            m.record = if self.rng.one_in(30) { None } else { Some(Record { key, value: self.value() }) };
+            m.record = if self.rng.one_in(30) { None } else { Some(Record { value: self.value_for(world, &key), key }) };
         }
         match self.rng.below(40) {
             0 => body(&mut self.rng),
@@ -127,15 +149,33 @@ impl Source {
             }
             2..=12 => loose_body(&mut self.rng, &m),
             13 => encode(&message(&mut self.rng)),
+            14 if self.rng.one_in(2) => filled_body(&m, self.rng.between(limits::BODY - 1, limits::BODY + 1)),
             _ => encode(&m),
+        }
+    }
+
+    /// A message for a connection: a request, or on the asking side mostly what a peer answers to a lookup.
+    fn for_line(&mut self, world: &World, line: usize) -> Vec<u8> {
+        let conn = &world.lines[line].conn;
+        if conn.side == Side::Serving || self.rng.one_in(6) {
+            return self.request(world, &conn.peer.id);
+        }
+        if self.rng.one_in(4) {
+            return body(&mut self.rng);
+        }
+        let key = world.lookups.first().map(|l| l.key.clone()).unwrap_or_default();
+        let m = self.network.answer(&mut self.rng, &conn.peer.id, &key, &world.me.id);
+        if self.rng.one_in(3) {
+            loose_body(&mut self.rng, &m)
+        } else {
+            encode(&m)
         }
     }
 
     /// More bytes for a line: some messages, seldom a bad prefix.
     fn refill(&mut self, world: &World, line: usize) {
-        let requester = world.lines[line].conn.peer.id.clone();
         for _ in 0..self.rng.between(1, 4) {
-            let body = self.request(world, &requester);
+            let body = self.for_line(world, line);
             self.unsent[line].extend(framed(&body));
         }
         if self.rng.one_in(8) {
@@ -147,8 +187,9 @@ impl Source {
     fn on_line(&mut self, world: &World) -> Step {
         let line = self.rng.below(world.lines.len());
         self.unsent.resize(world.lines.len(), vec![]);
-        let shut = world.lines[line].conn.framing == Framing::Shut;
-        if shut && !self.rng.one_in(10) {
+        let conn = &world.lines[line].conn;
+        let dead = conn.framing == Framing::Shut || !conn.in_form(&world.me.place);
+        if dead && !self.rng.one_in(10) {
             self.unsent[line].clear();
             let side = if self.rng.one_in(5) { Side::Asking } else { Side::Serving };
             return Step::Open { line, id: self.id(world), mode: self.mode(), addresses: address_list(&mut self.rng), side };
@@ -159,7 +200,7 @@ impl Source {
         if self.unsent[line].is_empty() {
             self.refill(world, line);
         }
-        let most = *self.rng.pick(&[0, 1, 3, 64, 4_096, 40_000]);
+        let most = *self.rng.pick(&[0, 1, 3, 64, 500, 4_096, 40_000, 40_000, 40_000]);
         let n = self.rng.size(0, most).min(self.unsent[line].len());
         Step::Receive { line, piece: self.unsent[line][..n].to_vec() }
     }
@@ -174,7 +215,7 @@ impl Source {
         let l = &world.lookups[lookup];
         let done = !l.in_form() || l.is_over();
         if done && !self.rng.one_in(3) {
-            let concurrency = if self.rng.one_in(10) { *self.rng.pick(&[0, 11, u64::MAX]) } else { self.rng.between(1, 10) as u64 };
+            let concurrency = if self.rng.one_in(10) { *self.rng.pick(&[0, 11, 256, 259, (1 << 32) + 3, u64::MAX]) } else { self.rng.between(1, 10) as u64 };
             return Step::Start { lookup, key: self.any_key(world), concurrency };
         }
         let flying: Vec<&Candidate> = l.candidates.iter().filter(|c| c.mark == Mark::InFlight).collect();
@@ -209,21 +250,29 @@ impl Source {
         match self.rng.below(12) {
             0 => Step::Nearest { key: self.any_key(world) },
             1 => Step::Remove { id },
-            2..=4 => Step::Settle { head: self.head(world), newcomer: id, mode, addresses, answered: self.rng.one_in(2) },
+            2..=4 => {
+                let (head, newcomer) = self.head_and_newcomer(world).unwrap_or((self.id(world), id));
+                Step::Settle { head, newcomer, mode, addresses, answered: self.rng.one_in(2) }
+            }
             _ => Step::Seen { id, mode, addresses },
         }
     }
 
-    /// The id of some bucket's head, most often of a full one; or any id.
-    fn head(&mut self, world: &World) -> Vec<u8> {
-        if in_form(&world.contacts, &world.me.place) && !self.rng.one_in(6) {
-            let buckets = buckets(&world.contacts, &world.me.place);
-            let full: Vec<&Vec<Contact>> = buckets.values().filter(|b| b.len() == limits::NEAREST).collect();
-            if !full.is_empty() {
-                return self.rng.pick(&full)[0].id.clone();
-            }
+    /// Mostly the head of a full bucket, and a peer of that bucket that isn't held; now and then another contact of it, or any peer.
+    fn head_and_newcomer(&mut self, world: &World) -> Option<(Vec<u8>, Vec<u8>)> {
+        if !in_form(&world.contacts, &world.me.place) {
+            return None;
         }
-        self.id(world)
+        let buckets = buckets(&world.contacts, &world.me.place);
+        let full: Vec<(&usize, &Vec<Contact>)> = buckets.iter().filter(|(_, b)| b.len() == limits::NEAREST).collect();
+        if full.is_empty() || self.rng.one_in(6) {
+            return None;
+        }
+        let (number, contacts) = *self.rng.pick(&full);
+        let head = if self.rng.one_in(8) { self.rng.pick(contacts) } else { &contacts[0] };
+        let fits = |id: &Vec<u8>, place: &Place| bucket(place, &world.me.place) == *number && contacts.iter().all(|c| c.place != *place && c.id != *id);
+        let newcomer = if self.rng.one_in(8) { None } else { self.network.some(&mut self.rng, fits) };
+        Some((head.id.clone(), newcomer.unwrap_or_else(|| self.id(world))))
     }
 
     fn stays_in_form(&self, world: &World, memory: Memory, at: usize, byte: u8) -> bool {
@@ -268,7 +317,10 @@ impl Source {
             0 => Step::Read { body: body(&mut self.rng) },
             1 => Step::Write { message: message_to_write(&mut self.rng) },
             2 => Step::Find { key: if self.rng.one_in(4) { self.any_key(world) } else { self.record_key() } },
-            3..=4 => Step::Put { key: self.record_key(), value: self.value() },
+            3..=4 => {
+                let key = self.record_key();
+                Step::Put { value: self.value_for(world, &key), key }
+            }
             5..=9 => self.on_contacts(world),
             10..=13 if !world.lookups.is_empty() => self.on_lookup(world),
             _ if !world.lines.is_empty() => self.on_line(world),

@@ -1,0 +1,2 @@
+#![allow(missing_docs)]
+pub mod raw;

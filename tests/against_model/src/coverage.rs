@@ -1,0 +1,222 @@
+//! What the calls came to: how often each entry point gave each number, and what has to come up in a run that is long enough.
+
+use crate::answer::Answer;
+use crate::calls::Call;
+use crate::twin::Twin;
+use starterbell_model::contacts;
+use starterbell_model::node::Side;
+use starterbell_model::records;
+use starterbell_model::steps::Step;
+use std::collections::BTreeMap;
+
+/// Each entry point, with the numbers that document 01 and the comments of crates/host allow it; `receive` by the connection's side.
+const REACHABLE: [(&str, &[u32]); 19] = [
+    ("start", &[SHORT, 12, 64]),
+    ("open", &[SHORT, 12, 64]),
+    ("receive, serving", &[SHORT, 0, 1, 2, 3, 4, 5, 6, 7, 8, 9, 10, 11, 12, 64, 65]),
+    ("receive, asking", &[SHORT, 0, 1, 2, 3, 4, 5, 6, 12, 64, 66]),
+    ("end", &[SHORT, 0, 2, 19, 64]),
+    ("seen", &[SHORT, 0, 12, 13, 14, 18, 64, 65]),
+    ("settle", &[SHORT, 0, 12, 15, 18, 64, 65]),
+    ("remove", &[SHORT, 0, 12, 15, 64]),
+    ("nearest", &[SHORT, 0, 8, 12, 64]),
+    ("put", &[0, 8, 9, 10, 11, 64]),
+    ("find", &[0, 64, 65]),
+    ("read", &[4, 5, 6, 64]),
+    ("peer", &[64, 65]),
+    ("peer_address", &[64, 65]),
+    ("write", &[1, 21, 64]),
+    ("lookup_start", &[SHORT, 0, 8, 12, 20, 64, 67]),
+    ("lookup_next", &[SHORT, 0, 65, 66, 67, 68]),
+    ("lookup_reply", &[SHORT, 0, 12, 16, 17, 64, 67, 68]),
+    ("lookup_failure", &[SHORT, 0, 12, 16, 17, 64, 67, 68]),
+];
+
+/// Beside the numbers: what a long run has to meet too.
+const MET: [&str; 25] = [
+    "receive: the sender moved",
+    "receive: the sender joined",
+    "receive: the sender's bucket is full",
+    "receive: no slot for the sender",
+    "receive: a client is not seen",
+    "receive: 0 for contacts",
+    "receive: 0 for records",
+    "receive: 0 for the connection",
+    "receive: a body of 16,384 bytes",
+    "reply to PUT_VALUE",
+    "reply to GET_VALUE",
+    "reply to FIND_NODE",
+    "reply to PING",
+    "reply of 14,000 bytes or more",
+    "reply by a box with odd addresses",
+    "reply: 0 for the view",
+    "reply: 0 for the lookup",
+    "reply: 256 candidates",
+    "seen: 20 in the bucket of a joined one",
+    "contacts: 5,120 slots or more",
+    "records: 256 slots or more",
+    "put: a value of 2,048 bytes is taken",
+    "write: a body of 16,300 bytes or more",
+    "out: too short for the numbers",
+    "contacts: no slot at all",
+];
+
+/// Stands for 0 where the memory of the box, connection or lookup is too short.
+const SHORT: u32 = 99;
+
+#[derive(Clone, Debug, Default)]
+pub struct Coverage {
+    counts: BTreeMap<(usize, u32), u64>,
+    met: BTreeMap<&'static str, u64>,
+    pub cuttings: u64,
+}
+
+fn entry(step: &Step, twin: &Twin) -> usize {
+    match step {
+        Step::Box { .. } => 0,
+        Step::Open { .. } => 1,
+        Step::Receive { line, .. } => 2 + usize::from(twin.world.lines[*line].conn.side == Side::Asking),
+        Step::End { .. } => 4,
+        Step::Seen { .. } => 5,
+        Step::Settle { .. } => 6,
+        Step::Remove { .. } => 7,
+        Step::Nearest { .. } => 8,
+        Step::Put { .. } => 9,
+        Step::Find { .. } => 10,
+        Step::Read { .. } => 11,
+        Step::Peer { .. } => 12,
+        Step::Address { .. } => 13,
+        Step::Write { .. } => 14,
+        Step::Start { .. } => 15,
+        Step::Next { .. } => 16,
+        Step::Reply { .. } => 17,
+        Step::Failure { .. } => 18,
+        Step::Poke { .. } | Step::Lend { .. } => unreachable!("no call"),
+    }
+}
+
+impl Coverage {
+    pub fn add(&mut self, twin: &Twin, call: &Call, answer: &Answer) {
+        let code = if call.is_short() { SHORT } else { answer.code };
+        *self.counts.entry((entry(&call.step, twin), code)).or_default() += 1;
+        if answer.numbers.len() > call.out.len() {
+            self.meet("out: too short for the numbers");
+        }
+        if !call.is_short() {
+            self.note(twin, call, answer);
+        }
+    }
+
+    fn meet(&mut self, what: &'static str) {
+        debug_assert!(MET.contains(&what));
+        *self.met.entry(what).or_default() += 1;
+    }
+
+    fn note(&mut self, twin: &Twin, call: &Call, answer: &Answer) {
+        let world = &twin.world;
+        match &call.step {
+            Step::Receive { line, .. } => self.note_receive(twin, *line, answer),
+            Step::Reply { lookup, .. } if answer.code == 0 => {
+                self.meet(if world.lookups[*lookup].in_form() { "reply: 0 for the view" } else { "reply: 0 for the lookup" })
+            }
+            Step::Reply { lookup, .. } if answer.code >= 64 && world.lookups[*lookup].candidates.len() == 256 => self.meet("reply: 256 candidates"),
+            Step::Seen { .. } if answer.code == 65 && world.contacts[616 * answer.numbers[0] as usize] == 20 => {
+                self.meet("seen: 20 in the bucket of a joined one")
+            }
+            Step::Seen { .. } if answer.code == 14 && contacts::slots(&world.contacts) == 0 => self.meet("contacts: no slot at all"),
+            Step::Seen { .. } if answer.code >= 64 && contacts::slots(&world.contacts) == 5_120 => self.meet("contacts: 5,120 slots or more"),
+            Step::Put { value, .. } if answer.code == 64 && value.len() == 2_048 => self.meet("put: a value of 2,048 bytes is taken"),
+            Step::Put { .. } if answer.code != 0 && records::slots(&world.records) == 256 => self.meet("records: 256 slots or more"),
+            Step::Write { .. } if answer.code == 64 && answer.numbers[0] >= 16_300 => self.meet("write: a body of 16,300 bytes or more"),
+            _ => {}
+        }
+    }
+
+    fn note_receive(&mut self, twin: &Twin, line: usize, answer: &Answer) {
+        let world = &twin.world;
+        if answer.code == 0 {
+            let contacts_fit = contacts::in_form(&world.contacts, &world.me.place);
+            let what = match (contacts_fit, records::in_form(&world.records), world.lines[line].conn.in_form(&world.me.place)) {
+                (false, _, _) => "receive: 0 for contacts",
+                (true, false, _) => "receive: 0 for records",
+                (true, true, false) => "receive: 0 for the connection",
+                // something was lent in part
+                (true, true, true) => return,
+            };
+            self.meet(what);
+        }
+        if answer.code == 66 && answer.numbers[1] == 16_384 {
+            self.meet("receive: a body of 16,384 bytes");
+        }
+        if answer.code == 65 {
+            self.note_reply(twin, answer);
+        }
+    }
+
+    fn note_reply(&mut self, twin: &Twin, answer: &Answer) {
+        let (me, reply) = (&twin.world.me, &twin.world.reply);
+        self.meet(match answer.numbers[2] {
+            0 => "receive: a client is not seen",
+            1 => "receive: the sender moved",
+            2 => "receive: the sender joined",
+            3 => "receive: the sender's bucket is full",
+            _ => "receive: no slot for the sender",
+        });
+        // after the prefix comes the tag of the type, and the type
+        let prefix = reply.iter().position(|b| *b < 0x80).unwrap_or(0) + 1;
+        let kind = reply[prefix + 1];
+        self.meet(match kind {
+            0 => "reply to PUT_VALUE",
+            1 => "reply to GET_VALUE",
+            4 => "reply to FIND_NODE",
+            _ => "reply to PING",
+        });
+        if answer.numbers[1] >= 14_000 {
+            self.meet("reply of 14,000 bytes or more");
+        }
+        let odd = me.addresses.len() > 4 || me.addresses.iter().any(|a| a.is_empty() || a.len() > 128);
+        if kind == 4 && odd && reply[..answer.numbers[1] as usize].windows(me.id.len()).any(|w| w == me.id) {
+            self.meet("reply by a box with odd addresses");
+        }
+    }
+
+    pub fn join(&mut self, other: &Coverage) {
+        other.counts.iter().for_each(|(k, n)| *self.counts.entry(*k).or_default() += n);
+        other.met.iter().for_each(|(k, n)| *self.met.entry(k).or_default() += n);
+        self.cuttings += other.cuttings;
+    }
+
+    /// What came up fewer than `least` times though it can, and what came up though it can't.
+    pub fn lacks(&self, least: u64) -> Vec<String> {
+        let mut lacks = Vec::new();
+        for (i, (name, codes)) in REACHABLE.iter().enumerate() {
+            let count = |code: u32| self.counts.get(&(i, code)).copied().unwrap_or(0);
+            lacks.extend(codes.iter().filter(|c| count(**c) < least).map(|c| format!("{name} gave {} only {} times", title(*c), count(*c))));
+            let strange = self.counts.keys().filter(|(entry, code)| *entry == i && !codes.contains(code));
+            lacks.extend(strange.map(|(_, code)| format!("{name} gave {}, which it can't", title(*code))));
+        }
+        let met = |what: &str| self.met.get(what).copied().unwrap_or(0);
+        lacks.extend(MET.iter().filter(|w| met(w) < least).map(|w| format!("'{w}' came up only {} times", met(w))));
+        lacks
+    }
+
+    /// The table of counts.
+    pub fn print(&self) {
+        for (i, (name, codes)) in REACHABLE.iter().enumerate() {
+            let cell = |code: &u32| format!("{}: {}", title(*code), self.counts.get(&(i, *code)).copied().unwrap_or(0));
+            println!("{name:17} {}", codes.iter().map(cell).collect::<Vec<_>>().join(", "));
+        }
+        for what in MET {
+            println!("  {what}: {}", self.met.get(what).copied().unwrap_or(0));
+        }
+        println!("streams cut in other ways: {}", self.cuttings);
+    }
+}
+
+fn title(code: u32) -> String {
+    if code == SHORT {
+        "short".to_string()
+    } else {
+        code.to_string()
+    }
+}
