@@ -6,11 +6,12 @@ use mathlib.Core.List.{List, [], _∷_}
 use native.Mathlib.Omega.{arith}
 use lib.Dec.{leb}
 use lib.ListN.{length, getD, take, drop}
-use borrow.Author.Tests.{le-leb, lt-leb, leb-true, not-true, not-false}
+use borrow.Author.Tests.{le-leb, lt-leb, leb-true}
 use Rattle.octets.specs.Search.{allOf}
-use Rattle.octets.proofs.Bools.{and-on, and-off, all-on, all-off, all-head, all-rest}
+use Rattle.octets.proofs.Bools.{all-on, all-off, all-head, all-rest}
 use Rattle.place.specs.Place.{nearerTo}
 use Rattle.lookup_marks.specs.Marks.{failed}
+use Rattle.parts.proofs.Same.{both-no, both-yes}
 use Rattle.lookup.specs.Lookup.{room, idMost, keyMost, limitMost, candidatesOf, wellMade, follow, nearestFirst, inForm}
 use Rattle.lookup.specs.declared.Candidate.{Candidate}
 use Rattle.lookup.specs.declared.Lookup.{Lookup}
@@ -35,13 +36,6 @@ module _ (c : Candidate) where
   unfolding wellMade
   made-len h g =
       sym (all-on (leb (c .mark) failed) _ (le-leb (c .mark) failed h) ∙ all-on (leb 1 (c .len)) _ (le-leb 1 (c .len) g) ∙ all-last (leb (c .len) idMost))
-
--- ---- two facts of which the first was computed
-pub both-no : (b a x : Bool) → b ≡ a → not b ≡ true → false ≡ (a && x)
-both-no b a x e h = sym (and-off a x (sym e ∙ not-true b h))
-
-pub both-yes : (b a x r : Bool) → b ≡ a → not b ≡ false → r ≡ x → r ≡ (a && x)
-both-yes b a x r e h q = q ∙ sym (and-on a x (sym e ∙ not-false b h))
 
 -- ---- the candidates, nearest first
 module _ (t : List ℕ) (n : ℕ) (xs : List Candidate) where

@@ -6,15 +6,11 @@ ghost use Prim.Native.Nat.{_+_, _<_, _≤_};
 ghost use lib.ListN.{length, take, drop};
 ghost use Rattle.place.specs.Place.{nearerTo};
 ghost use Rattle.lookup_marks.specs.Marks.{failed};
-ghost use Rattle.lookup.specs.View.{sameSpan, sameBool, sameHeld, sameFields};
 ghost use Rattle.lookup.specs.Inner.{rankOn, arrivalOf};
-ghost use Rattle.lookup.specs.Lookup.{markOf, marksOf, wellMade, nearestFirst, inForm, withCandidates, turnAway, markAt, mark, gives, refuses, ends, settled, nextOf, idFits, flies, flyerOf, whomOf, failureOf, fresh, liesAt, known, meet, hear, hearAll, isView, heardIds, heardFrom, replyOf, nobody, noLookup, contactAt, begun, keyFits, limitFits, startOf};
+ghost use Rattle.lookup.specs.Lookup.{markOf, marksOf, wellMade, nearestFirst, inForm, withCandidates, turnAway, markAt, mark, gives, refuses, ends, settled, nextOf, idFits, flies, flyerOf, whomOf, failureOf, fresh, liesAt, known, meet, hear, hearAll, heardIds, heardFrom, replyOf, nobody, noLookup, contactAt, begun, keyFits, limitFits, startOf};
 use lookup_marks::Ranks;
 use message::Fields;
-use message::Held;
-use message::Reading;
 use refusal::Refusal;
-use wire::Span;
 
 // Room for candidates, and the limits of a peer id, of a key and of the requests in flight.
 pub const ROOM: usize = 256;
@@ -390,71 +386,6 @@ fn arrival(ours: [u8; 32], id: &[u8]) -> Candidate
     c
 }
 
-// Whether two spans are one.
-fn same_span(a: Span, b: Span) -> bool
-    ensures { λ r. ⌜ r ≡ sameSpan a b ⌝ }
-{
-    if a.at != b.at {
-        return false;
-    }
-    a.end == b.end
-}
-
-// Whether two flags are one.
-fn same_flag(a: bool, b: bool) -> bool
-    ensures { λ r. ⌜ r ≡ sameBool a b ⌝ }
-{
-    if a {
-        return b;
-    }
-    !b
-}
-
-// Whether two places of a record are one.
-fn same_held(a: Held, b: Held) -> bool
-    ensures { λ r. ⌜ r ≡ sameHeld a b ⌝ }
-{
-    if !same_flag(a.there, b.there) {
-        return false;
-    }
-    let ak = a.key;
-    let bk = b.key;
-    if !same_span(ak, bk) {
-        return false;
-    }
-    let av = a.value;
-    let bv = b.value;
-    same_span(av, bv)
-}
-
-// Whether two views are one.
-fn same_fields(a: Fields, b: Fields) -> bool
-    ensures { λ r. ⌜ r ≡ sameFields a b ⌝ }
-{
-    if a.kind != b.kind {
-        return false;
-    }
-    let ak = a.key;
-    let bk = b.key;
-    if !same_span(ak, bk) {
-        return false;
-    }
-    let ah = a.held;
-    let bh = b.held;
-    same_held(ah, bh)
-}
-
-// Whether the view is what the reader gives for the body.
-fn is_view(body: &[u8], view: Fields) -> bool
-    ensures { λ r. ⌜ r ≡ isView (now (body .entry)) view ⌝ }
-{
-    let reading = message::read(body);
-    match reading {
-        Reading::Whole(m) => same_fields(m, view),
-        Reading::Refused(_) => false,
-    }
-}
-
 // The first 21 peers that a reply names are heard of, one after another. The loops stand in one function, since a lookup that is handed to
 // another is copied.
 fn hear_all(l: Lookup, ours: [u8; 32], body: &[u8]) -> Lookup
@@ -630,7 +561,7 @@ impl Lookup {
     pub fn reply(self, own: &[u8], ours: [u8; 32], id: &[u8], body: &[u8], view: Fields) -> Step
         ensures { λ r. ⌜ r ≡ replyOf self (now (own .entry)) ours (now (id .entry)) (now (body .entry)) view ⌝ }
     {
-        if !is_view(body, view) {
+        if !parts::is_view(body, view) {
             return give(self, Answer::Refused(Refusal::OutOfForm));
         }
         let w = about(self, own, ours, id);

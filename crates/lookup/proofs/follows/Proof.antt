@@ -1,6 +1,6 @@
 -- `follows`: well made, then farther. Assumes nothing.
 use borrow.Author.Needs.{needs}
-use Rattle.lookup.proofs.Form.{both-no, both-yes}
+use Rattle.parts.proofs.Same.{both-no, both-yes}
 use borrow.Author.Needs.{needs}
 use Rattle.lookup.proofs.follows.Statement.{statement}
 use Rattle.lookup.proofs.follows.Tie as tie

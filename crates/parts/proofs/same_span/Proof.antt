@@ -1,7 +1,7 @@
 -- `same_span`: field by field. Assumes nothing.
-use Rattle.lookup.proofs.Hearing.{span-no, span-yes}
-use Rattle.lookup.proofs.same_span.Statement.{statement}
-use Rattle.lookup.proofs.same_span.Tie as tie
+use Rattle.parts.proofs.Same.{span-no, span-yes}
+use Rattle.parts.proofs.same_span.Statement.{statement}
+use Rattle.parts.proofs.same_span.Tie as tie
 
 returns : tie.Need-returns
 returns c = span-no (c .before .before .before .args .a) (c .before .before .before .args .b) (c .if1 .taken)

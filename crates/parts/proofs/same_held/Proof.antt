@@ -1,10 +1,10 @@
 -- `same_held`: field by field. Assumes nothing.
 use borrow.Author.Needs.{needs}
-use Rattle.lookup.proofs.Form.{both-no, both-yes}
-use Rattle.lookup.proofs.Hearing.{held-is}
+use Rattle.parts.proofs.Same.{both-no, both-yes}
+use Rattle.parts.proofs.Same.{held-is}
 use borrow.Author.Needs.{needs}
-use Rattle.lookup.proofs.same_held.Statement.{statement}
-use Rattle.lookup.proofs.same_held.Tie as tie
+use Rattle.parts.proofs.same_held.Statement.{statement}
+use Rattle.parts.proofs.same_held.Tie as tie
 
 same-flag-requires : tie.Need-same-flag-requires
 same-flag-requires c κs = search needs

@@ -1,10 +1,10 @@
 -- `same_fields`: field by field. Assumes nothing.
 use borrow.Author.Needs.{needs}
-use Rattle.lookup.proofs.Form.{both-no, both-yes}
-use Rattle.lookup.proofs.Hearing.{kind-no, kind-yes}
+use Rattle.parts.proofs.Same.{both-no, both-yes}
+use Rattle.parts.proofs.Same.{kind-no, kind-yes}
 use borrow.Author.Needs.{needs}
-use Rattle.lookup.proofs.same_fields.Statement.{statement}
-use Rattle.lookup.proofs.same_fields.Tie as tie
+use Rattle.parts.proofs.same_fields.Statement.{statement}
+use Rattle.parts.proofs.same_fields.Tie as tie
 
 returns : tie.Need-returns
 returns c = kind-no (c .before .before .before .args .a) (c .before .before .before .args .b) (c .if1 .taken)
