@@ -1,3 +1,4 @@
 pub mod Thin
 pub mod ThinFrom
+pub mod Whole
 pub mod Results

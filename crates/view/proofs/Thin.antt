@@ -62,7 +62,7 @@ abbrev pub Typed : Slot 1 → Ty → Type 2
 Typed S τ = (M : Type 1) (𝓤 : URA M) (H : Heap 𝓤) (A : Atoms 𝓤) (W : Given 𝓤 H A) (κs : Lfts 1) (r : typeAt S κs .Denot) (u : Val) → Is (typeAt S κs) r (u ∷ []) → Holds (hasTy τ u) × WT u
 
 module _ (S : Slot 1) (Says : (κs : Lfts 1) → View → typeAt S κs .Denot → Type 0) where
-  abbrev f-ended : Ended
+  abbrev pub f-ended : Ended
   f-ended = record { signature = record { lifetimes = 1; outlives = []; params = plain B ∷ []; result = S }; kept = (yes, tt) }
 
   abbrev g-ended : Ended
@@ -72,7 +72,7 @@ module _ (S : Slot 1) (Says : (κs : Lfts 1) → View → typeAt S κs .Denot �
   stayed = (stay-dropped (plain B) yes, tt)
 
   module _ {M : Type 1} (𝓤 : URA M) where
-    abbrev f-clauses : Clauses 𝓤 f-ended
+    abbrev pub f-clauses : Clauses 𝓤 f-ended
     f-clauses κs a = record { ghost = Unit {0}; requires = λ _. emp 𝓤; ensures = λ _ r _. fact 𝓤 (Says κs (a .0) r) }
 
     abbrev g-clauses : Clauses 𝓤 g-ended

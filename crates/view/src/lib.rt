@@ -81,3 +81,25 @@ pub fn record_value_bytes<'a>(v: View<'a>) -> &'a [u8]
 {
     parts::record_value_bytes(v.body, v.at)
 }
+
+// ---- on a plain body, for callers that hold no view
+
+// The type of the message that a body is.
+pub fn kind_of<'a>(body: &'a [u8]) -> Number
+    ensures { λ r. ⌜ r ≡ kindOf (now (body .entry)) (positionsOf (now (body .entry))) ⌝ }
+{
+    kind(view_of(body))
+}
+
+// The bytes of its key, and of its record's value.
+pub fn key_of<'a>(body: &'a [u8]) -> &'a [u8]
+    ensures { λ r. ⌜ now r ≡ keyBytes (now (body .entry)) (positionsOf (now (body .entry))) ⌝ }
+{
+    key_bytes(view_of(body))
+}
+
+pub fn record_value_of<'a>(body: &'a [u8]) -> &'a [u8]
+    ensures { λ r. ⌜ now r ≡ recordValueBytes (now (body .entry)) (positionsOf (now (body .entry))) ⌝ }
+{
+    record_value_bytes(view_of(body))
+}
