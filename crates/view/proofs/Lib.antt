@@ -1,4 +1,4 @@
+pub mod Further
 pub mod Thin
-pub mod ThinFrom
 pub mod Whole
 pub mod Results

@@ -1,7 +1,10 @@
--- What thin functions return: of each type its slot in a signature, its type in MIR, and that a result has it. Assumes nothing.
+-- What thin functions return: of each type its slot in a signature, its type in MIR, and that a result has it. And what they take besides a view. Assumes nothing.
+use mathlib.Core.Path.{refl}
 use mathlib.Core.List.{[], _∷_}
-use mir.Syntax.{Ty, named, imm, w8, tyInt, tyRef}
-use denote.Builtin.{u8}
+use mir.Syntax.{Ty, named, imm, w8, w64, tyInt, tyRef}
+use mir.Val.{vint}
+use denote.Builtin.{u8, usize}
+use denote.Plain.{uint-tells, uint-lawful}
 use denote.Signature.{Slot, plain, shrSliceOf}
 use denote.Slice.{sliceTy, shr-slice-lawful}
 use denote.Enum.Laws as EL
@@ -11,7 +14,7 @@ use Rattle.parts.proofs.Part as P
 use Rattle.parts.proofs.Part.Laws as P′
 use Rattle.parts.proofs.Entry as E
 use Rattle.parts.proofs.Entry.Laws as E′
-use Rattle.view.proofs.Thin.{Typed}
+use Rattle.view.proofs.Further.{Typed, Par}
 
 abbrev pub number : Slot 1
 number = plain (λ _. N.the-row)
@@ -48,3 +51,15 @@ bytes-ty = sliceTy (tyRef (named 0) imm (tyInt w8))
 
 pub bytes-typed : Typed bytes bytes-ty
 bytes-typed M 𝓤 H A W κs r u is = shr-slice-lawful 𝓤 H A W (named 0) (κs .0) u8 .typed r _ is .0
+
+-- a position in the body
+abbrev pub position : Par
+position = record {
+  slot = plain (λ _. usize);
+  ty = tyInt w64;
+  val = λ κs n. vint w64 n;
+  tells = λ κs. uint-tells w64;
+  typed = λ M 𝓤 H A W κs n u is. uint-lawful 𝓤 H A W w64 .typed n _ is .0;
+  last = λ κs n. tt;
+  quiet = λ κs n w. refl;
+}

@@ -1,4 +1,4 @@
--- One law for functions on a plain body: `fn h<'a>(body: &'a [u8]) -> R { f(view_of(body)) }`, with f a thin function, meets what f meets at the view of the
+-- One law for functions on a plain body: `fn h<'a>(body: &'a [u8]) -> R { f(view_of(body)) }`, with f a thin function of a view alone, meets what f meets at the view of the
 -- body. The view stands in a local between the two calls; there MIR erases its lifetime. Assumes nothing.
 use mathlib.Core.Path.{_≡_, refl, ap, _∙_, subst, sym}
 use mathlib.Core.List.{List, [], _∷_}
@@ -38,7 +38,8 @@ use Rattle.parts.specs.Parts.{positionsOf}
 use Rattle.view.specs.declared.View.{View}
 use Rattle.view.proofs.View as T
 use Rattle.view.proofs.View.Laws as T′
-use Rattle.view.proofs.Thin.{B, Typed, f-ended, f-clauses}
+use Rattle.view.proofs.Further.{Typed, Passed}
+use Rattle.view.proofs.Thin.{B, f-ended, f-clauses}
 use Rattle.view.proofs.view_of as v
 use Rattle.view.proofs.view_of.Symbol.{name as #v}
 
@@ -66,7 +67,7 @@ module _ {M : Type 1} (𝓤 : URA M) (H : Heap 𝓤) (A : Atoms 𝓤) (mem : Mem
   abbrev pub Made : Contract 𝓤
   Made = tripleOf 𝓤 H A v.signature (v.spec 𝓤 H A mem run)
 
-module _ (S : Slot 1) (Says : (κs : Lfts 1) → View → typeAt S κs .Denot → Type 0) where
+module _ (S : Slot 1) (Says : (κs : Lfts 1) → View → Passed κs [] → typeAt S κs .Denot → Type 0) where
   abbrev h-ended : Ended
   h-ended = record { signature = record { lifetimes = 1; outlives = []; params = body ∷ []; result = S }; kept = (yes, tt) }
 
@@ -75,13 +76,13 @@ module _ (S : Slot 1) (Says : (κs : Lfts 1) → View → typeAt S κs .Denot �
 
   module _ {M : Type 1} (𝓤 : URA M) where
     abbrev h-clauses : Clauses 𝓤 h-ended
-    h-clauses κs a = record { ghost = Unit {0}; requires = λ _. emp 𝓤; ensures = λ _ r _. fact 𝓤 (Says κs (seen (a .0)) r) }
+    h-clauses κs a = record { ghost = Unit {0}; requires = λ _. emp 𝓤; ensures = λ _ r _. fact 𝓤 (Says κs (seen (a .0)) tt r) }
 
     -- the thin function's contract
     abbrev pub K : (H : Heap 𝓤) (A : Atoms 𝓤) → Contract 𝓤
-    K H A = tripleOf 𝓤 H A (f-ended S Says .signature) (closing 𝓤 H A (f-ended S Says) (f-clauses S Says 𝓤))
+    K H A = tripleOf 𝓤 H A (f-ended [] S Says .signature) (closing 𝓤 H A (f-ended [] S Says) (f-clauses [] S Says 𝓤))
 
-module _ (S : Slot 1) (Says : (κs : Lfts 1) → View → typeAt S κs .Denot → Type 0) (τ : Ty) (typed : Typed S τ) (#f : Name) where
+module _ (S : Slot 1) (Says : (κs : Lfts 1) → View → Passed κs [] → typeAt S κs .Denot → Type 0) (τ : Ty) (typed : Typed S τ) (#f : Name) where
   module _ {M : Type 1} (𝓤 : URA M) (H : Heap 𝓤) (A : Atoms 𝓤) (W : Given 𝓤 H A) (mem : Memory → SProp 𝓤) (run : Routine → Fun 𝓤) (κ : Lft) (q : Share) (s : RefT (List ℕ)) where
     abbrev w : Val
     w = sliceVal (s .ptr) (length (s .now))
@@ -115,10 +116,10 @@ module _ (S : Slot 1) (Says : (κs : Lfts 1) → View → typeAt S κs .Denot �
     f-asked : (r : View) (u : Val) → ent 𝓤 (⋆ 𝓤 H A (‵ (B (κ, tt) .own r (u ∷ [])) ∷ (‵ (flft κ q) ⊛ ‵ ftrue) ∷ [])) (K S Says 𝓤 H A .pre (to-f r u))
     f-asked r u = qed W (‵ (B (κ, tt) .own r (u ∷ [])) ∷ (‵ (flft κ q) ⊛ ‵ ftrue) ∷ []) ∵ nothing ! $ move ! (1 ∷ 0 ∷ []) $ fjoin ! $ move ! (1 ∷ 0 ∷ []) $ join ! $ nothing ! $ move ! (1 ∷ 0 ∷ []) $ frame ! $ done !
 
-    f-said : (r : View) (t : R .Denot) → ent 𝓤 (ensured 𝓤 H A (f-ended S Says) (f-clauses S Says 𝓤) (κ, tt) (r, tt) tt t) (fact 𝓤 (Says (κ, tt) r t))
-    f-said r t = exE 𝓤 _ (λ ws. snd∗ 𝓤 (sem 𝓤 H A (lasts (f-ended S Says) (κ, tt) (r, tt) ws)) (fact 𝓤 (Says (κ, tt) r t)))
+    f-said : (r : View) (t : R .Denot) → ent 𝓤 (ensured 𝓤 H A (f-ended [] S Says) (f-clauses [] S Says 𝓤) (κ, tt) (r, tt) tt t) (fact 𝓤 (Says (κ, tt) r tt t))
+    f-said r t = exE 𝓤 _ (λ ws. snd∗ 𝓤 (sem 𝓤 H A (lasts (f-ended [] S Says) (κ, tt) (r, tt) ws)) (fact 𝓤 (Says (κ, tt) r tt t)))
 
-    exits : (t : R .Denot) (u : Val) → Says (κ, tt) (seen s) t → ent 𝓤 (⋆ 𝓤 H A (‵ (R .own t (u ∷ [])) ∷ (‵ (flft κ q) ⊛ ‵ ftrue) ∷ [])) (Post u)
+    exits : (t : R .Denot) (u : Val) → Says (κ, tt) (seen s) tt t → ent 𝓤 (⋆ 𝓤 H A (‵ (R .own t (u ∷ [])) ∷ (‵ (flft κ q) ⊛ ‵ ftrue) ∷ [])) (Post u)
     exits t u e =
         qed W (‵ (R .own t (u ∷ [])) ∷ (‵ (flft κ q) ⊛ ‵ ftrue) ∷ []) ∵
         suffices ! _ (ends-at 𝓤 H A (h-ended S Says) (stayed S Says) (h-clauses S Says 𝓤) W (((κ, tt), (q, tt), tt, (s, tt), (w ∷ [], tt)), tt) u t (tt, tt) (tt, tt)) $ says ! e $
@@ -138,13 +139,13 @@ module _ (S : Slot 1) (Says : (κs : Lfts 1) → View → typeAt S κs .Denot �
           land ! (from ! (stop !)) (init ! 2 refl (LL.lawful (T.the-type αᵉ) (T′.the-laws αᵉ) 𝓤 H A W .typed r _ is .0)) $
           use2 W (raw (K S Says 𝓤 H A .pre (to-f r u))) (f-asked r u) $
           calls-at ! fm (K S Says 𝓤 H A) known-f (to-f r u) (and-then ! (load ! (from ! (stop !)) (look ! 1 refl)) (no-more !)) (λ u′.
-          use1 W (later (some (λ (t : R .Denot). ((‵ (flft κ q) ⊛ ‵ ftrue) ⊛ ‵ (R .own t (u′ ∷ []))) ⊛ raw (ensured 𝓤 H A (f-ended S Says) (f-clauses S Says 𝓤) (κ, tt) (r, tt) tt t)))) (id⊢ 𝓤 _) $ await ! tt $ pick ! (λ t.
-          split ! $ move ! (1 ∷ []) $ use1 W (raw (fact 𝓤 (Says (κ, tt) r t))) (f-said r t) $ heard ! (Says (κ, tt) r t) (λ e′. split ! $ move ! (1 ∷ []) $
+          use1 W (later (some (λ (t : R .Denot). ((‵ (flft κ q) ⊛ ‵ ftrue) ⊛ ‵ (R .own t (u′ ∷ []))) ⊛ raw (ensured 𝓤 H A (f-ended [] S Says) (f-clauses [] S Says 𝓤) (κ, tt) (r, tt) tt t)))) (id⊢ 𝓤 _) $ await ! tt $ pick ! (λ t.
+          split ! $ move ! (1 ∷ []) $ use1 W (raw (fact 𝓤 (Says (κ, tt) r tt t))) (f-said r t) $ heard ! (Says (κ, tt) r tt t) (λ e′. split ! $ move ! (1 ∷ []) $
           -- [the result; the token; _2; …; _1; …; room for _0; …]
           peeks ! R (Is R) (shows 𝓤 H A R) t (u′ ∷ []) (λ is′.
           land ! (from ! (stop !)) (init ! 6 refl (typed M 𝓤 H A W (κ, tt) t u′ is′)) $
           returns ! (look ! 6 refl) $ forget ! 2 refl $ forget ! 4 refl $ forget ! 6 refl $ move ! (6 ∷ 7 ∷ []) $ free1 ! $ move ! (4 ∷ 5 ∷ []) $ free1 ! $ move ! (2 ∷ 3 ∷ []) $ free1 ! $ free0 ! $
-          by ! (exits t u′ (subst (λ (x : View). Says (κ, tt) x t) (seen-is s r e) e′)))))))))))))
+          by ! (exits t u′ (subst (λ (x : View). Says (κ, tt) x tt t) (seen-is s r e) e′)))))))))))))
 
   module _ {M : Type 1} (𝓤 : URA M) (H : Heap 𝓤) (A : Atoms 𝓤) (W : Given 𝓤 H A) (mem : Memory → SProp 𝓤) (run : Routine → Fun 𝓤) where
     walks : (C : Calls 𝓤 H) (Λ : Loops 𝓤 H) → FmC 𝓤 H (W .laws) C → Triple 𝓤 (C #v) (Made 𝓤 H A mem run) → Triple 𝓤 (C #f) (K S Says 𝓤 H A)

@@ -1,5 +1,6 @@
 -- `kind_of`, by the law of functions on a plain body. Assumes nothing.
 use mathlib.Core.Path.{_≡_}
+use mathlib.Core.List.{[]}
 use contract.Lifetimes.{Lfts}
 use contract.Running.{givenOf, tables, tablesOf}
 use denote.Ref.{now}
@@ -8,6 +9,7 @@ use denote.Triple.Spec.{tripleOf}
 use denote.Triple.Table.{entered, cited}
 use Rattle.parts.specs.Parts.{kindOf}
 use Rattle.view.specs.declared.View.{View}
+use Rattle.view.proofs.Further.{Passed}
 use Rattle.view.proofs.Whole.{Made, K, meets}
 use Rattle.view.proofs.Results as results
 use Rattle.view.proofs.view_of.Symbol as v-def
@@ -21,8 +23,8 @@ use Rattle.view.proofs.kind_of.Key.{name as #h}
 use Rattle.view.proofs.kind_of.Statement as stated
 use Rattle.view.proofs.kind_of.Code as code
 
-abbrev Says : (κs : Lfts 1) → View → typeAt results.number κs .Denot → Type 0
-Says κs d r = r ≡ kindOf (now (d .body)) (d .at)
+abbrev Says : (κs : Lfts 1) → View → Passed κs [] → typeAt results.number κs .Denot → Type 0
+Says κs d a r = r ≡ kindOf (now (d .body)) (d .at)
 
 pub kind-of-spec : {M : Type 1} → stated.statement M
 unfolding code.routine tablesOf
