@@ -1,16 +1,16 @@
 -- A view's positions are the reader's and lie inside the body; and its parts, step by step. Assumes nothing.
 use Prim.Native.Nat.{ℕ, _≤_}
 use mathlib.Core.Path.{_≡_, refl, sym, ap, ap₂, _∙_}
-use mathlib.Core.Bool.{Bool, true, false, cond}
+use mathlib.Core.Bool.{Bool, true, false}
 use mathlib.Core.List.{List, []}
-use lib.ListN.{length}
+use lib.ListN.{length, take}
 use Rattle.octets.proofs.Bools.{not-both, cond-yes, cond-no}
 use Rattle.refusal.specs.declared.Refusal.{Refusal}
 use Rattle.wire.specs.Wire.{fieldsAt, spans, firstOf}
 use Rattle.wire.specs.Items.{cut}
 use Rattle.wire.specs.declared.Span.{Span}
 use Rattle.wire.specs.declared.Found.{Found}
-use Rattle.message.specs.View.{readingOf}
+use Rattle.message.specs.View.{readingOf, idAt, connectionAt}
 use Rattle.message.specs.declared.Fields.{Fields}
 use Rattle.message.specs.declared.Reading.{Reading}
 use Rattle.message.specs.declared.Reading.the-variants.{Whole, Refused as Unread}
@@ -19,7 +19,7 @@ use Rattle.message.proofs.Views.{read-whole}
 use Rattle.parts.specs.declared.Number.{Number}
 use Rattle.parts.specs.declared.Part.{Part}
 use Rattle.parts.specs.declared.Entry.{Entry}
-use Rattle.parts.specs.Parts.{isReading, isView, numberIf, partIf, entryIf, foundIf, bytesIf, kindOf, keyOf, recordKeyOf, recordValueOf, closerOf, providerOf, keyBytes, recordKeyBytes, recordValueBytes}
+use Rattle.parts.specs.Parts.{isReading, isView, numberIf, partIf, entryIf, foundIf, bytesIf, kindOf, keyOf, recordKeyOf, recordValueOf, closerOf, providerOf, peerIdOf, peerConnectionOf, peerAddressOf, keyBytes, recordKeyBytes, recordValueBytes}
 use Rattle.parts.proofs.Same.{fields-eq, fields-self}
 
 module _ (s : List ℕ) where
@@ -80,6 +80,18 @@ module _ (s : List ℕ) (v : Fields) (b : Bool) (e : b ≡ isView s v) where
   pub provider-is : (from : ℕ) (f : Found) (r : Entry) → f ≡ firstOf (spans 9 (fieldsAt s from)) → r ≡ foundIf b f → r ≡ providerOf s v from
   unfolding providerOf
   provider-is from f r w q = q ∙ ap₂ foundIf e w
+
+  pub peer-id-is : (p q : Span) (r : Part) → q ≡ idAt s p → r ≡ partIf b q → r ≡ peerIdOf s v p
+  unfolding peerIdOf
+  peer-id-is p q r w i = i ∙ ap₂ partIf e w
+
+  pub peer-connection-is : (p : Span) (n : ℕ) (r : Number) → n ≡ connectionAt s p → r ≡ numberIf b n → r ≡ peerConnectionOf s v p
+  unfolding peerConnectionOf
+  peer-connection-is p n r w i = i ∙ ap₂ numberIf e w
+
+  pub peer-address-is : (p : Span) (from : ℕ) (f : Found) (r : Entry) → f ≡ firstOf (spans 2 (fieldsAt (take (p .end) s) from)) → r ≡ foundIf b f → r ≡ peerAddressOf s v p from
+  unfolding peerAddressOf
+  peer-address-is p from f r w i = i ∙ ap₂ foundIf e w
 
 -- ---- bytes: cut out of a view, and none of another
 bytes-yes : (b c : Bool) (s r : List ℕ) (p : Span) → b ≡ c → b ≡ true → r ≡ cut s p → r ≡ bytesIf c s p

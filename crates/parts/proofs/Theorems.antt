@@ -3,23 +3,20 @@ use Prim.Native.Nat.{ℕ, zero, suc}
 use mathlib.Core.Path.{_≡_, refl, sym, ap, _∙_}
 use mathlib.Core.Bool.{Bool, true, false, cond}
 use mathlib.Core.List.{List, [], _∷_}
-use mathlib.Core.Option.{Option, none, some}
-use lib.ListN.{length}
-use Rattle.refusal.specs.declared.Refusal.the-variants.{OutOfForm}
+use mathlib.Core.Option.{none, some}
+use lib.ListN.{length, take}
 use Rattle.wire.specs.Wire.{fieldsAt, spans, firstOf, onFound, walk}
 use Rattle.wire.specs.Items.{cut}
 use Rattle.wire.specs.declared.Span.{Span}
 use Rattle.wire.specs.declared.Found.{Found}
 use Rattle.wire.specs.declared.Found.the-variants.{At as FoundAt, Nothing as FoundNothing}
-use Rattle.message.specs.Message.{Record, messageOf}
-use Rattle.message.specs.View.{readingOf, heldMeant, meant}
+use Rattle.message.specs.View.{idAt, connectionAt, heldMeant}
 use Rattle.message.specs.declared.Fields.{Fields}
-use Rattle.message.specs.declared.Reading.{Reading}
 use Rattle.message.proofs.Meaning.{key-meant, kind-meant, held-meant}
-use Rattle.message.proofs.Views.{read-whole, closer-walked, providers-walked}
+use Rattle.message.proofs.Views.{read-whole, closer-walked, providers-walked, addresses-walked}
 use Rattle.parts.specs.declared.Number.the-variants.{Is}
-use Rattle.parts.specs.Parts.{isView, fieldsIn, positionsOf, numberIf, partIf, entryIf, entryOf, foundIf, bytesIf, kindOf, keyOf, recordKeyOf, recordValueOf, closerOf, providerOf, keyBytes, recordKeyBytes, recordValueBytes}
-use Rattle.parts.specs.Promises.{OnlyTheReaders, TheReaders, NoView, entryFound, Meant, ViewsMean, Nothing, OthersRefused}
+use Rattle.parts.specs.Parts.{isView, fieldsIn, positionsOf, numberIf, partIf, entryIf, entryOf, foundIf, bytesIf, kindOf, keyOf, recordKeyOf, recordValueOf, closerOf, providerOf, peerIdOf, peerConnectionOf, peerAddressOf, keyBytes, recordKeyBytes, recordValueBytes}
+use Rattle.parts.specs.Promises.{OnlyTheReaders, TheReaders, NoView, entryFound, Meant, ViewsMean, OthersRefused}
 use Rattle.parts.proofs.Own.{view-read, read-view, refused-view}
 
 pub only-the-readers : OnlyTheReaders
@@ -61,7 +58,7 @@ module _ (s : List ℕ) (v : Fields) (h : isView s v ≡ true) where
       ∙ ap (λ (b : Bool). some (record { key = bytesIf b s (v .held .key); value = bytesIf b s (v .held .value) })) (sym h)
 
   means : Meant s v
-  unfolding kindOf keyBytes closerOf providerOf
+  unfolding kindOf keyBytes closerOf providerOf peerIdOf peerConnectionOf peerAddressOf
   means =
       let w = read-whole s v (view-read s v h) in
       record {
@@ -71,6 +68,9 @@ module _ (s : List ℕ) (v : Fields) (h : isView s v ≡ true) where
         held = λ e. sym (held-meant s) ∙ ap (λ (m : Fields). heldMeant s (m .held)) (sym (w .is)) ∙ held-there e;
         closer = walk-same (suc (length s)) _ _ (λ n. found-viewed (firstOf (spans 8 (fieldsAt s n)))) 0 ∙ closer-walked s;
         providers = walk-same (suc (length s)) _ _ (λ n. found-viewed (firstOf (spans 9 (fieldsAt s n)))) 0 ∙ providers-walked s;
+        id = λ p. ap (λ (b : Bool). partIf b (idAt s p)) h;
+        connection = λ p. ap (λ (b : Bool). numberIf b (connectionAt s p)) h;
+        addresses = λ p. walk-same (suc (length (take (p .end) s))) _ _ (λ n. found-viewed (firstOf (spans 2 (fieldsAt (take (p .end) s) n)))) (p .at) ∙ addresses-walked s p;
       }
 
 pub views-mean : ViewsMean
@@ -78,7 +78,7 @@ views-mean = means
 
 -- ---- without a view
 pub others-refused : OthersRefused
-unfolding kindOf keyOf recordKeyOf recordValueOf closerOf providerOf keyBytes recordKeyBytes recordValueBytes
+unfolding kindOf keyOf recordKeyOf recordValueOf closerOf providerOf peerIdOf peerConnectionOf peerAddressOf keyBytes recordKeyBytes recordValueBytes
 others-refused s v h =
     record {
       kind = ap (λ (b : Bool). numberIf b (v .kind)) h;
@@ -87,6 +87,9 @@ others-refused s v h =
       recordValue = ap (λ (b : Bool). entryIf b (v .held .there) (v .held .value)) h;
       closer = λ from. ap (λ (b : Bool). foundIf b (firstOf (spans 8 (fieldsAt s from)))) h;
       provider = λ from. ap (λ (b : Bool). foundIf b (firstOf (spans 9 (fieldsAt s from)))) h;
+      id = λ p. ap (λ (b : Bool). partIf b (idAt s p)) h;
+      connection = λ p. ap (λ (b : Bool). numberIf b (connectionAt s p)) h;
+      address = λ p from. ap (λ (b : Bool). foundIf b (firstOf (spans 2 (fieldsAt (take (p .end) s) from)))) h;
       keyBytes = ap (λ (b : Bool). bytesIf b s (v .key)) h;
       recordKeyBytes = ap (λ (b : Bool). bytesIf b s (v .held .key)) h;
       recordValueBytes = ap (λ (b : Bool). bytesIf b s (v .held .value)) h;

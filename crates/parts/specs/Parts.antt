@@ -4,13 +4,14 @@ use Prim.Native.Nat.{ℕ}
 use mathlib.Core.Bool.{Bool, false, cond, not, _&&_}
 use mathlib.Core.List.{List, []}
 use lib.Dec.{eqb}
+use lib.ListN.{take}
 use Rattle.refusal.specs.declared.Refusal.the-variants.{OutOfForm}
 use Rattle.wire.specs.Wire.{fieldsAt, spans, firstOf, nowhere}
 use Rattle.wire.specs.Items.{cut}
 use Rattle.wire.specs.declared.Span.{Span}
 use Rattle.wire.specs.declared.Found.{Found}
 use Rattle.wire.specs.declared.Found.the-variants.{At as FoundAt, Nothing as FoundNothing}
-use Rattle.message.specs.View.{noRecord, readingOf}
+use Rattle.message.specs.View.{noRecord, readingOf, idAt, connectionAt}
 use Rattle.message.specs.declared.Held.{Held}
 use Rattle.message.specs.declared.Fields.{Fields}
 use Rattle.message.specs.declared.Reading.{Reading}
@@ -94,6 +95,16 @@ closerOf body v from = foundIf (isView body v) (firstOf (spans 8 (fieldsAt body 
 
 unfoldable pub providerOf : List ℕ → Fields → ℕ → Entry
 providerOf body v from = foundIf (isView body v) (firstOf (spans 9 (fieldsAt body from)))
+
+-- of the peer whose bytes are at a span: its id, its connection, and its first address from a position on
+unfoldable pub peerIdOf : List ℕ → Fields → Span → Part
+peerIdOf body v p = partIf (isView body v) (idAt body p)
+
+unfoldable pub peerConnectionOf : List ℕ → Fields → Span → Number
+peerConnectionOf body v p = numberIf (isView body v) (connectionAt body p)
+
+unfoldable pub peerAddressOf : List ℕ → Fields → Span → ℕ → Entry
+peerAddressOf body v p from = foundIf (isView body v) (firstOf (spans 2 (fieldsAt (take (p .end) body) from)))
 
 -- ---- "each bytes field is that part of it": the bytes themselves, none where the view is refused or there is no record
 

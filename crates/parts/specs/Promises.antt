@@ -4,21 +4,22 @@ use mathlib.Core.Path.{_≡_}
 use mathlib.Core.Bool.{true, false}
 use mathlib.Core.List.{List, []}
 use mathlib.Core.Option.{none, some}
-use lib.ListN.{length}
+use lib.ListN.{length, take}
 use Rattle.refusal.specs.declared.Refusal.{Refusal}
 use Rattle.refusal.specs.declared.Refusal.the-variants.{OutOfForm}
 use Rattle.wire.specs.Wire.{walk}
+use Rattle.wire.specs.declared.Span.{Span}
 use Rattle.wire.specs.declared.Found.{Found}
 use Rattle.wire.specs.declared.Found.the-variants.{At as FoundAt, Nothing as FoundNothing}
 use Rattle.message.specs.Message.{messageOf}
-use Rattle.message.specs.View.{readingOf, closerAt, providersAt}
+use Rattle.message.specs.View.{readingOf, closerAt, providersAt, idAt, connectionAt, addressesAt}
 use Rattle.message.specs.declared.Fields.{Fields}
 use Rattle.message.specs.declared.Reading.the-variants.{Whole, Refused as Unread}
 use Rattle.parts.specs.declared.Number.the-variants.{Is, Refused as NumberRefused}
-use Rattle.parts.specs.declared.Part.the-variants.{Refused as PartRefused}
+use Rattle.parts.specs.declared.Part.the-variants.{At as PartAt, Refused as PartRefused}
 use Rattle.parts.specs.declared.Entry.{Entry}
 use Rattle.parts.specs.declared.Entry.the-variants.{At as EntryAt, Nothing as NoEntry, Refused as EntryRefused}
-use Rattle.parts.specs.Parts.{isView, positionsOf, kindOf, keyOf, recordKeyOf, recordValueOf, closerOf, providerOf, keyBytes, recordKeyBytes, recordValueBytes}
+use Rattle.parts.specs.Parts.{isView, positionsOf, kindOf, keyOf, recordKeyOf, recordValueOf, closerOf, providerOf, peerIdOf, peerConnectionOf, peerAddressOf, keyBytes, recordKeyBytes, recordValueBytes}
 
 -- the positions of a view are the reader's, and the reader's are a view's
 abbrev pub OnlyTheReaders : Type 0
@@ -38,7 +39,7 @@ entryFound (EntryAt p) = FoundAt p
 entryFound NoEntry = FoundNothing
 entryFound (EntryRefused r) = FoundNothing
 
--- what the body says; its peers, from 0 and then from each end, are all of them
+-- what the body says; its peers, from 0 and then from each end, are all of them, and so are a peer's addresses from its start on
 pub record Meant (s : List ℕ) (v : Fields) : Type 0 where
   pub kind : kindOf s v ≡ Is (messageOf s .kind)
   pub key : keyBytes s v ≡ messageOf s .key
@@ -46,6 +47,9 @@ pub record Meant (s : List ℕ) (v : Fields) : Type 0 where
   pub held : v .held .there ≡ true → messageOf s .held ≡ some (record { key = recordKeyBytes s v; value = recordValueBytes s v })
   pub closer : walk (suc (length s)) (λ from. entryFound (closerOf s v from)) 0 ≡ closerAt s
   pub providers : walk (suc (length s)) (λ from. entryFound (providerOf s v from)) 0 ≡ providersAt s
+  pub id : (p : Span) → peerIdOf s v p ≡ PartAt (idAt s p)
+  pub connection : (p : Span) → peerConnectionOf s v p ≡ Is (connectionAt s p)
+  pub addresses : (p : Span) → walk (suc (length (take (p .end) s))) (λ from. entryFound (peerAddressOf s v p from)) (p .at) ≡ addressesAt s p
 
 abbrev pub ViewsMean : Type 0
 ViewsMean = (s : List ℕ) (v : Fields) → isView s v ≡ true → Meant s v
@@ -59,6 +63,9 @@ pub record Nothing (s : List ℕ) (v : Fields) : Type 0 where
   pub recordValue : recordValueOf s v ≡ EntryRefused OutOfForm
   pub closer : (from : ℕ) → closerOf s v from ≡ EntryRefused OutOfForm
   pub provider : (from : ℕ) → providerOf s v from ≡ EntryRefused OutOfForm
+  pub id : (p : Span) → peerIdOf s v p ≡ PartRefused OutOfForm
+  pub connection : (p : Span) → peerConnectionOf s v p ≡ NumberRefused OutOfForm
+  pub address : (p : Span) (from : ℕ) → peerAddressOf s v p from ≡ EntryRefused OutOfForm
   pub keyBytes : keyBytes s v ≡ []
   pub recordKeyBytes : recordKeyBytes s v ≡ []
   pub recordValueBytes : recordValueBytes s v ≡ []

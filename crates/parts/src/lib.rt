@@ -3,7 +3,7 @@ ghost use mathlib.Core.Path.{_≡_};
 ghost use Prim.Native.Nat.{_≤_};
 ghost use lib.ListN.{length};
 ghost use Rattle.wire.specs.Items.{cut};
-ghost use Rattle.parts.specs.Parts.{sameSpan, sameBool, sameHeld, sameFields, isView, positionsOf, numberIf, partIf, entryIf, foundIf, kindOf, keyOf, recordKeyOf, recordValueOf, closerOf, providerOf, keyBytes, recordKeyBytes, recordValueBytes};
+ghost use Rattle.parts.specs.Parts.{sameSpan, sameBool, sameHeld, sameFields, isView, positionsOf, numberIf, partIf, entryIf, foundIf, kindOf, keyOf, recordKeyOf, recordValueOf, closerOf, providerOf, peerIdOf, peerConnectionOf, peerAddressOf, keyBytes, recordKeyBytes, recordValueBytes};
 use message::Fields;
 use message::Held;
 use message::Reading;
@@ -11,7 +11,7 @@ use refusal::Refusal;
 use wire::Found;
 use wire::Span;
 
-// A message's type.
+// A message's type, or a peer's connection.
 pub enum Number {
     Is(u64),
     Refused(Refusal),
@@ -201,6 +201,25 @@ pub fn provider_peer(body: &[u8], at: Fields, from: usize) -> Entry
     ensures { λ r. ⌜ r ≡ providerOf (now (body .entry)) at from ⌝ }
 {
     found_if(is_view(body, at), message::provider_peer(body, from))
+}
+
+// Of the peer at a span: its id, its connection, and its first address from a position on.
+pub fn peer_id(body: &[u8], at: Fields, peer: Span) -> Part
+    ensures { λ r. ⌜ r ≡ peerIdOf (now (body .entry)) at peer ⌝ }
+{
+    part_if(is_view(body, at), message::peer_id(body, peer))
+}
+
+pub fn peer_connection(body: &[u8], at: Fields, peer: Span) -> Number
+    ensures { λ r. ⌜ r ≡ peerConnectionOf (now (body .entry)) at peer ⌝ }
+{
+    number_if(is_view(body, at), message::peer_connection(body, peer))
+}
+
+pub fn peer_address(body: &[u8], at: Fields, peer: Span, from: usize) -> Entry
+    ensures { λ r. ⌜ r ≡ peerAddressOf (now (body .entry)) at peer from ⌝ }
+{
+    found_if(is_view(body, at), message::peer_address(body, peer, from))
 }
 
 // ---- the bytes themselves: none where the view is refused or there is no record

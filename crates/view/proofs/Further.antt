@@ -6,7 +6,7 @@
 --     dropped, lasts-of, fits-of, gone, emptied            nothing is kept of any of them at exit
 -- Assumes nothing.
 use mathlib.Core.Path.{_≡_, refl, sym, subst}
-use mathlib.Core.List.{List, [], _∷_, _++_}
+use mathlib.Core.List.{List, [], _∷_}
 use Prim.Native.Nat.{ℕ, zero, suc}
 use lib.Dec.{T as Holds}
 use lib.ListN.{getD}

@@ -1,4 +1,4 @@
 pub mod Further
 pub mod Thin
 pub mod Whole
-pub mod Results
+pub mod Forms

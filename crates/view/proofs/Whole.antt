@@ -1,6 +1,6 @@
 -- One law for functions on a plain body: `fn h<'a>(body: &'a [u8]) -> R { f(view_of(body)) }`, with f a thin function of a view alone, meets what f meets at the view of the
 -- body. The view stands in a local between the two calls; there MIR erases its lifetime. Assumes nothing.
-use mathlib.Core.Path.{_≡_, refl, ap, _∙_, subst, sym}
+use mathlib.Core.Path.{_≡_, refl, ap, _∙_, subst}
 use mathlib.Core.List.{List, [], _∷_}
 use Prim.Native.Nat.{ℕ}
 use lib.ListN.{length}

@@ -1,11 +1,12 @@
 // A read message as a view: it points into the receive buffer. Each function takes it apart, and `parts` has what is right. Where the positions of a
 // view aren't what the reader gives for its body, every function refuses with 0, or gives no bytes.
 ghost use mathlib.Core.Path.{_≡_};
-ghost use Rattle.parts.specs.Parts.{positionsOf, kindOf, keyOf, recordKeyOf, recordValueOf, closerOf, providerOf, keyBytes, recordKeyBytes, recordValueBytes};
+ghost use Rattle.parts.specs.Parts.{positionsOf, kindOf, keyOf, recordKeyOf, recordValueOf, closerOf, providerOf, peerIdOf, peerConnectionOf, peerAddressOf, keyBytes, recordKeyBytes, recordValueBytes};
 use message::Fields;
 use parts::Entry;
 use parts::Number;
 use parts::Part;
+use wire::Span;
 
 // The body, and where the parts of the message are in it.
 pub struct View<'a> {
@@ -61,6 +62,25 @@ pub fn provider_peer<'a>(v: View<'a>, from: usize) -> Entry
     ensures { λ r. ⌜ r ≡ providerOf (now (v .entry .body)) (v .entry .at) from ⌝ }
 {
     parts::provider_peer(v.body, v.at, from)
+}
+
+// Of the peer at a span: where its id is, its connection, and its first address from a position on.
+pub fn peer_id<'a>(v: View<'a>, peer: Span) -> Part
+    ensures { λ r. ⌜ r ≡ peerIdOf (now (v .entry .body)) (v .entry .at) peer ⌝ }
+{
+    parts::peer_id(v.body, v.at, peer)
+}
+
+pub fn peer_connection<'a>(v: View<'a>, peer: Span) -> Number
+    ensures { λ r. ⌜ r ≡ peerConnectionOf (now (v .entry .body)) (v .entry .at) peer ⌝ }
+{
+    parts::peer_connection(v.body, v.at, peer)
+}
+
+pub fn peer_address<'a>(v: View<'a>, peer: Span, from: usize) -> Entry
+    ensures { λ r. ⌜ r ≡ peerAddressOf (now (v .entry .body)) (v .entry .at) peer from ⌝ }
+{
+    parts::peer_address(v.body, v.at, peer, from)
 }
 
 // The bytes of its key, of its record's key and of its value: none where the view is refused or there is no record.

@@ -25,7 +25,7 @@ use denote.Array.{arrayVal, array-vals, array-tells, array-lawful}
 use denote.Builtin.{u8, ArrayOf}
 use denote.Plain.{uint-vals, uint-tells, uint-lawful}
 use denote.Ref.{RefT, now}
-use denote.Signature.{Slot, typeAt, typesAt, plain, namedLft, shrSliceOf}
+use denote.Signature.{Slot, typesAt, plain, namedLft, shrSliceOf}
 use denote.Slice.{sliceTy, sliceVal, slice-vals, shr-slice-tells, shr-slice-lawful}
 use denote.Steps.{peeks, heard, nothing}
 use denote.Struct.Declared.{Declared}

@@ -1,5 +1,4 @@
 -- `found_if`: refused, or what was found.
-use mathlib.Core.Path.{sym}
 use borrow.Author.Needs.{needs}
 use Rattle.parts.proofs.found_if.Statement.{statement}
 use Rattle.parts.proofs.found_if.Tie as tie

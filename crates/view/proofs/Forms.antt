@@ -1,4 +1,4 @@
--- What thin functions return: of each type its slot in a signature, its type in MIR, and that a result has it. And what they take besides a view. Assumes nothing.
+-- The types that thin functions have: of each result its slot in a signature, its type in MIR, and that a result has it; and the further parameters. Assumes nothing.
 use mathlib.Core.Path.{refl}
 use mathlib.Core.List.{[], _∷_}
 use mir.Syntax.{Ty, named, imm, w8, w64, tyInt, tyRef}
@@ -8,6 +8,9 @@ use denote.Plain.{uint-tells, uint-lawful}
 use denote.Signature.{Slot, plain, shrSliceOf}
 use denote.Slice.{sliceTy, shr-slice-lawful}
 use denote.Enum.Laws as EL
+use denote.Struct.Laws as LL
+use Rattle.wire.proofs.Span as Q
+use Rattle.wire.proofs.Span.Laws as Q′
 use Rattle.parts.proofs.Number as N
 use Rattle.parts.proofs.Number.Laws as N′
 use Rattle.parts.proofs.Part as P
@@ -62,4 +65,16 @@ position = record {
   typed = λ M 𝓤 H A W κs n u is. uint-lawful 𝓤 H A W w64 .typed n _ is .0;
   last = λ κs n. tt;
   quiet = λ κs n w. refl;
+}
+
+-- a peer, by where its bytes are
+abbrev pub peer : Par
+peer = record {
+  slot = plain (λ _. Q.the-row);
+  ty = Q′.mir;
+  val = λ κs p. LL.val Q.the-type Q′.the-laws p;
+  tells = λ κs. LL.tells Q.the-type Q′.the-laws;
+  typed = λ M 𝓤 H A W κs p u is. LL.lawful Q.the-type Q′.the-laws 𝓤 H A W .typed p _ is .0;
+  last = λ κs p. tt;
+  quiet = λ κs p w. refl;
 }
