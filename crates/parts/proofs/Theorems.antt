@@ -15,7 +15,7 @@ use Rattle.message.specs.declared.Fields.{Fields}
 use Rattle.message.proofs.Meaning.{key-meant, kind-meant, held-meant}
 use Rattle.message.proofs.Views.{read-whole, closer-walked, providers-walked, addresses-walked}
 use Rattle.parts.specs.declared.Number.the-variants.{Is}
-use Rattle.parts.specs.Parts.{isView, fieldsIn, positionsOf, numberIf, partIf, entryIf, entryOf, foundIf, bytesIf, kindOf, keyOf, recordKeyOf, recordValueOf, closerOf, providerOf, peerIdOf, peerConnectionOf, peerAddressOf, keyBytes, recordKeyBytes, recordValueBytes}
+use Rattle.parts.specs.Parts.{isView, readFields, positionsOf, numberIf, partIf, entryIf, entryOf, foundIf, bytesIf, kindOf, keyOf, recordKeyOf, recordValueOf, closerOf, providerOf, peerIdOf, peerConnectionOf, peerAddressOf, keyBytes, recordKeyBytes, recordValueBytes, numberRefusal, partRefusal, entryRefusal}
 use Rattle.parts.specs.Promises.{OnlyTheReaders, TheReaders, NoView, entryFound, Meant, ViewsMean, OthersRefused}
 use Rattle.parts.proofs.Own.{view-read, read-view, refused-view}
 
@@ -24,7 +24,7 @@ only-the-readers = view-read
 
 pub the-readers : TheReaders
 unfolding positionsOf
-the-readers s v e = (ap fieldsIn e, read-view s v e)
+the-readers s v e = (ap readFields e, read-view s v e)
 
 pub no-view : NoView
 no-view = refused-view
@@ -78,18 +78,18 @@ views-mean = means
 
 -- ---- without a view
 pub others-refused : OthersRefused
-unfolding kindOf keyOf recordKeyOf recordValueOf closerOf providerOf peerIdOf peerConnectionOf peerAddressOf keyBytes recordKeyBytes recordValueBytes
+unfolding kindOf keyOf recordKeyOf recordValueOf closerOf providerOf peerIdOf peerConnectionOf peerAddressOf keyBytes recordKeyBytes recordValueBytes numberRefusal partRefusal entryRefusal
 others-refused s v h =
     record {
-      kind = ap (λ (b : Bool). numberIf b (v .kind)) h;
-      key = ap (λ (b : Bool). partIf b (v .key)) h;
-      recordKey = ap (λ (b : Bool). entryIf b (v .held .there) (v .held .key)) h;
-      recordValue = ap (λ (b : Bool). entryIf b (v .held .there) (v .held .value)) h;
-      closer = λ from. ap (λ (b : Bool). foundIf b (firstOf (spans 8 (fieldsAt s from)))) h;
-      provider = λ from. ap (λ (b : Bool). foundIf b (firstOf (spans 9 (fieldsAt s from)))) h;
-      id = λ p. ap (λ (b : Bool). partIf b (idAt s p)) h;
-      connection = λ p. ap (λ (b : Bool). numberIf b (connectionAt s p)) h;
-      address = λ p from. ap (λ (b : Bool). foundIf b (firstOf (spans 2 (fieldsAt (take (p .end) s) from)))) h;
+      kind = ap (λ (b : Bool). numberRefusal (numberIf b (v .kind))) h;
+      key = ap (λ (b : Bool). partRefusal (partIf b (v .key))) h;
+      recordKey = ap (λ (b : Bool). entryRefusal (entryIf b (v .held .there) (v .held .key))) h;
+      recordValue = ap (λ (b : Bool). entryRefusal (entryIf b (v .held .there) (v .held .value))) h;
+      closer = λ from. ap (λ (b : Bool). entryRefusal (foundIf b (firstOf (spans 8 (fieldsAt s from))))) h;
+      provider = λ from. ap (λ (b : Bool). entryRefusal (foundIf b (firstOf (spans 9 (fieldsAt s from))))) h;
+      id = λ p. ap (λ (b : Bool). partRefusal (partIf b (idAt s p))) h;
+      connection = λ p. ap (λ (b : Bool). numberRefusal (numberIf b (connectionAt s p))) h;
+      address = λ p from. ap (λ (b : Bool). entryRefusal (foundIf b (firstOf (spans 2 (fieldsAt (take (p .end) s) from))))) h;
       keyBytes = ap (λ (b : Bool). bytesIf b s (v .key)) h;
       recordKeyBytes = ap (λ (b : Bool). bytesIf b s (v .held .key)) h;
       recordValueBytes = ap (λ (b : Bool). bytesIf b s (v .held .value)) h;

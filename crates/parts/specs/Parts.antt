@@ -2,9 +2,10 @@
 -- body with positions in it; where the positions aren't what the reader gives for the body, every part is refused with 0.
 use Prim.Native.Nat.{ℕ}
 use mathlib.Core.Bool.{Bool, false, cond, not, _&&_}
-use mathlib.Core.List.{List, []}
+use mathlib.Core.List.{List, [], _∷_}
 use lib.Dec.{eqb}
 use lib.ListN.{take}
+use Rattle.refusal.specs.Refusal.{numberOf}
 use Rattle.refusal.specs.declared.Refusal.the-variants.{OutOfForm}
 use Rattle.wire.specs.Wire.{fieldsAt, spans, firstOf, nowhere}
 use Rattle.wire.specs.Items.{cut}
@@ -50,12 +51,12 @@ isView body v = isReading (readingOf body) v
 abbrev pub noFields : Fields
 noFields = record { kind = 0; key = nowhere; held = noRecord }
 
-abbrev pub fieldsIn : Reading → Fields
-fieldsIn (Whole m) = m
-fieldsIn (Unread r) = noFields
+abbrev pub readFields : Reading → Fields
+readFields (Whole m) = m
+readFields (Unread r) = noFields
 
 unfoldable pub positionsOf : List ℕ → Fields
-positionsOf body = fieldsIn (readingOf body)
+positionsOf body = readFields (readingOf body)
 
 -- ---- type, key and record
 
@@ -119,3 +120,18 @@ recordKeyBytes body v = bytesIf (isView body v) body (v .held .key)
 
 unfoldable pub recordValueBytes : List ℕ → Fields → List ℕ
 recordValueBytes body v = bytesIf (isView body v) body (v .held .value)
+
+-- ---- the number that each answer refuses with; none where it doesn't
+
+unfoldable pub numberRefusal : Number → List ℕ
+numberRefusal (Is n) = []
+numberRefusal (NumberRefused r) = numberOf r ∷ []
+
+unfoldable pub partRefusal : Part → List ℕ
+partRefusal (PartAt p) = []
+partRefusal (PartRefused r) = numberOf r ∷ []
+
+unfoldable pub entryRefusal : Entry → List ℕ
+entryRefusal (EntryAt p) = []
+entryRefusal NoEntry = []
+entryRefusal (EntryRefused r) = numberOf r ∷ []

@@ -2,11 +2,10 @@
 use Prim.Native.Nat.{ℕ, suc}
 use mathlib.Core.Path.{_≡_}
 use mathlib.Core.Bool.{true, false}
-use mathlib.Core.List.{List, []}
+use mathlib.Core.List.{List, [], _∷_}
 use mathlib.Core.Option.{none, some}
 use lib.ListN.{length, take}
 use Rattle.refusal.specs.declared.Refusal.{Refusal}
-use Rattle.refusal.specs.declared.Refusal.the-variants.{OutOfForm}
 use Rattle.wire.specs.Wire.{walk}
 use Rattle.wire.specs.declared.Span.{Span}
 use Rattle.wire.specs.declared.Found.{Found}
@@ -15,11 +14,11 @@ use Rattle.message.specs.Message.{messageOf}
 use Rattle.message.specs.View.{readingOf, closerAt, providersAt, idAt, connectionAt, addressesAt}
 use Rattle.message.specs.declared.Fields.{Fields}
 use Rattle.message.specs.declared.Reading.the-variants.{Whole, Refused as Unread}
-use Rattle.parts.specs.declared.Number.the-variants.{Is, Refused as NumberRefused}
-use Rattle.parts.specs.declared.Part.the-variants.{At as PartAt, Refused as PartRefused}
+use Rattle.parts.specs.declared.Number.the-variants.{Is}
+use Rattle.parts.specs.declared.Part.the-variants.{At as PartAt}
 use Rattle.parts.specs.declared.Entry.{Entry}
 use Rattle.parts.specs.declared.Entry.the-variants.{At as EntryAt, Nothing as NoEntry, Refused as EntryRefused}
-use Rattle.parts.specs.Parts.{isView, positionsOf, kindOf, keyOf, recordKeyOf, recordValueOf, closerOf, providerOf, peerIdOf, peerConnectionOf, peerAddressOf, keyBytes, recordKeyBytes, recordValueBytes}
+use Rattle.parts.specs.Parts.{isView, positionsOf, kindOf, keyOf, recordKeyOf, recordValueOf, closerOf, providerOf, peerIdOf, peerConnectionOf, peerAddressOf, keyBytes, recordKeyBytes, recordValueBytes, numberRefusal, partRefusal, entryRefusal}
 
 -- the positions of a view are the reader's, and the reader's are a view's
 abbrev pub OnlyTheReaders : Type 0
@@ -56,19 +55,19 @@ ViewsMean = (s : List ℕ) (v : Fields) → isView s v ≡ true → Meant s v
 
 -- ---- without a view
 
-pub record Nothing (s : List ℕ) (v : Fields) : Type 0 where
-  pub kind : kindOf s v ≡ NumberRefused OutOfForm
-  pub key : keyOf s v ≡ PartRefused OutOfForm
-  pub recordKey : recordKeyOf s v ≡ EntryRefused OutOfForm
-  pub recordValue : recordValueOf s v ≡ EntryRefused OutOfForm
-  pub closer : (from : ℕ) → closerOf s v from ≡ EntryRefused OutOfForm
-  pub provider : (from : ℕ) → providerOf s v from ≡ EntryRefused OutOfForm
-  pub id : (p : Span) → peerIdOf s v p ≡ PartRefused OutOfForm
-  pub connection : (p : Span) → peerConnectionOf s v p ≡ NumberRefused OutOfForm
-  pub address : (p : Span) (from : ℕ) → peerAddressOf s v p from ≡ EntryRefused OutOfForm
+pub record NoParts (s : List ℕ) (v : Fields) : Type 0 where
+  pub kind : numberRefusal (kindOf s v) ≡ 0 ∷ []
+  pub key : partRefusal (keyOf s v) ≡ 0 ∷ []
+  pub recordKey : entryRefusal (recordKeyOf s v) ≡ 0 ∷ []
+  pub recordValue : entryRefusal (recordValueOf s v) ≡ 0 ∷ []
+  pub closer : (from : ℕ) → entryRefusal (closerOf s v from) ≡ 0 ∷ []
+  pub provider : (from : ℕ) → entryRefusal (providerOf s v from) ≡ 0 ∷ []
+  pub id : (p : Span) → partRefusal (peerIdOf s v p) ≡ 0 ∷ []
+  pub connection : (p : Span) → numberRefusal (peerConnectionOf s v p) ≡ 0 ∷ []
+  pub address : (p : Span) (from : ℕ) → entryRefusal (peerAddressOf s v p from) ≡ 0 ∷ []
   pub keyBytes : keyBytes s v ≡ []
   pub recordKeyBytes : recordKeyBytes s v ≡ []
   pub recordValueBytes : recordValueBytes s v ≡ []
 
 abbrev pub OthersRefused : Type 0
-OthersRefused = (s : List ℕ) (v : Fields) → isView s v ≡ false → Nothing s v
+OthersRefused = (s : List ℕ) (v : Fields) → isView s v ≡ false → NoParts s v
