@@ -7,12 +7,12 @@ use native.Mathlib.Omega.{arith}
 use lib.Dec.{leb}
 use lib.ListN.{length, getD, take, drop}
 use borrow.Author.Tests.{le-leb, lt-leb, leb-true}
-use Rattle.octets.proofs.Bools.{all-on, all-off, all-head, all-rest}
+use Rattle.octets.proofs.Bools.{all-on, all-off, all-head, all-rest, both-no, both-yes}
 use Rattle.place.specs.Place.{nearerTo}
 use Rattle.lookup.specs.Lookup.{room, keyMost, limitMost, candidatesOf, follow, nearestFirst, inForm}
 use Rattle.lookup_candidates.specs.Candidates.{wellMade}
 use Rattle.lookup_candidates.specs.declared.Candidate.{Candidate}
-use Rattle.lookup_candidates.proofs.Candidates.{all-last, both-no, both-yes}
+use Rattle.lookup_candidates.proofs.Candidates.{all-last}
 use Rattle.lookup.specs.declared.Lookup.{Lookup}
 use Rattle.lookup.proofs.Lists.{one-on, at-end}
 

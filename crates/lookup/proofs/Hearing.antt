@@ -1,7 +1,7 @@
 -- Laws of a reply: the view that comes with it, and the peers that it names. Assumes nothing.
 use Prim.Native.Nat.{ℕ, zero, suc, _+_, _≤_, _<_}
 use mathlib.Core.Path.{_≡_, refl, sym, ap, ap₂, _∙_, subst}
-use mathlib.Core.Bool.{Bool, true, false, cond, not, _&&_}
+use mathlib.Core.Bool.{Bool, true, false, cond, not}
 use mathlib.Core.List.{List, [], _∷_, map}
 use native.Mathlib.Omega.{arith}
 use native.Mathlib.Numerals.{add-one}
@@ -10,7 +10,7 @@ use lib.ListN.{length, getD, drop, replicate, length-append, length-drop, length
 use lib.Seq.{sets, sets-eq, drop-cons, getD-take}
 use borrow.Author.Tests.{eq-eqb, ne-eqb, ltb-true}
 use Rattle.octets.specs.Octets.{part, same}
-use Rattle.octets.proofs.Bools.{cond-yes, cond-no, cond-ind, and-on, and-off}
+use Rattle.octets.proofs.Bools.{cond-yes, cond-no, cond-ind}
 use Rattle.place.specs.Place.{nearerTo}
 use Rattle.sha256.specs.Sha256.{sha256}
 use Rattle.refusal.specs.declared.Refusal.{Refusal}
@@ -21,15 +21,13 @@ use Rattle.wire.specs.Items.{cut}
 use Rattle.wire.specs.declared.Span.{Span}
 use Rattle.wire.proofs.Reach.{AllInside}
 use Rattle.message.specs.Limits.{mostHeard}
-use Rattle.message.specs.View.{readingOf, idAt, closerAt, heardAt, starts, ends, idsOf}
+use Rattle.message.specs.View.{idAt, closerAt, heardAt, starts, ends, idsOf}
 use Rattle.message.specs.declared.Ids.{Ids}
-use Rattle.message.specs.declared.Held.{Held}
 use Rattle.message.specs.declared.Fields.{Fields}
-use Rattle.message.specs.declared.Reading.{Reading}
 use Rattle.message.proofs.Meaning.{Cuttable, inside, id-inside}
 use Rattle.message.proofs.Views.{heard-meant}
-use Rattle.lookup.specs.View.{sameSpan, sameBool, sameHeld, sameFields}
-use Rattle.lookup.specs.Lookup.{room, candidatesOf, turnAway, put, mark, refuses, settled, whomOf, reported, known, enter, meet, hear, hearAll, isReading, isView, findNode, heardIds, heardFrom, replyOf}
+use Rattle.parts.specs.Parts.{isView}
+use Rattle.lookup.specs.Lookup.{room, candidatesOf, turnAway, put, mark, refuses, settled, whomOf, reported, known, enter, meet, hear, hearAll, findNode, heardIds, heardFrom, replyOf}
 use Rattle.lookup_candidates.specs.Candidates.{idFits, fresh}
 use Rattle.lookup_candidates.specs.declared.Candidate.{Candidate}
 use Rattle.lookup.specs.declared.Lookup.{Lookup}
@@ -81,32 +79,6 @@ pub all-fits : (ours : List ℕ) (ids : List (List ℕ)) (l : Lookup) → Fits l
 unfolding hearAll
 all-fits ours [] l h = h
 all-fits ours (id ∷ ids) l h = all-fits ours ids (hear ours id l) (hear-fits ours id l h)
-
--- ---- two views compared
-module _ (a b : Span) where
-  pub span-no : (a .at ≡ b .at → ⊥) → false ≡ sameSpan a b
-  unfolding sameSpan
-  span-no h = sym (and-off (eqb (a .at) (b .at)) (eqb (a .end) (b .end)) (ne-eqb (a .at) (b .at) h))
-
-  pub span-yes : a .at ≡ b .at → eqb (a .end) (b .end) ≡ sameSpan a b
-  unfolding sameSpan
-  span-yes h = sym (and-on (eqb (a .at) (b .at)) (eqb (a .end) (b .end)) (eq-eqb (a .at) (b .at) h))
-
-pub kind-no : (a b : Fields) → (a .kind ≡ b .kind → ⊥) → false ≡ sameFields a b
-unfolding sameFields
-kind-no a b h = sym (and-off (eqb (a .kind) (b .kind)) _ (ne-eqb (a .kind) (b .kind) h))
-
-pub kind-yes : (a b : Fields) (r : Bool) → a .kind ≡ b .kind → r ≡ (sameSpan (a .key) (b .key) && sameHeld (a .held) (b .held)) → r ≡ sameFields a b
-unfolding sameFields
-kind-yes a b r h e = e ∙ sym (and-on (eqb (a .kind) (b .kind)) _ (eq-eqb (a .kind) (b .kind) h))
-
-pub held-is : (a b : Held) (r : Bool) → r ≡ (sameBool (a .there) (b .there) && (sameSpan (a .key) (b .key) && sameSpan (a .value) (b .value))) → r ≡ sameHeld a b
-unfolding sameHeld
-held-is a b r e = e
-
-pub view-is : (s : List ℕ) (v : Fields) (m : Reading) (r : Bool) → m ≡ readingOf s → r ≡ isReading m v → r ≡ isView s v
-unfolding isView
-view-is s v m r e q = q ∙ ap (λ (x : Reading). isReading x v) e
 
 -- ---- where the ids of the first entries are
 all-cuttable : (s : List ℕ) (ps : List Span) → AllInside 0 (length s) ps → (i : ℕ) → i < length ps → Cuttable (length s) (getD (map (idAt s) ps) i nowhere)

@@ -15,12 +15,9 @@ use Rattle.contacts.specs.Table.{place}
 use Rattle.contacts.specs.Form.{inForm as inFormTable}
 use Rattle.contacts.specs.Near.{nearestSlots}
 use Rattle.message.specs.Message.{Peer, messageOf}
-use Rattle.message.specs.View.{readingOf}
 use Rattle.message.specs.declared.Fields.{Fields}
-use Rattle.message.specs.declared.Reading.{Reading}
-use Rattle.message.specs.declared.Reading.the-variants.{Whole, Refused as Unread}
+use Rattle.parts.specs.Parts.{isView}
 use Rattle.lookup.specs.Lists.{firstIn, anyIn}
-use Rattle.lookup.specs.View.{sameFields}
 use Rattle.lookup_candidates.specs.declared.Candidate.{Candidate}
 use Rattle.lookup.specs.declared.Lookup.{Lookup}
 use Rattle.lookup.specs.declared.Step.{Step}
@@ -203,14 +200,6 @@ hearAll ours [] l = l
 hearAll ours (id ∷ ids) l = hearAll ours ids (hear ours id l)
 
 -- ---- reply
--- "a view handed in is what the reader gives for the body it points into"
-abbrev pub isReading : Reading → Fields → Bool
-isReading (Whole m) v = sameFields m v
-isReading (Unread r) v = false
-
-unfoldable pub isView : List ℕ → Fields → Bool
-isView body v = isReading (readingOf body) v
-
 -- FIND_NODE
 abbrev pub findNode : ℕ
 findNode = 4

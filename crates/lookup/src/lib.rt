@@ -3,17 +3,13 @@ ghost use mathlib.Core.Path.{_≡_};
 ghost use mathlib.Core.List.{map};
 ghost use Prim.Native.Nat.{_+_, _<_, _≤_};
 ghost use lib.ListN.{length, take};
-ghost use Rattle.lookup.specs.View.{sameSpan, sameBool, sameHeld, sameFields};
 ghost use Rattle.lookup.specs.Inner.{rankOn};
 ghost use Rattle.lookup_candidates.specs.Candidates.{markOf};
-ghost use Rattle.lookup.specs.Lookup.{marksOf, nearestFirst, inForm, mark, gives, ends, settled, nextOf, flyerOf, whomOf, failureOf, known, hearAll, isView, heardIds, heardFrom, replyOf, noLookup, begun, keyFits, limitFits, startOf};
+ghost use Rattle.lookup.specs.Lookup.{marksOf, nearestFirst, inForm, mark, gives, ends, settled, nextOf, flyerOf, whomOf, failureOf, known, hearAll, heardIds, heardFrom, replyOf, noLookup, begun, keyFits, limitFits, startOf};
 pub use lookup_candidates::Candidate;
 use lookup_marks::Ranks;
 use message::Fields;
-use message::Held;
-use message::Reading;
 use refusal::Refusal;
-use wire::Span;
 
 // Room for candidates, and the limits of a key and of the requests in flight.
 pub const ROOM: usize = 256;
@@ -263,71 +259,6 @@ fn rank_by(r: usize, j: usize, target: [u8; 32], d: Candidate, place: [u8; 32]) 
     j
 }
 
-// Whether two spans are one.
-fn same_span(a: Span, b: Span) -> bool
-    ensures { λ r. ⌜ r ≡ sameSpan a b ⌝ }
-{
-    if a.at != b.at {
-        return false;
-    }
-    a.end == b.end
-}
-
-// Whether two flags are one.
-fn same_flag(a: bool, b: bool) -> bool
-    ensures { λ r. ⌜ r ≡ sameBool a b ⌝ }
-{
-    if a {
-        return b;
-    }
-    !b
-}
-
-// Whether two places of a record are one.
-fn same_held(a: Held, b: Held) -> bool
-    ensures { λ r. ⌜ r ≡ sameHeld a b ⌝ }
-{
-    if !same_flag(a.there, b.there) {
-        return false;
-    }
-    let ak = a.key;
-    let bk = b.key;
-    if !same_span(ak, bk) {
-        return false;
-    }
-    let av = a.value;
-    let bv = b.value;
-    same_span(av, bv)
-}
-
-// Whether two views are one.
-fn same_fields(a: Fields, b: Fields) -> bool
-    ensures { λ r. ⌜ r ≡ sameFields a b ⌝ }
-{
-    if a.kind != b.kind {
-        return false;
-    }
-    let ak = a.key;
-    let bk = b.key;
-    if !same_span(ak, bk) {
-        return false;
-    }
-    let ah = a.held;
-    let bh = b.held;
-    same_held(ah, bh)
-}
-
-// Whether the view is what the reader gives for the body.
-fn is_view(body: &[u8], view: Fields) -> bool
-    ensures { λ r. ⌜ r ≡ isView (now (body .entry)) view ⌝ }
-{
-    let reading = message::read(body);
-    match reading {
-        Reading::Whole(m) => same_fields(m, view),
-        Reading::Refused(_) => false,
-    }
-}
-
 // The first 21 peers that a reply names are heard of, one after another. The loops stand in one function, since a lookup that is handed to
 // another is copied.
 fn hear_all(l: Lookup, ours: [u8; 32], body: &[u8]) -> Lookup
@@ -484,7 +415,7 @@ impl Lookup {
     pub fn reply(self, own: &[u8], ours: [u8; 32], id: &[u8], body: &[u8], view: Fields) -> Step
         ensures { λ r. ⌜ r ≡ replyOf self (now (own .entry)) ours (now (id .entry)) (now (body .entry)) view ⌝ }
     {
-        if !is_view(body, view) {
+        if !parts::is_view(body, view) {
             return give(self, Answer::Refused(Refusal::OutOfForm));
         }
         let w = about(self, own, ours, id);

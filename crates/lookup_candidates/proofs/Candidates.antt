@@ -37,13 +37,6 @@ module _ (c : Candidate) where
   made-len h g =
       sym (all-on (leb (c .mark) failed) _ (le-leb (c .mark) failed h) ∙ all-on (leb 1 (c .len)) _ (le-leb 1 (c .len) g) ∙ all-last (leb (c .len) idMost))
 
--- ---- two facts of which the first was computed
-pub both-no : (b a x : Bool) → b ≡ a → not b ≡ true → false ≡ (a && x)
-both-no b a x e h = sym (and-off a x (sym e ∙ not-true b h))
-
-pub both-yes : (b a x r : Bool) → b ≡ a → not b ≡ false → r ≡ x → r ≡ (a && x)
-both-yes b a x r e h q = q ∙ sym (and-on a x (sym e ∙ not-false b h))
-
 module _ (id : List ℕ) where
   pub fits-none : length id < 1 → false ≡ idFits id
   fits-none h = sym (and-off (leb 1 (length id)) _ (lt-leb 1 (length id) h))

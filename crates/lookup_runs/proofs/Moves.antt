@@ -15,7 +15,8 @@ use Rattle.refusal.specs.declared.Refusal.{Refusal}
 use Rattle.refusal.specs.declared.Refusal.the-variants.{OutOfForm}
 use Rattle.message.specs.declared.Fields.{Fields}
 use Rattle.lookup_marks.specs.Marks.{idle, flying, answered, failed, isOver, idleOf, flightsOf}
-use Rattle.lookup.specs.Lookup.{room, candidatesOf, marksOf, inForm, mark, gives, refuses, ends, settled, nextOf, badPeer, flyerOf, whomOf, reported, failureOf, hearAll, isView, findNode, heardIds, heardFrom, replyOf, nobody}
+use Rattle.parts.specs.Parts.{isView}
+use Rattle.lookup.specs.Lookup.{room, candidatesOf, marksOf, inForm, mark, gives, refuses, ends, settled, nextOf, badPeer, flyerOf, whomOf, reported, failureOf, hearAll, findNode, heardIds, heardFrom, replyOf, nobody}
 use Rattle.lookup.specs.declared.Lookup.{Lookup}
 use Rattle.lookup.specs.declared.Step.{Step}
 use Rattle.lookup.specs.declared.Answer.{Answer}

@@ -12,7 +12,8 @@ use Rattle.refusal.specs.declared.Refusal.the-variants.{OutOfForm, BreaksRules,
 use Rattle.contacts.specs.Form.{inForm as inFormTable}
 use Rattle.message.specs.declared.Fields.{Fields}
 use Rattle.lookup_marks.specs.Marks.{flying, failed, isOver, idleOf, flightsOf}
-use Rattle.lookup.specs.Lookup.{marksOf, inForm, mark, gives, refuses, ends, settled, nextOf, idFits, whomOf, reported, failureOf, isView, heardFrom, replyOf, noLookup, begun, keyFits, limitFits, startOf}
+use Rattle.parts.specs.Parts.{isView}
+use Rattle.lookup.specs.Lookup.{marksOf, inForm, mark, gives, refuses, ends, settled, nextOf, idFits, whomOf, reported, failureOf, heardFrom, replyOf, noLookup, begun, keyFits, limitFits, startOf}
 use Rattle.lookup.specs.declared.Lookup.{Lookup}
 use Rattle.lookup.specs.declared.Step.{Step}
 use Rattle.lookup.specs.declared.Answer.{Answer}

@@ -1,11 +1,11 @@
 -- Laws of Bool and of `cond`. Assumes nothing.
 use Prim.Native.Nat.{ℕ}
-use mathlib.Core.Path.{_≡_, refl, sym, ap, subst}
+use mathlib.Core.Path.{_≡_, refl, sym, ap, subst, _∙_}
 use mathlib.Core.Logic.{_⊎_, inl, inr, ⊎-elim}
 use mathlib.Core.Bool.{Bool, true, false, cond, not, _&&_, _||_}
 use mathlib.Core.List.{List, [], _∷_}
 use lib.Dec.{T, eqb}
-use borrow.Author.Tests.{eqb-true, eqb-false}
+use borrow.Author.Tests.{eqb-true, eqb-false, not-true, not-false}
 use Rattle.octets.specs.Search.{allOf}
 
 -- ---- one value
@@ -88,6 +88,13 @@ not-yes b e = ap not e
 
 pub not-no : (b : Bool) → b ≡ false → not b ≡ true
 not-no b e = ap not e
+
+-- ---- two facts of which the first was computed
+pub both-no : (b a x : Bool) → b ≡ a → not b ≡ true → false ≡ (a && x)
+both-no b a x e h = sym (and-off a x (sym e ∙ not-true b h))
+
+pub both-yes : (b a x r : Bool) → b ≡ a → not b ≡ false → r ≡ x → r ≡ (a && x)
+both-yes b a x r e h q = q ∙ sym (and-on a x (sym e ∙ not-false b h))
 
 -- ---- cond
 module _ {A : Type 0} where

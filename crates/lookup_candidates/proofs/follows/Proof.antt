@@ -1,6 +1,6 @@
 -- `follows`: well made, then farther. Assumes nothing.
 use borrow.Author.Needs.{needs}
-use Rattle.lookup_candidates.proofs.Candidates.{both-no, both-yes}
+use Rattle.octets.proofs.Bools.{both-no, both-yes}
 use Rattle.lookup_candidates.proofs.follows.Statement.{statement}
 use Rattle.lookup_candidates.proofs.follows.Tie as tie
 

@@ -1,0 +1,4 @@
+pub mod Further
+pub mod Thin
+pub mod Whole
+pub mod Forms
