@@ -64,9 +64,12 @@ module _ (t : List Contact) (room : List ℕ) where
   laid-all = ap (λ (u : List Contact). cond (enough (length t) room) (tableBytes u ++ drop (length t * 616) room) room) (take-length t)
 
   -- one more slot
-  module _ (i : ℕ) (c : Contact) (l : i < length t) (is : getD t i c ≡ c) (size : length (tableBytes (take i t)) ≡ i * 616) (whole : length (slotBytes c) ≡ 616) where
+  module _ (i : ℕ) (d : Contact) (l : i < length t) (size : length (tableBytes (take i t)) ≡ i * 616) (whole : length (slotBytes (getD t i d)) ≡ 616) where
+    abbrev c : Contact
+    c = getD t i d
+
     more : tableBytes (take (suc i) t) ≡ tableBytes (take i t) ++ slotBytes c
-    more = ap tableBytes (take-suc t i c l ∙ ap (λ (d : Contact). take i t ++ (d ∷ [])) is) ∙ table-more (take i t) c
+    more = ap tableBytes (take-suc t i d l) ∙ table-more (take i t) c
 
     pub size-more : length (tableBytes (take (suc i) t)) ≡ suc i * 616
     size-more = omega (arith, ap (λ (s : List ℕ). length s) more, length-append (tableBytes (take i t)) (slotBytes c), size, whole)
