@@ -1,0 +1,19 @@
+-- `first` meets its contract. Assumes nothing.
+use Rattle.contact_slots.proofs.Laws.{none-first}
+use borrow.Author.Needs.{needs}
+use Rattle.contact_slots.proofs.first.Statement.{statement}
+use Rattle.contact_slots.proofs.first.Tie as tie
+use Rattle.contact_slots.proofs.first.Reads as reads
+use Rattle.contact_slots.proofs.first.Lts as lts
+
+shared-slice-read-result : tie.Need-shared-slice-read-result
+shared-slice-read-result c = search needs
+
+returns : tie.Need-returns
+returns c = search needs
+
+returns-2 : tie.Need-returns-2
+returns-2 c = none-first (c .before .args .s .now) (c .if1 .left)
+
+pub first-spec : {M : Type 1} → statement M
+first-spec = tie.close (tie.spec shared-slice-read-result returns returns-2)

@@ -1,0 +1,66 @@
+-- Contacts as structs, and the flat bytes that the core works on: document 01, 'Distance and contacts': "The contacts sit in a list of records lent by the host".
+-- A contact's bytes are those of its slot (crates/contacts, specs/Table). The host lends room for all of them beside its contacts.
+use Prim.Native.Nat.{ℕ, zero, suc, _*_, _/_}
+use mathlib.Core.Bool.{Bool, cond}
+use mathlib.Core.List.{List, [], _∷_, _++_}
+use lib.ListN.{length, getD, take, drop}
+use lib.Dec.{leb}
+use Rattle.contacts.specs.Table.{slotSize, slot}
+use Rattle.sightings.specs.Order.{contactBytes}
+use Rattle.flat.specs.Flat.{peerIn}
+use Rattle.refusal.specs.declared.Refusal.the-variants.{OutOfForm}
+use Rattle.peer.specs.declared.Peer.{Peer}
+use Rattle.contact_calls.specs.declared.SeenOutcome.{SeenOutcome}
+use Rattle.contact_calls.specs.declared.SeenOutcome.the-variants as seen
+use Rattle.contact_calls.specs.declared.SettleOutcome.{SettleOutcome}
+use Rattle.contact_calls.specs.declared.SettleOutcome.the-variants as settle
+use Rattle.contact_calls.specs.declared.RemoveOutcome.{RemoveOutcome}
+use Rattle.contact_calls.specs.declared.RemoveOutcome.the-variants as remove
+use Rattle.host_calls.specs.Hosts.{seenOf, seenAfter, settleOf, settleAfter, removeOf, removeAfter}
+use Rattle.contact_slots.specs.declared.Contact.{Contact}
+
+-- ---- one contact
+-- its rank in its bucket plus 1 is its slot's first byte, 0 where the slot is free
+unfoldable pub slotBytes : Contact → List ℕ
+slotBytes c = contactBytes (c .rank) (c .peer)
+
+-- the contact in a slot's bytes; what lies past their end reads as zeros
+unfoldable pub contactIn : List ℕ → Contact
+contactIn s = record { peer = peerIn s; rank = getD s 0 0 }
+
+-- ---- a list of contacts: the table's slots, one after another
+unfoldable pub tableBytes : List Contact → List ℕ
+tableBytes [] = []
+tableBytes (c ∷ t) = slotBytes c ++ tableBytes t
+
+-- the contacts in a table's first n slots
+unfoldable pub contactsIn : ℕ → List ℕ → List Contact
+contactsIn zero s = []
+contactsIn (suc n) s = contactsIn n s ++ (contactIn (slot s n) ∷ [])
+
+-- ---- the room
+-- it has the bytes of n slots
+unfoldable pub enough : ℕ → List ℕ → Bool
+enough n room = leb n (length room / slotSize)
+
+-- those bytes
+abbrev pub tableIn : ℕ → List ℕ → List ℕ
+tableIn n room = take (n * slotSize) room
+
+-- the room with these bytes for them; a room that is too short stays as it is
+unfoldable pub withTable : ℕ → List ℕ → List ℕ → List ℕ
+withTable n room s = cond (enough n room) (s ++ drop (n * slotSize) room) room
+
+-- what the room says of a contact; one that is too short says nothing
+unfoldable pub contactFrom : ℕ → List ℕ → ℕ → Contact → Contact
+contactFrom n room i c = cond (enough n room) (contactIn (slot room i)) c
+
+-- ---- the calls on the n contacts in a room, which are host_calls' on their bytes: 0 where the room is too short for them
+unfoldable pub seenIn : Peer → List ℕ → ℕ → List ℕ → Bool → SeenOutcome
+seenIn me room n id client = cond (enough n room) (seenOf me (tableIn n room) id client) (seen.Refused OutOfForm)
+
+unfoldable pub settleIn : Peer → List ℕ → ℕ → List ℕ → List ℕ → Bool → Bool → SettleOutcome
+settleIn me room n head id client answered = cond (enough n room) (settleOf me (tableIn n room) head id client answered) (settle.Refused OutOfForm)
+
+unfoldable pub removeIn : Peer → List ℕ → ℕ → List ℕ → RemoveOutcome
+removeIn me room n id = cond (enough n room) (removeOf me (tableIn n room) id) (remove.Refused OutOfForm)

@@ -1,0 +1,34 @@
+-- Seen, settle and remove on contacts that sit in a list of structs lent by the host: document 01, 'Distance and contacts'. Each is host_calls' on the bytes of the contacts, which are laid out in
+-- the room that the host lends beside them: 616 bytes for each, else refusal 0, and nothing changes.
+use Prim.Native.Nat.{ℕ}
+use mathlib.Core.Bool.{Bool, cond}
+use mathlib.Core.List.{List}
+use lib.ListN.{length}
+use Rattle.refusal.specs.declared.Refusal.the-variants.{OutOfForm}
+use Rattle.peer.specs.declared.Peer.{Peer}
+use Rattle.contact_calls.specs.declared.SeenOutcome.{SeenOutcome}
+use Rattle.contact_calls.specs.declared.SeenOutcome.the-variants as seen
+use Rattle.contact_calls.specs.declared.SettleOutcome.{SettleOutcome}
+use Rattle.contact_calls.specs.declared.SettleOutcome.the-variants as settle
+use Rattle.contact_calls.specs.declared.RemoveOutcome.{RemoveOutcome}
+use Rattle.contact_calls.specs.declared.RemoveOutcome.the-variants as remove
+use Rattle.host_calls.specs.Hosts.{seenOf, settleOf, removeOf}
+use Rattle.contact_slots.specs.declared.Contact.{Contact}
+use Rattle.contact_slots.specs.Slots.{tableBytes, contactsIn, enough, withTable}
+
+-- ---- the contacts and the room, where the table's bytes are s afterwards
+unfoldable pub contactsAfter : List Contact → List ℕ → List ℕ → List Contact
+contactsAfter t room s = cond (enough (length t) room) (contactsIn (length t) s) t
+
+abbrev pub roomAfter : List Contact → List ℕ → List ℕ → List ℕ
+roomAfter t room s = withTable (length t) room s
+
+-- ---- the answers
+unfoldable pub seenOn : Peer → List Contact → List ℕ → List ℕ → Bool → SeenOutcome
+seenOn me t room id client = cond (enough (length t) room) (seenOf me (tableBytes t) id client) (seen.Refused OutOfForm)
+
+unfoldable pub settleOn : Peer → List Contact → List ℕ → List ℕ → List ℕ → Bool → Bool → SettleOutcome
+settleOn me t room head id client answered = cond (enough (length t) room) (settleOf me (tableBytes t) head id client answered) (settle.Refused OutOfForm)
+
+unfoldable pub removeOn : Peer → List Contact → List ℕ → List ℕ → RemoveOutcome
+removeOn me t room id = cond (enough (length t) room) (removeOf me (tableBytes t) id) (remove.Refused OutOfForm)
