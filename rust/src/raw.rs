@@ -9,11 +9,13 @@ pub const BOX: usize = 616;
 pub const CONNECTION: usize = 640;
 /// The bytes of a lookup.
 pub const LOOKUP: usize = 25_256;
-/// The bytes of a contact's slot, and how many slots count.
+/// The bytes of a contact's slot.
 pub const CONTACT: usize = 616;
+/// How many slots of contacts are used.
 pub const MOST_CONTACTS: usize = 5_120;
-/// The bytes of a record's slot, and how many slots may be lent.
+/// The bytes of a record's slot.
 pub const RECORD: usize = 2_184;
+/// How many slots of records are used.
 pub const MOST_RECORDS: usize = 256;
 /// The receive buffer of a connection.
 pub const BUFFER: usize = 16_384;
