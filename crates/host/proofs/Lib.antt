@@ -1,3 +1,4 @@
 pub mod Handing
 pub mod Receiving
 pub mod Stepping
+pub mod Walking

@@ -4,7 +4,7 @@ use Prim.Native.Nat.{ℕ}
 use mathlib.Core.Path.{_≡_}
 use mathlib.Core.Bool.{Bool, true, false, cond, _||_}
 use mathlib.Core.List.{List, [], _∷_, _++_}
-use lib.ListN.{length, getD}
+use lib.ListN.{length, getD, take}
 use lib.Seq.{sets}
 use lib.Dec.{ltb, leb, eqb}
 use Rattle.refusal.specs.declared.Refusal.{Refusal}
@@ -25,10 +25,13 @@ use Rattle.records.specs.declared.Answer.the-variants as offer
 use Rattle.records.specs.declared.Found.{Found}
 use Rattle.records.specs.declared.Found.the-variants as found
 use Rattle.records.specs.Store.{putAnswer, putAfter, findOf}
+use Rattle.wire.specs.declared.Found as wire
+use Rattle.wire.specs.declared.Found.the-variants as part
+use Rattle.wire.specs.Wire.{firstOf, fieldsAt, spans}
 use Rattle.message.specs.declared.Fields.{Fields}
 use Rattle.message.specs.declared.Reading.{Reading}
 use Rattle.message.specs.declared.Reading.the-variants as reading
-use Rattle.message.specs.View.{readingOf}
+use Rattle.message.specs.View.{readingOf, idAt, connectionAt}
 use Rattle.writer.specs.declared.Written.{Written}
 use Rattle.writer.specs.declared.Written.the-variants as written
 use Rattle.node.specs.declared.Told.{Told}
@@ -213,6 +216,33 @@ readNumber (reading.Refused r) = numberOf r
 abbrev pub readNumbers : List ℕ → Reading → List ℕ
 readNumbers out (reading.Whole m) = sets out 0 (viewNumbers m)
 readNumbers out (reading.Refused r) = out
+
+-- the next entry of closerPeers from a position on, for list 0; of providerPeers, for any other number
+unfoldable pub entryFrom : List ℕ → ℕ → ℕ → wire.Found
+entryFrom s list from = cond (saysYes list) (firstOf (spans 9 (fieldsAt s from))) (firstOf (spans 8 (fieldsAt s from)))
+
+-- the later of two positions
+unfoldable pub laterOf : ℕ → ℕ → ℕ
+laterOf a b = cond (ltb a b) b a
+
+-- the next address of the entry at start up to end, from a position in it on
+unfoldable pub addressFrom : List ℕ → ℕ → ℕ → ℕ → wire.Found
+addressFrom s start end from = firstOf (spans 2 (fieldsAt (take end s) (laterOf start from)))
+
+-- 64 there is one, 65 there is none
+abbrev pub partNumber : wire.Found → ℕ
+partNumber (part.At p) = 64
+partNumber part.Nothing = 65
+
+-- where the entry is, where its id is, and its connection
+abbrev pub peerNumbers : List ℕ → List ℕ → wire.Found → List ℕ
+peerNumbers out s (part.At p) = sets out 0 (p .at ∷ p .end ∷ idAt s p .at ∷ idAt s p .end ∷ connectionAt s p ∷ [])
+peerNumbers out s part.Nothing = out
+
+-- where the address is
+abbrev pub addressNumbers : List ℕ → wire.Found → List ℕ
+addressNumbers out (part.At p) = sets out 0 (p .at ∷ p .end ∷ [])
+addressNumbers out part.Nothing = out
 
 -- the length goes to out
 abbrev pub writeNumber : Written → ℕ

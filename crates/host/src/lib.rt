@@ -36,6 +36,7 @@ ghost use Rattle.writer.specs.Writer.{messageWith, answerOf, outAfter};
 ghost use Rattle.host.specs.Host.{toldCode, boxAfter, startCode, startMemory, openCode, openMemory, changesNothing, refusedFraming, endingCode, endedMemory, endCode, endMemory};
 ghost use Rattle.host.specs.Host.{seenNumber, seenNumbers, seenCode, seenContacts, seenOut, settleNumber, settleCode, settleContacts, removeNumber, removeCode, removeContacts};
 ghost use Rattle.host.specs.Host.{nearestNumbers, nearestCode, nearestOut, putNumber, findNumber, findNumbers, viewNumbers, readNumber, readNumbers, writeNumber, writeNumbers};
+ghost use Rattle.host.specs.Host.{entryFrom, laterOf, addressFrom, partNumber, peerNumbers, addressNumbers};
 ghost use Rattle.host.specs.Host.{answerNumber, answerLength, answerView, answerFraming, sightingNumber, sightingSlot, sightNumber, sightSlot, receivedNumbers, receivedMemory, nothingTaken, Receives};
 ghost use Rattle.host.specs.Host.{stepNumber, stepFirst, isRefused, stepNumbers, stepMemory, startedMemory, viewIn, Begins, Nexts, Replies, Fails};
 
@@ -463,6 +464,85 @@ pub extern "C" fn starterbell_read(body: &[u8], out: &mut [u64]) -> u32
     read_answer(out, r)
 }
 
+// The next entry of a list of peers.
+fn entry_from(body: &[u8], list: u32, from: usize) -> wire::Found
+    ensures { λ r. ⌜ r ≡ entryFrom (now (body .entry)) list from ⌝ }
+{
+    if says_yes(list) {
+        return message::provider_peer(body, from);
+    }
+    message::closer_peer(body, from)
+}
+
+fn peer_answer(body: &[u8], out: &mut [u64], f: wire::Found) -> u32
+    ensures { λ r. ⌜ (r ≡ partNumber f) × (now (out .exit) ≡ peerNumbers (now (out .entry)) (now (body .entry)) f) ⌝ }
+{
+    match f {
+        wire::Found::At(p) => {
+            let id = message::peer_id(body, p);
+            let connection = message::peer_connection(body, p) as usize;
+            let numbers = [p.at, p.end, id.at, id.end, connection];
+            put_numbers(out, 0, &numbers);
+            64
+        }
+        wire::Found::Nothing => 65,
+    }
+}
+
+// The next entry from a position on of a message's closerPeers, for list 0, or of its providerPeers, for any other number: from 0, and then from each end,
+// these are all of them. 64 where there is one: where it starts and ends, where its id starts and ends, and its connection go to out. 65 where there is none.
+// In C:
+//
+//     uint32_t starterbell_peer(const uint8_t *body, size_t body_length, uint32_t list, size_t from, uint64_t *out, size_t out_length);
+#[no_mangle]
+pub extern "C" fn starterbell_peer(body: &[u8], list: u32, from: usize, out: &mut [u64]) -> u32
+    ensures { λ r. ⌜ (r ≡ partNumber (entryFrom (now (body .entry)) list from)) × (now (out .exit) ≡ peerNumbers (now (out .entry)) (now (body .entry)) (entryFrom (now (body .entry)) list from)) ⌝ }
+{
+    let f = entry_from(body, list, from);
+    peer_answer(body, out, f)
+}
+
+fn later(a: usize, b: usize) -> usize
+    ensures { λ r. ⌜ r ≡ laterOf a b ⌝ }
+{
+    if a < b {
+        return b;
+    }
+    a
+}
+
+fn address_answer(out: &mut [u64], f: wire::Found) -> u32
+    ensures { λ r. ⌜ (r ≡ partNumber f) × (now (out .exit) ≡ addressNumbers (now (out .entry)) f) ⌝ }
+{
+    match f {
+        wire::Found::At(p) => {
+            let ends = [p.at, p.end];
+            put_numbers(out, 0, &ends);
+            64
+        }
+        wire::Found::Nothing => 65,
+    }
+}
+
+// The next address, from a position on, of the peer whose entry is at start up to end: from 0 (or its start), and then from each end, these are all of them.
+// 64 where there is one: where it starts and ends goes to out. 65 where there is none. In C:
+//
+//     uint32_t starterbell_peer_address(const uint8_t *body, size_t body_length, size_t start, size_t end, size_t from, uint64_t *out, size_t out_length);
+#[no_mangle]
+pub extern "C" fn starterbell_peer_address(
+    body: &[u8],
+    start: usize,
+    end: usize,
+    from: usize,
+    out: &mut [u64],
+) -> u32
+    ensures { λ r. ⌜ (r ≡ partNumber (addressFrom (now (body .entry)) start end from)) × (now (out .exit) ≡ addressNumbers (now (out .entry)) (addressFrom (now (body .entry)) start end from)) ⌝ }
+{
+    let at = later(start, from);
+    let f = message::peer_address(body, Span { at: start, end }, at);
+    address_answer(out, f)
+}
+
 fn write_answer(out: &mut [u64], w: Written) -> u32
     ensures { λ r. ⌜ (r ≡ writeNumber w) × (now (out .exit) ≡ writeNumbers (now (out .entry)) w) ⌝ }
 {
@@ -478,7 +558,7 @@ fn write_answer(out: &mut [u64], w: Written) -> u32
 // Writes a message with its length prefix from the start of `message` on: its type, its key, its record if `held` says that it has one, and its peers, given
 // as crates/writer says. 64, or a refusal. Its length with the prefix goes to out. In C:
 //
-//     uint32_t starterbell_write(uint8_t *message, size_t room, uint64_t kind, const uint8_t *key, size_t key_length, uint32_t held,
+//     uint32_t starterbell_write(uint8_t *message, size_t message_length, uint64_t kind, const uint8_t *key, size_t key_length, uint32_t held,
 //         const uint8_t *record_key, size_t record_key_length, const uint8_t *value, size_t value_length,
 //         const uint8_t *closer, size_t closer_length, const uint8_t *providers, size_t providers_length, uint64_t *out, size_t out_length);
 #[no_mangle]
@@ -732,7 +812,7 @@ fn keep_step(memory: &mut [u8], s: Step)
 // empty lookup. As for the calls below, three things go to out unless the call is refused: the rank to ask for 66, the number of requests sent for 67 and 68,
 // else 0; how many peers were found; and twenty ranks of those, nearest first, with zeros after the last. In C:
 //
-//     uint32_t starterbell_lookup_start(const uint8_t *me, size_t me_length, uint8_t *lookup, size_t lookup_length,
+//     uint32_t starterbell_lookup_start(const uint8_t *me, size_t me_length, uint8_t *memory, size_t memory_length,
 //         const uint8_t *contacts, size_t contacts_length, const uint8_t *key, size_t key_length, size_t limit, uint64_t *out, size_t out_length);
 #[no_mangle]
 pub extern "C" fn starterbell_lookup_start(
@@ -761,7 +841,7 @@ pub extern "C" fn starterbell_lookup_start(
 
 // The next step of a lookup. 65 where it waits, 66 where a peer is to be asked, 67 where it is complete, 68 where it was cut short, or a refusal. In C:
 //
-//     uint32_t starterbell_lookup_next(uint8_t *lookup, size_t lookup_length, uint64_t *out, size_t out_length);
+//     uint32_t starterbell_lookup_next(uint8_t *memory, size_t memory_length, uint64_t *out, size_t out_length);
 #[no_mangle]
 pub extern "C" fn starterbell_lookup_next(memory: &mut [u8], out: &mut [u64]) -> u32
     ensures { λ r. ⌜ Nexts (now (memory .entry)) (now (out .entry)) r (now (memory .exit)) (now (out .exit)) ⌝ }
@@ -821,7 +901,7 @@ fn view_in(view: &[u64]) -> Fields
 // A message that came for a lookup, from the peer with this id: its body, and its view as receive or read gave it. 64 where the lookup is going, 67 where it
 // is complete, 68 where it was cut short, or a refusal. In C:
 //
-//     uint32_t starterbell_lookup_reply(const uint8_t *me, size_t me_length, uint8_t *lookup, size_t lookup_length, const uint8_t *id, size_t id_length,
+//     uint32_t starterbell_lookup_reply(const uint8_t *me, size_t me_length, uint8_t *memory, size_t memory_length, const uint8_t *id, size_t id_length,
 //         const uint8_t *body, size_t body_length, const uint64_t *view, size_t view_length, uint64_t *out, size_t out_length);
 #[no_mangle]
 pub extern "C" fn starterbell_lookup_reply(
@@ -851,7 +931,7 @@ pub extern "C" fn starterbell_lookup_reply(
 
 // The peer with this id failed a lookup. Returns what a reply returns. In C:
 //
-//     uint32_t starterbell_lookup_failure(const uint8_t *me, size_t me_length, uint8_t *lookup, size_t lookup_length, const uint8_t *id, size_t id_length,
+//     uint32_t starterbell_lookup_failure(const uint8_t *me, size_t me_length, uint8_t *memory, size_t memory_length, const uint8_t *id, size_t id_length,
 //         uint64_t *out, size_t out_length);
 #[no_mangle]
 pub extern "C" fn starterbell_lookup_failure(
