@@ -39,6 +39,8 @@ pub struct Request {
 pub struct Job {
     pub goal: Goal,
     lookup: Lookup,
+    /// The lookup said to wait, and nothing has come since.
+    waits: bool,
     /// Where the peers that were heard of can be reached: a lookup keeps ids alone.
     book: BTreeMap<Vec<u8>, Vec<Vec<u8>>>,
     /// Once the lookup is over: whom it found and who isn't asked yet.
@@ -57,11 +59,14 @@ impl Job {
         let lookup = Lookup::start(node, key, CONCURRENCY)?;
         around.tally.lookups += 1;
         let book = node.contacts().map(|contact| (contact.id().to_vec(), contact.addresses().map(<[u8]>::to_vec).collect())).collect();
-        Ok(Job { goal, lookup, book, found: None, asked: 0, values: Vec::new() })
+        Ok(Job { goal, lookup, waits: false, book, found: None, asked: 0, values: Vec::new() })
     }
 
     /// The next request, if there is one to be sent now.
     pub fn next(&mut self, around: &mut Around) -> Option<Request> {
+        if self.waits {
+            return None;
+        }
         if self.found.is_none() {
             let step = self.lookup.next();
             let outcome = match around.told(step)? {
@@ -70,7 +75,10 @@ impl Job {
                     let message = Draft::find_node(self.lookup.key()).to_vec().ok()?;
                     return Some(self.request(id, message, Why::Look));
                 }
-                Step::Wait => return None,
+                Step::Wait => {
+                    self.waits = true;
+                    return None;
+                }
                 Step::Complete(outcome) => {
                     around.tally.complete += 1;
                     outcome
@@ -111,6 +119,7 @@ impl Job {
 
     /// A message came for a request.
     pub fn heard(&mut self, node: &Node, sender: &[u8], why: Why, message: &Message, around: &mut Around) {
+        self.waits = false;
         match why {
             Why::Look => self.heard_of(node, sender, message, around),
             Why::Put => {
@@ -148,6 +157,7 @@ impl Job {
 
     /// Nothing came for a request.
     pub fn failed(&mut self, node: &Node, sender: &[u8], why: Why, around: &mut Around) {
+        self.waits = false;
         match why {
             Why::Look => {
                 let told = self.lookup.failure(node, sender);

@@ -8,7 +8,7 @@ use std::collections::BTreeMap;
 /// How a bench lies when it is asked.
 #[derive(Clone, Copy, PartialEq)]
 pub enum Trick {
-    /// Names peers that there are not.
+    /// Names peers that there are not, and those that are farthest.
     MadeUp,
     /// Sends broken bytes.
     Broken,
@@ -53,11 +53,11 @@ impl Liar {
             self.first.entry(record.key.to_vec()).or_insert_with(|| record.value.to_vec());
         }
         match (self.trick, honest.kind()) {
-            (Trick::MadeUp, Kind::FindNode | Kind::GetValue) => made_up(honest.kind(), rng),
+            (Trick::MadeUp, Kind::FindNode | Kind::GetValue) => made_up(honest.kind(), Some(&honest), rng),
             (Trick::Broken, _) => broken(rng),
             (Trick::BadRecipes, Kind::GetValue) => bad_recipe(&honest, rng),
             (Trick::OldRecipes, Kind::GetValue) => self.old_recipe(&honest),
-            (Trick::Chatter, _) => [reply, &written(Draft::ping()), reply, &made_up(Kind::FindNode, rng)].concat(),
+            (Trick::Chatter, _) => [reply, &written(Draft::ping()), reply, &made_up(Kind::FindNode, None, rng)].concat(),
             _ => reply.to_vec(),
         }
     }
@@ -73,7 +73,7 @@ impl Liar {
             0 => broken(rng),
             1 => vec![2, 8, 6],
             2 => written(Draft::new(Kind::AddProvider)),
-            3 => made_up(Kind::FindNode, rng),
+            3 => made_up(Kind::FindNode, None, rng),
             4 => written(Draft::put_value(b"/wind/rubbish", &rng.bytes::<40>())),
             5 => written(Draft::put_value(b"/elsewhere/rubbish", &rng.bytes::<40>())),
             6 => written(Draft::find_node(b"half of a message"))[..9].to_vec(),
@@ -83,14 +83,16 @@ impl Liar {
     }
 }
 
-/// A reply with more peers than are heard of, all made up: some with nobody at their address, some without one, some with no id.
-fn made_up(kind: Kind, rng: &mut Rng) -> Vec<u8> {
-    let ids: Vec<[u8; 38]> = (0..24).map(|_| rng.bytes()).collect();
+/// A reply that names made-up peers: some with nobody at their address, some without one, one with no id. Then the farthest that the honest reply names.
+fn made_up(kind: Kind, honest: Option<&Message>, rng: &mut Rng) -> Vec<u8> {
+    let ids: Vec<[u8; 38]> = (0..12).map(|_| rng.bytes()).collect();
     let dead = multiaddr([127, 0, 0, 1], 1);
     let bytes = rng.bytes::<128>();
     let lists: [&[&[u8]]; 3] = [&[&dead], &[], &[&bytes, &bytes, &bytes, &bytes]];
-    let peers: Vec<Named> =
-        ids.iter().enumerate().map(|(n, id)| Named { id: if n == 7 { &[] } else { id }, addresses: lists[n % 3], ..Named::default() }).collect();
+    let mut peers: Vec<Named> = ids.iter().zip(lists.iter().cycle()).map(|(id, addresses)| Named { id, addresses, ..Named::default() }).collect();
+    peers[7].id = &[];
+    let far: Vec<_> = honest.map(|honest| honest.closer_peers().collect()).unwrap_or_default();
+    peers.extend(far.iter().rev().map(|entry| Named { id: entry.id(), ..Named::default() }));
     written(Draft { closer_peers: &peers, ..Draft::new(kind) })
 }
 

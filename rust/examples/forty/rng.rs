@@ -20,9 +20,9 @@ impl Rng {
         std::array::from_fn(|_| self.number() as u8)
     }
 
-    /// The size of a piece, 1 to 4,096: each power of two is as likely as any other, so that single bytes come as often as large pieces.
+    /// The size of a piece, 1 to 4,096. Of every second one each power of two is as likely as any other, so that there are many of a few bytes.
     pub fn piece(&mut self) -> usize {
-        let power = self.below(13);
+        let power = if self.below(2) == 0 { 12 } else { self.below(13) };
         1 + self.below(1 << power)
     }
 

@@ -17,11 +17,9 @@ const HONEST: &str = "#1f6f8b";
 const SILENT: &str = "#c98a1b";
 const LIAR: &str = "#c23b33";
 const PAPER: &str = "#fbfaf6";
-const INK: &str = "#22313a";
 
-const STYLE: &str = "text { font-family: 'Helvetica Neue', Helvetica, Arial, sans-serif; fill: #22313a; } \
-.edge { fill: none; } .both { stroke: #1f6f8b; stroke-opacity: .17; stroke-width: 1.1; } .one { stroke: #1f6f8b; stroke-opacity: .5; stroke-width: 1; stroke-dasharray: 3 4; } \
-.silent { stroke: #c98a1b; stroke-opacity: .55; stroke-width: 1.2; } .liar { stroke: #c23b33; stroke-opacity: .42; stroke-width: 1.2; }";
+const STYLE: &str = "text { font-family: 'Helvetica Neue', Helvetica, Arial, sans-serif; fill: #22313a; } .edge { fill: none; stroke-width: 1.1; } \
+.honest { stroke: #1f6f8b; stroke-opacity: .26; } .silent { stroke: #c98a1b; stroke-opacity: .5; } .liar { stroke: #c23b33; stroke-opacity: .34; }";
 
 fn colour(role: &Role) -> &'static str {
     match role {
@@ -74,22 +72,19 @@ pub fn draw(benches: &[Bench], subtitle: &str) -> String {
     svg
 }
 
-/// A line for each two benches of which one knows the other, those between honest ones first, so that the others lie above them.
+/// Half a line for each contact, from who knows to the middle between the two: where both know each other the halves meet. Those between honest benches come
+/// first, so that the others lie above them.
 fn edges(svg: &mut String, benches: &[Bench], angles: &BTreeMap<usize, f64>) {
     let knows = knows(benches);
     let mut lines: Vec<(u8, String)> = Vec::new();
     for a in 0..benches.len() {
-        for b in a + 1..benches.len() {
-            if !knows[a][b] && !knows[b][a] {
-                continue;
-            }
+        for b in (0..benches.len()).filter(|b| knows[a][*b]) {
             let (rank, class) = match (&benches[a].role, &benches[b].role) {
-                (Role::Silent, _) | (_, Role::Silent) => (2, "silent"),
-                (Role::Liar(_), _) | (_, Role::Liar(_)) => (3, "liar"),
-                _ if knows[a][b] && knows[b][a] => (0, "both"),
-                _ => (1, "one"),
+                (Role::Silent, _) | (_, Role::Silent) => (1, "silent"),
+                (Role::Liar(_), _) | (_, Role::Liar(_)) => (2, "liar"),
+                _ => (0, "honest"),
             };
-            lines.push((rank, line(angles[&a], angles[&b], class)));
+            lines.push((rank, half_line(angles[&a], angles[&b], class)));
         }
     }
     lines.sort();
@@ -98,12 +93,14 @@ fn edges(svg: &mut String, benches: &[Bench], angles: &BTreeMap<usize, f64>) {
     }
 }
 
-/// A line that bends towards the middle.
-fn line(from: f64, to: f64, class: &str) -> String {
+/// The first half of a line that bends towards the middle.
+fn half_line(from: f64, to: f64, class: &str) -> String {
     let ((x1, y1), (x2, y2)) = (at(from, RING), at(to, RING));
     let (x, y) = ((x1 + x2) / 2.0, (y1 + y2) / 2.0);
     let (x, y) = (x + (MIDDLE.0 - x) * 0.45, y + (MIDDLE.1 - y) * 0.45);
-    format!("<path class=\"edge {class}\" d=\"M{x1:.1} {y1:.1} Q{x:.1} {y:.1} {x2:.1} {y2:.1}\"/>\n")
+    let (half_x, half_y) = ((x1 + x) / 2.0, (y1 + y) / 2.0);
+    let (end_x, end_y) = ((x1 + 2.0 * x + x2) / 4.0, (y1 + 2.0 * y + y2) / 4.0);
+    format!("<path class=\"edge {class}\" d=\"M{x1:.1} {y1:.1} Q{half_x:.1} {half_y:.1} {end_x:.1} {end_y:.1}\"/>\n")
 }
 
 /// A bench: its number, and a bar as long as it has records.
@@ -132,19 +129,18 @@ fn mark(svg: &mut String, benches: &[Bench], bench: usize, angle: f64, step: f64
 }
 
 fn legend(svg: &mut String) {
-    let dots = [(HONEST, "honest"), (SILENT, "silent: joined, and never answers"), (LIAR, "liar")];
-    for (n, (colour, words)) in dots.iter().enumerate() {
+    let kinds = [(HONEST, "honest", "honest"), (SILENT, "silent", "silent: it joined, and never answers"), (LIAR, "liar", "liar")];
+    for (n, (colour, class, words)) in kinds.iter().enumerate() {
         let y = 1188.0 + n as f64 * 30.0;
-        let _ = writeln!(svg, r#"<circle cx="60" cy="{y}" r="9" fill="{colour}"/><text x="82" y="{}" font-size="16">{words}</text>"#, y + 5.5);
+        let _ = writeln!(svg, r#"<path class="edge {class}" style="stroke-opacity:.9;stroke-width:2" d="M70 {y} h44"/>"#);
+        let _ = writeln!(svg, r#"<circle cx="60" cy="{y}" r="9" fill="{colour}"/><text x="128" y="{}" font-size="16">{words}</text>"#, y + 5.5);
     }
-    let lines =
-        [("both", "two honest benches know each other"), ("one", "only one knows the other"), ("silent", "with a silent bench"), ("liar", "with a liar")];
-    for (n, (class, words)) in lines.iter().enumerate() {
-        let (x, y) = (440.0 + (n / 2) as f64 * 370.0, 1188.0 + (n % 2) as f64 * 30.0);
-        let _ = writeln!(svg, r#"<path class="edge {class}" style="stroke-opacity:.9;stroke-width:2" d="M{x} {y} h44"/>"#);
-        let _ = writeln!(svg, r#"<text x="{}" y="{}" font-size="16">{words}</text>"#, x + 58.0, y + 5.5);
+    let words = [
+        "A line starts at who knows another. Where both do, two halves meet.",
+        "Benches stand in the order of their places: neighbours are near.",
+        "The bar outside a bench is as long as it keeps recipes.",
+    ];
+    for (n, words) in words.iter().enumerate() {
+        let _ = writeln!(svg, r#"<text x="480" y="{}" font-size="15">{words}</text>"#, 1193.5 + n as f64 * 30.0);
     }
-    let _ = writeln!(svg, r#"<path d="M440 1248 h44" stroke="{INK}" stroke-width="11" stroke-opacity=".4"/>"#);
-    let _ =
-        writeln!(svg, r#"<text x="498" y="1253.5" font-size="16">outer bars: recipes that a bench keeps. Benches stand in the order of their places</text>"#);
 }

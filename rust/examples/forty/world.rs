@@ -73,7 +73,7 @@ impl World {
         for (number, role) in roles(count, &mut rng).into_iter().enumerate() {
             // libp2p's id of an Ed25519 key: the key itself, with what it is before it
             let id = [&[0, 36, 8, 1, 18, 32][..], &rng.bytes::<32>()].concat();
-            let node = Node::start(&id, &[&net.address(number)], Room { contacts: 128, records: 256 })?;
+            let node = Node::start(&id, &[&net.address(number)], Room { contacts: 64, records: RECIPES_EACH * count })?;
             benches.push(Bench::new(number, node, role));
         }
         let honest: Vec<usize> = (0..count).filter(|bench| benches[*bench].is_honest()).collect();
