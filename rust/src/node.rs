@@ -256,9 +256,12 @@ impl Node {
             let received = self.received(connection, returned, out);
             rest = &rest[received.taken..];
             match received.event {
-                Event::More => return Ok(()),
+                Event::More => {}
                 Event::Refused(refusal) => return Err(refusal),
                 Event::Reply(_) | Event::Heard(_) => each(self, received),
+            }
+            if rest.is_empty() {
+                return Ok(());
             }
         }
     }

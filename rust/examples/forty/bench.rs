@@ -178,7 +178,7 @@ impl Bench {
     fn hear(&mut self, asking: &mut Asking, piece: &[u8], around: &mut Around) -> bool {
         asking.moved = around.net.now();
         let mut rest = piece;
-        loop {
+        while !rest.is_empty() {
             let received = self.node.receive(&mut asking.connection, rest);
             rest = &rest[received.taken..];
             match received.event {
@@ -190,9 +190,10 @@ impl Bench {
                     around.refused(refusal);
                     return false;
                 }
-                Event::More | Event::Reply(_) => return true,
+                Event::More | Event::Reply(_) => {}
             }
         }
+        true
     }
 
     fn heard(&mut self, peer: &Known, waiting: Option<Waiting>, message: &Message, around: &mut Around) {

@@ -136,9 +136,9 @@ fn progress() -> impl FnMut(&World) {
 
 fn kinds(world: &World) -> String {
     let silent = world.benches.iter().filter(|bench| matches!(bench.role, bench::Role::Silent)).count();
-    let honest = world.honest();
-    let all = world.benches.len();
-    format!("{all} benches: {honest} honest, {silent} silent, {} liars", all - honest - silent)
+    let (all, honest) = (world.benches.len(), world.honest());
+    let liars = all - honest - silent;
+    format!("{all} benches: {honest} honest, {silent} silent, {liars} {}", if liars == 1 { "liar" } else { "liars" })
 }
 
 fn summary(wanted: &Wanted, world: &World, kinds: &str, took: Duration) {
