@@ -62,6 +62,7 @@ impl Connection {
 }
 
 /// What came of a piece, up to its first event.
+#[must_use = "it says how many bytes were taken, and what to send"]
 #[derive(Clone, Debug)]
 pub struct Received<'n, 'c> {
     /// How many bytes were taken. Hand in the rest of the piece again.
@@ -81,6 +82,6 @@ pub enum Event<'n, 'c> {
     Reply(&'n [u8]),
     /// A message came on a connection on which we ask. It lies in the connection's receive buffer until that takes another byte.
     Heard(Message<'c>),
-    /// The message was refused. All but the first three refusals and that of the box's own id have shut the connection.
+    /// A message was refused, and the connection is shut; or it was shut before.
     Refused(Refusal),
 }

@@ -125,7 +125,7 @@ impl Node {
         Contact::at(&self.contacts[slot as usize * raw::CONTACT..][..raw::CONTACT])
     }
 
-    /// A peer was seen: it answered, or was heard of from itself. Senders of requests are seen by [`receive`](Node::receive).
+    /// A peer was seen: it answered us. Those that ask are seen by [`receive`](Node::receive), which doesn't see those that we ask.
     pub fn seen(&mut self, peer: Peer<'_>) -> Result<Seen<'_>, Refusal> {
         let mut out = [0];
         let returned = raw::seen(&self.me, &mut self.contacts, peer.id, peer.is_client(), &listed(peer.addresses), &mut out);

@@ -145,3 +145,27 @@ fn the_added_entry_has_its_addresses() {
     let last = message.closer_peers().last().expect("21 peers");
     assert_eq!((last.id(), last.addresses().collect::<Vec<_>>()), (&b"bench"[..], vec![&b"/bench"[..]]));
 }
+
+/// Numbers that look random, the same in every run.
+fn numbers(mut seed: u64) -> impl FnMut(usize) -> usize {
+    move |below| {
+        seed = seed.wrapping_mul(6_364_136_223_846_793_005).wrapping_add(1_442_695_040_888_963_407);
+        (seed >> 33) as usize % below
+    }
+}
+
+#[test]
+fn any_bytes_in_any_pieces() {
+    let mut number = numbers(7);
+    let good = requests();
+    for _ in 0..500 {
+        // requests with some bytes changed, from somewhere on
+        let mut bytes = good[number(good.len())..].to_vec();
+        for _ in 0..number(4) {
+            let at = number(bytes.len());
+            bytes[at] = number(256) as u8;
+        }
+        let whole = replies(&bytes, bytes.len());
+        assert_eq!(replies(&bytes, 1 + number(40)), whole, "{bytes:?}");
+    }
+}

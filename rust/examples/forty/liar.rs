@@ -86,7 +86,8 @@ impl Liar {
 /// A reply that names made-up peers: some with nobody at their address, some without one, one with no id. Then the farthest that the honest reply names.
 fn made_up(kind: Kind, honest: Option<&Message>, rng: &mut Rng) -> Vec<u8> {
     let ids: Vec<[u8; 38]> = (0..12).map(|_| rng.bytes()).collect();
-    let dead = multiaddr([127, 0, 0, 1], 1);
+    // nobody can listen on port 0
+    let dead = multiaddr([127, 0, 0, 1], 0);
     let bytes = rng.bytes::<128>();
     let lists: [&[&[u8]]; 3] = [&[&dead], &[], &[&bytes, &bytes, &bytes, &bytes]];
     let mut peers: Vec<Named> = ids.iter().zip(lists.iter().cycle()).map(|(id, addresses)| Named { id, addresses, ..Named::default() }).collect();

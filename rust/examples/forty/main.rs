@@ -13,7 +13,7 @@ mod world;
 
 use net::Net;
 use starterbell::Refusal;
-use std::io::IsTerminal;
+use std::io::{IsTerminal, Write};
 use std::path::{Path, PathBuf};
 use std::process::ExitCode;
 use std::time::{Duration, Instant};
@@ -28,7 +28,7 @@ Bytes come in pieces of random size. The exit status is 0 where every recipe was
 
   --tcp         over TCP on this machine, with real sockets and timeouts, instead of in memory
   --seed N      another run; in memory the same seed gives the same run (40)
-  --benches N   how many boxes, 8 to 120 (40)
+  --benches N   how many boxes, 8 to 80 (40)
   --svg FILE    where the picture of who knows whom is written (forty.svg in the project's target folder)
   --help        this";
 
@@ -64,8 +64,8 @@ fn arguments() -> Result<Asked, String> {
             _ => return Err(format!("{word} is not known here")),
         }
     }
-    if !(8..=120).contains(&wanted.benches) {
-        return Err(format!("{} benches: it takes 8 to 120", wanted.benches));
+    if !(8..=80).contains(&wanted.benches) {
+        return Err(format!("{} benches: it takes 8 to 80", wanted.benches));
     }
     Ok(Asked::Run(wanted))
 }
@@ -94,6 +94,8 @@ fn main() -> ExitCode {
 
 fn run(wanted: &Wanted) -> Result<ExitCode, String> {
     let start = Instant::now();
+    let draw = |picture: &str| std::fs::write(&wanted.svg, picture).map_err(|why| format!("{} can't be written: {why}", wanted.svg.display()));
+    draw("")?; // now, not after the run
     let net: Box<dyn Net> = if wanted.tcp {
         Box::new(tcp::Tcp::new(wanted.benches, wanted.seed).map_err(|why| format!("no sockets to listen on: {why}"))?)
     } else {
@@ -101,19 +103,21 @@ fn run(wanted: &Wanted) -> Result<ExitCode, String> {
     };
     let mut world = World::new(wanted.benches, wanted.seed, net).map_err(|refusal| format!("a box can't be started: {refusal}"))?;
     world.run(progress());
-    let problems = world.problems();
     let kinds = kinds(&world);
-    std::fs::write(&wanted.svg, svg::draw(&world.benches, &kinds)).map_err(|why| format!("{} can't be written: {why}", wanted.svg.display()))?;
-    summary(wanted, &world, &kinds, start.elapsed());
-    for problem in problems.iter().take(20) {
-        println!("wrong: {problem}");
-    }
+    draw(&svg::draw(&world.benches, &kinds))?;
+    let problems = world.problems();
+    let said = summary(wanted, &world, &kinds, start.elapsed()) + &verdict(&problems);
+    // a reader that has gone away is no failure of the run
+    let _ = std::io::stdout().write_all(said.as_bytes());
+    Ok(if problems.is_empty() { ExitCode::SUCCESS } else { ExitCode::FAILURE })
+}
+
+fn verdict(problems: &[String]) -> String {
     if problems.is_empty() {
-        println!("every lookup has ended, and every honest bench found every recipe");
-        return Ok(ExitCode::SUCCESS);
+        return "every lookup has ended, and every honest bench found every recipe\n".into();
     }
-    println!("{} things went wrong", problems.len());
-    Ok(ExitCode::FAILURE)
+    let first: String = problems.iter().take(20).map(|problem| format!("wrong: {problem}\n")).collect();
+    format!("{first}{} things went wrong\n", problems.len())
 }
 
 /// On a terminal a line that changes; else a line for each phase.
@@ -141,22 +145,23 @@ fn kinds(world: &World) -> String {
     format!("{all} benches: {honest} honest, {silent} silent, {liars} {}", if liars == 1 { "liar" } else { "liars" })
 }
 
-fn summary(wanted: &Wanted, world: &World, kinds: &str, took: Duration) {
+fn summary(wanted: &Wanted, world: &World, kinds: &str, took: Duration) -> String {
     let (tally, traffic) = (&world.tally, world.net.traffic());
     let carried = if wanted.tcp { "over TCP" } else { "in memory" };
-    println!("{kinds}; {carried}, seed {}", wanted.seed);
-    println!("recipes    {} in two versions, {} puts accepted; {} finds by {} benches", world.recipes(), tally.stored, world.found(), world.honest());
     let each = tally.requests as f64 / tally.ended().max(1) as f64;
-    println!(
-        "lookups    {} begun, {} complete, {} cut short; {each:.1} requests each, at most {}",
-        tally.lookups, tally.complete, tally.cut_short, tally.most_requests
-    );
-    println!("messages   {} on {} connections; {} bytes in {} pieces", tally.messages, traffic.connections, traffic.bytes, traffic.pieces);
-    println!("failures   {} requests unanswered; {} heads probed, {} swapped", tally.failures, tally.probes, tally.swaps);
-    println!("lies       {} messages nobody asked for, {} bad recipes, {} old ones outranked", tally.unasked, tally.broken, tally.outranked);
-    println!("refusals   {}", refusals(&tally.refusals));
-    println!("time       {:.1} s", took.as_secs_f64());
-    println!("picture    {}", wanted.svg.display());
+    let lines = [
+        format!("{kinds}; {carried}, seed {}", wanted.seed),
+        format!("recipes    {} in two versions, {} puts accepted; {} finds by {} benches", world.recipes(), tally.stored, world.found(), world.honest()),
+        format!("lookups    {} begun, {} complete, {} cut short", tally.lookups, tally.complete, tally.cut_short),
+        format!("requests   {each:.1} for each lookup, at most {}; {} of all requests unanswered", tally.most_requests, tally.failures),
+        format!("messages   {} on {} connections; {} bytes in {} pieces", tally.messages, traffic.connections, traffic.bytes, traffic.pieces),
+        format!("contacts   {} heads of full buckets probed, {} swapped", tally.probes, tally.swaps),
+        format!("lies       {} messages nobody asked for, {} bad recipes, {} old ones outranked", tally.unasked, tally.broken, tally.outranked),
+        format!("refusals   {}", refusals(&tally.refusals)),
+        format!("time       {:.1} s", took.as_secs_f64()),
+        format!("picture    {}", wanted.svg.display()),
+    ];
+    lines.join("\n") + "\n"
 }
 
 /// Those that were given, by number.

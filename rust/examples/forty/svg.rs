@@ -107,25 +107,18 @@ fn half_line(from: f64, to: f64, class: &str) -> String {
 fn mark(svg: &mut String, benches: &[Bench], bench: usize, angle: f64, step: f64) {
     let colour = colour(&benches[bench].role);
     let most = benches.iter().map(|bench| bench.node.records().count()).max().unwrap_or(0).max(1);
-    let records = benches[bench].node.records().count();
+    let (records, contacts) = (benches[bench].node.records().count(), benches[bench].node.contacts().count());
     let radius = (RING * step * 0.42).min(20.0);
     let length = 60.0 * records as f64 / most as f64;
     let ((x1, y1), (x2, y2), (x, y)) = (at(angle, BARS), at(angle, BARS + length), at(angle, RING));
-    let wide = radius * 0.7;
+    let (wide, size) = (radius * 0.7, radius * 0.85);
     if records > 0 {
         let _ = writeln!(svg, r#"<path d="M{x1:.1} {y1:.1} L{x2:.1} {y2:.1}" stroke="{colour}" stroke-width="{wide:.1}" stroke-opacity=".55"/>"#);
     }
-    let _ = writeln!(
-        svg,
-        r#"<circle cx="{x:.1}" cy="{y:.1}" r="{radius:.1}" fill="{colour}" stroke="{PAPER}" stroke-width="2"><title>bench {bench}: {} contacts, {records} records</title></circle>"#,
-        benches[bench].node.contacts().count()
-    );
-    let size = radius * 0.85;
-    let _ = writeln!(
-        svg,
-        r#"<text x="{x:.1}" y="{:.1}" font-size="{size:.1}" font-weight="600" text-anchor="middle" style="fill:{PAPER}">{bench}</text>"#,
-        y + size * 0.35
-    );
+    let _ = writeln!(svg, r#"<circle cx="{x:.1}" cy="{y:.1}" r="{radius:.1}" fill="{colour}" stroke="{PAPER}" stroke-width="2">"#);
+    let _ = writeln!(svg, "<title>bench {bench}: {contacts} contacts, {records} records</title></circle>");
+    let _ = write!(svg, r#"<text x="{x:.1}" y="{:.1}" font-size="{size:.1}" font-weight="600" text-anchor="middle""#, y + size * 0.35);
+    let _ = writeln!(svg, r#" style="fill:{PAPER}">{bench}</text>"#);
 }
 
 fn legend(svg: &mut String) {

@@ -13,7 +13,7 @@ use std::time::{Duration, Instant};
 /// Each honest bench owns so many recipes.
 const RECIPES_EACH: usize = 2;
 /// A run that takes longer has failed.
-const LONGEST: Duration = Duration::from_secs(120);
+const LONGEST: Duration = Duration::from_secs(300);
 
 #[derive(Clone, Copy, PartialEq, Eq, Debug)]
 pub enum Phase {
