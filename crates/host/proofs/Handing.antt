@@ -1,28 +1,18 @@
 -- What a call hands over is what the functions below it gave. Assumes nothing.
 use Prim.Native.Nat.{ℕ, _<_, _≤_}
-use mathlib.Core.Path.{_≡_, refl, sym, ap, _∙_}
-use mathlib.Core.Bool.{Bool, true, false, cond, _||_}
-use mathlib.Core.List.{List, [], _∷_}
+use mathlib.Core.Path.{_≡_, sym, ap, _∙_}
+use mathlib.Core.Bool.{Bool}
+use mathlib.Core.List.{List}
 use lib.ListN.{length}
 use lib.Seq.{sets}
-use lib.Dec.{leb, eqb}
-use borrow.Author.Tests.{lt-ltb, le-ltb, le-leb, lt-leb}
-use Rattle.octets.proofs.Bools.{or-l, or-off, cond-yes, cond-no}
-use Rattle.octets.proofs.Stores.{sets-append}
-use Rattle.refusal.specs.declared.Refusal.{Refusal}
-use Rattle.refusal.specs.Refusal.{numberOf}
+use borrow.Author.Tests.{lt-ltb, le-ltb}
+use Rattle.octets.proofs.Bools.{cond-yes, cond-no}
 use Rattle.peer.specs.declared.Peer.{Peer}
-use Rattle.stream.specs.declared.Framing.{Framing}
-use Rattle.stream.specs.declared.Ending.{Ending}
-use Rattle.stream.specs.declared.Ending.the-variants as ending
 use Rattle.contact_calls.specs.declared.SeenOutcome.{SeenOutcome}
 use Rattle.contact_calls.specs.declared.SettleOutcome.{SettleOutcome}
 use Rattle.contact_calls.specs.declared.RemoveOutcome.{RemoveOutcome}
-use Rattle.message.specs.declared.Fields.{Fields}
 use Rattle.writer.specs.declared.Written.{Written}
 use Rattle.writer.specs.Writer.{messageWith, answerOf, outAfter}
-use Rattle.node.specs.declared.Told.{Told}
-use Rattle.node.specs.declared.Told.the-variants as told
 use Rattle.node.specs.declared.Conn.{Conn}
 use Rattle.node.specs.declared.Started.{Started}
 use Rattle.node.specs.declared.Opened.{Opened}
@@ -30,12 +20,11 @@ use Rattle.node.specs.declared.Ended.{Ended}
 use Rattle.node.specs.Box.{startOf, openOf, endConn}
 use Rattle.host_calls.specs.declared.Nearby.{Nearby}
 use Rattle.host_calls.specs.Hosts.{seenOf, seenAfter, settleOf, settleAfter, removeOf, removeAfter, nearestTo}
-use Rattle.flat.specs.Flat.{peerIn, connIn, saysYes, peerBytes, connBytes, withFraming}
-use Rattle.host.specs.Host.{lent, lentBoth, toldCode, unlessRefused, boxAfter, startCode, startMemory, openFor, openCode, openMemory, changesNothing, refusedFraming, endingCode, endingFraming, endedMemory, endCode, endMemory, seenNumber, seenNumbers, seenCode, seenContacts, seenOut, settleNumber, settleCode, settleContacts, removeNumber, removeCode, removeContacts, nearestNumbers, nearestCode, nearestOut, viewNumbers, writeNumber, writeNumbers}
-
--- ---- by the case of an answer
-pub by-case : {A B : Type 0} (f : A → B) (a v : A) (x : B) → a ≡ v → x ≡ f v → x ≡ f a
-by-case f a v x e h = h ∙ sym (ap f e)
+use Rattle.flat.specs.Flat.{peerIn, connIn, saysYes, connBytes}
+use Rattle.host_numbers.specs.Numbers.{toldCode}
+use Rattle.host_answers.specs.Answers.{seenNumber, seenNumbers, settleNumber, removeNumber, nearestNumbers, writeNumber, writeNumbers}
+use Rattle.host_state.specs.State.{boxAfter, endingCode, endedMemory}
+use Rattle.host.specs.Host.{lent, lentBoth, startCode, startMemory, openFor, openCode, openMemory, endCode, endMemory, seenCode, seenContacts, seenOut, settleCode, settleContacts, removeCode, removeContacts, nearestCode, nearestOut}
 
 -- ---- memory of enough bytes
 module _ {A : Type 0} (n : ℕ) (s : List ℕ) (x y : A) where
@@ -58,13 +47,6 @@ module _ {A : Type 0} (me conn : List ℕ) (x y : A) where
   both-enough l m = lent-enough 640 conn x y m ∙ lent-enough 616 me x (lent 640 conn x y) l
 
 -- ---- start
-module _ (me : List ℕ) (s : Started) where
-  pub box-kept : (new : List ℕ) → s .told ≡ told.Fine → new ≡ sets me 0 (peerBytes (s .me)) → (64 ≡ toldCode (s .told)) × (new ≡ boxAfter me s)
-  box-kept new e h = (sym (ap toldCode e), h ∙ sym (ap (λ (t : Told). unlessRefused t (sets me 0 (peerBytes (s .me))) me) e))
-
-  pub box-left : (n : ℕ) (r : Refusal) → s .told ≡ told.Refused r → n ≡ numberOf r → (n ≡ toldCode (s .told)) × (me ≡ boxAfter me s)
-  box-left n r e h = (h ∙ sym (ap toldCode e), sym (ap (λ (t : Told). unlessRefused t (sets me 0 (peerBytes (s .me))) me) e))
-
 module _ (me id addresses : List ℕ) where
   pub start-short : length me < 616 → (0 ≡ startCode me id addresses) × (me ≡ startMemory me id addresses)
   start-short l = (lent-short 616 me 0 (toldCode (startOf id addresses .told)) l, lent-short 616 me me (boxAfter me (startOf id addresses)) l)
@@ -105,32 +87,6 @@ module _ (me conn id : List ℕ) (server asking : ℕ) (addresses : List ℕ) wh
       )
 
 -- ---- end
-module _ (r : Refusal) (n : ℕ) (e : n ≡ numberOf r) where
-  pub changes-low : n ≤ 2 → true ≡ changesNothing r
-  unfolding changesNothing
-  changes-low l = sym (or-l (leb (numberOf r) 2) (eqb (numberOf r) 12) (ap (λ (x : ℕ). leb x 2) (sym e) ∙ le-leb n 2 l))
-
-  pub changes-high : 2 < n → eqb n 12 ≡ changesNothing r
-  unfolding changesNothing
-  changes-high l =
-      ap (λ (x : ℕ). eqb x 12) e ∙ sym (or-off (leb (numberOf r) 2) (eqb (numberOf r) 12) (ap (λ (x : ℕ). leb x 2) (sym e) ∙ lt-leb n 2 l))
-
-module _ (conn : List ℕ) (f : Framing) (r : Refusal) (b : Bool) (e : b ≡ changesNothing r) where
-  pub framing-left : b ≡ true → conn ≡ refusedFraming conn f r
-  framing-left h = sym (cond-yes (changesNothing r) conn (withFraming conn f) (sym e ∙ h))
-
-  pub framing-written : (new : List ℕ) → b ≡ false → new ≡ withFraming conn f → new ≡ refusedFraming conn f r
-  framing-written new h w = w ∙ sym (cond-no (changesNothing r) conn (withFraming conn f) (sym e ∙ h))
-
-module _ (conn : List ℕ) (x : Ended) where
-  pub end-clean : (new : List ℕ) → x .answer ≡ ending.Clean → new ≡ withFraming conn (x .conn .framing)
-      → (64 ≡ endingCode (x .answer)) × (new ≡ endedMemory conn x)
-  end-clean new e h = (sym (ap endingCode e), h ∙ sym (ap (endingFraming conn (x .conn .framing)) e))
-
-  pub end-refused : (new : List ℕ) (n : ℕ) (r : Refusal) → x .answer ≡ ending.Refused r
-      → (n ≡ numberOf r) × (new ≡ refusedFraming conn (x .conn .framing) r) → (n ≡ endingCode (x .answer)) × (new ≡ endedMemory conn x)
-  end-refused new n r e h = (h .0 ∙ sym (ap endingCode e), h .1 ∙ sym (ap (endingFraming conn (x .conn .framing)) e))
-
 module _ (me conn : List ℕ) where
   pub end-short : length me < 616 → (0 ≡ endCode me conn) × (conn ≡ endMemory me conn)
   end-short l = (both-short me conn 0 _ l, both-short me conn conn _ l)
@@ -195,22 +151,6 @@ module _ (me t id : List ℕ) where
     h .1 ∙ ap (λ (x : Peer). removeAfter x t id) ep ∙ lent-enough 616 me t (removeAfter (peerIn me) t id) l,
   )
 
-module _ (out : List ℕ) (x : Nearby) where
-  pub near-told : (one two : List ℕ) → x .told ≡ told.Fine → one ≡ sets out 0 (x .closest .n ∷ []) → two ≡ sets one 1 (x .closest .at)
-      → (64 ≡ toldCode (x .told)) × (two ≡ nearestNumbers out x)
-  near-told one two e h k = (
-    sym (ap toldCode e),
-    k ∙ ap (λ (s : List ℕ). sets s 1 (x .closest .at)) h
-        ∙ sym (sets-append out 0 (x .closest .n ∷ []) (x .closest .at))
-        ∙ sym (ap (λ (t : Told). unlessRefused t (sets out 0 (x .closest .n ∷ x .closest .at)) out) e),
-  )
-
-  pub near-refused : (n : ℕ) (r : Refusal) → x .told ≡ told.Refused r → n ≡ numberOf r → (n ≡ toldCode (x .told)) × (out ≡ nearestNumbers out x)
-  near-refused n r e h = (
-    h ∙ sym (ap toldCode e),
-    sym (ap (λ (t : Told). unlessRefused t (sets out 0 (x .closest .n ∷ x .closest .at)) out) e),
-  )
-
 module _ (me t key out : List ℕ) where
   pub nearest-short : length me < 616 → (0 ≡ nearestCode me t key) × (out ≡ nearestOut me t key out)
   nearest-short l = (lent-short 616 me 0 _ l, lent-short 616 me out _ l)
@@ -224,13 +164,6 @@ module _ (me t key out : List ℕ) where
       )
 
 -- ---- messages
-pub view-written : (out new : List ℕ) (at n : ℕ) (m : Fields) → n ≡ cond (m .held .there) 1 0
-    → new ≡ sets out at (m .kind ∷ m .key .at ∷ m .key .end ∷ n ∷ m .held .key .at ∷ m .held .key .end ∷ m .held .value .at ∷ m .held .value .end ∷ [])
-    → new ≡ sets out at (viewNumbers m)
-view-written out new at n m e h =
-    h ∙ ap (λ (x : ℕ).
-    sets out at (m .kind ∷ m .key .at ∷ m .key .end ∷ x ∷ m .held .key .at ∷ m .held .key .end ∷ m .held .value .at ∷ m .held .value .end ∷ [])) e
-
 module _ (message : List ℕ) (kind : ℕ) (key : List ℕ) (held : ℕ) (rkey value closer providers out : List ℕ) where
   pub write-done : (n : ℕ) (new wrote : List ℕ) (b : Bool) (w : Written) → b ≡ saysYes held
       → (w ≡ answerOf message (messageWith kind key b rkey value closer providers))

@@ -1,4 +1,3 @@
 pub mod Handing
 pub mod Receiving
 pub mod Stepping
-pub mod Walking

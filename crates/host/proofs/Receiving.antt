@@ -1,32 +1,16 @@
 -- What a receive hands over is what the box below it gave. Assumes nothing.
 use Prim.Native.Nat.{ℕ, _<_, _≤_}
-use mathlib.Core.Path.{_≡_, refl, sym, ap, _∙_}
-use mathlib.Core.List.{List, [], _∷_, _++_}
+use mathlib.Core.Path.{_≡_, ap, _∙_}
+use mathlib.Core.List.{List}
 use lib.ListN.{length}
-use lib.Seq.{sets}
-use Rattle.octets.proofs.Stores.{sets-append}
 use Rattle.peer.specs.declared.Peer.{Peer}
 use Rattle.node.specs.declared.Conn.{Conn}
+use Rattle.flat.specs.Flat.{peerIn, connIn}
 use Rattle.node.specs.declared.Received.{Received}
 use Rattle.node.specs.Node.{Out, Gives, receiveOf}
-use Rattle.flat.specs.Flat.{peerIn, connIn}
-use Rattle.host.specs.Host.{lentBoth, answerNumber, answerLength, answerView, sightNumber, sightSlot, receivedNumbers, receivedMemory, nothingTaken, receiveFor, Receives}
+use Rattle.host_state.specs.State.{answerNumber, receivedNumbers, receivedMemory, nothingTaken}
+use Rattle.host.specs.Host.{receiveFor, Receives}
 use Rattle.host.proofs.Handing.{both-short, both-second, both-enough}
-
--- the first four numbers, then the view
-module _ (out : List ℕ) (g : Received) (l n s : ℕ) where
-  head-is : l ≡ answerLength (g .answer) → n ≡ sightNumber (g .sight) → s ≡ sightSlot (g .sight)
-      → _≡_ {A = List ℕ} (g .taken ∷ l ∷ n ∷ s ∷ []) (g .taken ∷ answerLength (g .answer) ∷ sightNumber (g .sight) ∷ sightSlot (g .sight) ∷ [])
-  head-is el en es =
-      ap (λ (x : ℕ). g .taken ∷ x ∷ n ∷ s ∷ []) el
-      ∙ ap (λ (x : ℕ). g .taken ∷ answerLength (g .answer) ∷ x ∷ s ∷ []) en
-      ∙ ap (λ (x : ℕ). g .taken ∷ answerLength (g .answer) ∷ sightNumber (g .sight) ∷ x ∷ []) es
-
-  pub received-written : (one two : List ℕ) → l ≡ answerLength (g .answer) → n ≡ sightNumber (g .sight) → s ≡ sightSlot (g .sight)
-      → one ≡ sets out 0 (g .taken ∷ l ∷ n ∷ s ∷ []) → two ≡ sets one 4 (answerView (g .answer)) → two ≡ receivedNumbers out g
-  received-written one two el en es h k =
-      k ∙ ap (λ (x : List ℕ). sets x 4 (answerView (g .answer))) (h ∙ ap (sets out 0) (head-is el en es))
-      ∙ sym (sets-append out 0 (g .taken ∷ answerLength (g .answer) ∷ sightNumber (g .sight) ∷ sightSlot (g .sight) ∷ []) (answerView (g .answer)))
 
 module _ (me conn m bs t k y out : List ℕ) where
   pub receive-short : (r : ℕ) (out′ : List ℕ) → length me < 616 → (r ≡ 0) × (out′ ≡ nothingTaken out)

@@ -1,56 +1,23 @@
 -- What a step of a lookup hands over is what the lookup gave. Assumes nothing.
 use Prim.Native.Nat.{ℕ, _<_, _≤_}
-use mathlib.Core.Path.{_≡_, refl, sym, ap, _∙_}
-use mathlib.Core.Bool.{Bool, true, false, cond, not, _||_}
-use mathlib.Core.List.{List, [], _∷_, _++_}
-use lib.ListN.{length, getD}
-use lib.Seq.{sets}
-use lib.Dec.{ltb, eqb}
+use mathlib.Core.Path.{_≡_, sym, ap, _∙_}
+use mathlib.Core.Bool.{Bool, true, false}
+use mathlib.Core.List.{List}
+use lib.ListN.{length}
 use borrow.Author.Tests.{lt-ltb, le-ltb}
-use Rattle.octets.proofs.Bools.{or-l, or-r, or-fails, cond-yes, cond-no}
-use Rattle.octets.proofs.Stores.{sets-append}
+use Rattle.octets.proofs.Bools.{or-l, cond-yes, cond-no, or-r, or-fails}
 use Rattle.peer.specs.declared.Peer.{Peer}
-use Rattle.wire.specs.declared.Span.{Span}
-use Rattle.message.specs.declared.Held.{Held}
 use Rattle.message.specs.declared.Fields.{Fields}
+use Rattle.flat.specs.Flat.{peerIn}
+use lib.Dec.{ltb}
 use Rattle.lookup.specs.declared.Lookup.{Lookup}
 use Rattle.lookup.specs.declared.Step.{Step}
 use Rattle.lookup.specs.Lookup.{nextOf}
 use Rattle.host_calls.specs.Hosts.{lookupStart, lookupReply, lookupFailure}
-use Rattle.flat.specs.Flat.{peerIn, saysYes}
-use Rattle.flat_lookup.specs.FlatLookup.{lookupIn, lookupBytes}
-use Rattle.host.specs.Host.{stepNumber, stepFirst, isRefused, stepNumbers, stepMemory, startedMemory, viewIn, tooShort, Steps, Begins, Nexts, Replies, Fails}
-
--- ---- a step that wasn't refused
-module _ (s : Step) (b : Bool) (e : b ≡ isRefused (s .answer)) (no : b ≡ false) where
-  pub step-kept : (m new : List ℕ) → new ≡ sets m 0 (lookupBytes (s .lookup)) → new ≡ stepMemory m s
-  step-kept m new h = h ∙ sym (cond-no (isRefused (s .answer)) m (sets m 0 (lookupBytes (s .lookup))) (sym e ∙ no))
-
-  pub step-written : (out one two : List ℕ) (n : ℕ) → n ≡ stepFirst (s .answer) → one ≡ sets out 0 (n ∷ s .found .n ∷ [])
-      → two ≡ sets one 2 (s .found .at) → two ≡ stepNumbers out s
-  step-written out one two n f h k =
-      k ∙ ap (λ (x : List ℕ). sets x 2 (s .found .at)) (h ∙ ap (λ (x : ℕ). sets out 0 (x ∷ s .found .n ∷ [])) f)
-      ∙ sym (sets-append out 0 (stepFirst (s .answer) ∷ s .found .n ∷ []) (s .found .at))
-      ∙ sym (cond-no (isRefused (s .answer)) out (sets out 0 ((stepFirst (s .answer) ∷ s .found .n ∷ []) ++ s .found .at)) (sym e ∙ no))
-
--- one that was
-module _ (s : Step) (b : Bool) (e : b ≡ isRefused (s .answer)) (yes : b ≡ true) where
-  pub step-left : (m : List ℕ) → m ≡ stepMemory m s
-  step-left m = sym (cond-yes (isRefused (s .answer)) m (sets m 0 (lookupBytes (s .lookup))) (sym e ∙ yes))
-
-  pub step-silent : (out : List ℕ) → out ≡ stepNumbers out s
-  step-silent out =
-      sym (cond-yes (isRefused (s .answer)) out (sets out 0 ((stepFirst (s .answer) ∷ s .found .n ∷ []) ++ s .found .at)) (sym e ∙ yes))
-
--- ---- a view
-pub view-read : (v : List ℕ) (kind a b t c d e f : ℕ) → kind ≡ getD v 0 0 → a ≡ getD v 1 0 → b ≡ getD v 2 0 → t ≡ getD v 3 0 → c ≡ getD v 4 0 → d ≡ getD v 5 0
-    → e ≡ getD v 6 0 → f ≡ getD v 7 0
-    → _≡_ {A = Fields} (record {
-      kind = kind;
-      key = record { at = a; end = b };
-      held = record { there = not (eqb t 0); key = record { at = c; end = d }; value = record { at = e; end = f } };
-    }) (viewIn v)
-view-read v kind a b t c d e f hk ha hb ht hc hd he hf = rw (hk, ha, hb, ht, hc, hd, he, hf)
+use Rattle.flat_lookup.specs.FlatLookup.{lookupIn}
+use Rattle.host_numbers.specs.Numbers.{viewIn}
+use Rattle.host_steps.specs.Steps.{stepNumber, stepNumbers, stepMemory, startedMemory}
+use Rattle.host.specs.Host.{tooShort, Steps, Begins, Nexts, Replies, Fails}
 
 -- ---- a call
 module _ (short : Bool) (s : Step) (after m out : List ℕ) where

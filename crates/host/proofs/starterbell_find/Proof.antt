@@ -1,5 +1,5 @@
 -- `starterbell_find` meets its contract. Assumes nothing.
-use Rattle.host.specs.Host.{findNumber, findNumbers}
+use Rattle.host_answers.specs.Answers.{findNumber, findNumbers}
 use mathlib.Core.Path.{ap, _∙_}
 use borrow.Author.Needs.{needs}
 use Rattle.host.proofs.starterbell_find.Statement.{statement}

@@ -22,12 +22,6 @@ lookup-failure-requires c κs = search needs
 keep-step-requires : tie.Need-keep-step-requires
 keep-step-requires c κs = search needs
 
-put-step-requires : tie.Need-put-step-requires
-put-step-requires c κs = search needs
-
-step-code-requires : tie.Need-step-code-requires
-step-code-requires c κs = search needs
-
 same-length : tie.Need-same-length
 same-length c = search needs
 
@@ -35,7 +29,7 @@ same-length-2 : tie.Need-same-length-2
 same-length-2 c = search needs
 
 returns-3 : tie.Need-returns-3
-returns-3 c = let a = c .before .before .before .before .before .before .before .before .before .before .before .before .before .before .before .before .before .before .before .args in failure-done (a .me .now) (a .memory .now) (a .id .now) (a .out .now) _ _ _ _ _ _ (c .before .before .before .before .before .before .before .before .before .before .before .before .before .before .if1 .left) (c .before .before .before .before .before .before .before .before .before .before .before .before .before .if2 .left) (c .before .before .before .before .before .before .before .before .before .before .before .before .peer-in .ensures) (c .before .before .before .before .before .before .before .before .before .before .lookup-in .ensures) (c .before .before .before .before .before .before .before .before .before .lookup-failure .ensures) (c .step-code .ensures) (c .before .before .before .before .before .before .before .keep-step .ensures) (c .before .before .before .put-step .ensures)
+returns-3 c = let a = c .before .before .before .before .before .before .before .before .before .before .before .before .before .before .before .before .before .args in failure-done (a .me .now) (a .memory .now) (a .id .now) (a .out .now) _ _ _ _ _ _ (c .before .before .before .before .before .before .before .before .before .before .before .before .if1 .left) (c .before .before .before .before .before .before .before .before .before .before .before .if2 .left) (c .before .before .before .before .before .before .before .before .before .before .peer-in .ensures) (c .before .before .before .before .before .before .before .before .lookup-in .ensures) (c .before .before .before .before .before .before .before .lookup-failure .ensures) (c .before .before .before .before .keep-step .ensures .0) (c .before .before .before .before .keep-step .ensures .1) (c .before .before .before .before .keep-step .ensures .2)
 
 pub starterbell-lookup-failure-spec : {M : Type 1} → statement M
 starterbell-lookup-failure-spec =
@@ -47,8 +41,6 @@ starterbell-lookup-failure-spec =
     lookup-in-requires
     lookup-failure-requires
     keep-step-requires
-    put-step-requires
-    step-code-requires
     same-length
     same-length-2
     returns-3)

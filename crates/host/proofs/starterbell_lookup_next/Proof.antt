@@ -16,12 +16,6 @@ lookup-next-requires c κs = search needs
 keep-step-requires : tie.Need-keep-step-requires
 keep-step-requires c κs = search needs
 
-put-step-requires : tie.Need-put-step-requires
-put-step-requires c κs = search needs
-
-step-code-requires : tie.Need-step-code-requires
-step-code-requires c κs = search needs
-
 same-length : tie.Need-same-length
 same-length c = search needs
 
@@ -29,7 +23,7 @@ same-length-2 : tie.Need-same-length-2
 same-length-2 c = search needs
 
 returns-2 : tie.Need-returns-2
-returns-2 c = let a = c .before .before .before .before .before .before .before .before .before .before .before .before .before .before .before .args in next-done (a .memory .now) (a .out .now) _ _ _ _ _ (c .before .before .before .before .before .before .before .before .before .before .before .before .if1 .left) (c .before .before .before .before .before .before .before .before .before .before .lookup-in .ensures) (c .before .before .before .before .before .before .before .before .before .lookup-next .ensures) (c .step-code .ensures) (c .before .before .before .before .before .before .before .keep-step .ensures) (c .before .before .before .put-step .ensures)
+returns-2 c = let a = c .before .before .before .before .before .before .before .before .before .before .before .before .before .args in next-done (a .memory .now) (a .out .now) _ _ _ _ _ (c .before .before .before .before .before .before .before .before .before .before .if1 .left) (c .before .before .before .before .before .before .before .before .lookup-in .ensures) (c .before .before .before .before .before .before .before .lookup-next .ensures) (c .before .before .before .before .keep-step .ensures .0) (c .before .before .before .before .keep-step .ensures .1) (c .before .before .before .before .keep-step .ensures .2)
 
 pub starterbell-lookup-next-spec : {M : Type 1} → statement M
 starterbell-lookup-next-spec =
@@ -39,8 +33,6 @@ starterbell-lookup-next-spec =
     lookup-in-requires
     lookup-next-requires
     keep-step-requires
-    put-step-requires
-    step-code-requires
     same-length
     same-length-2
     returns-2)

@@ -25,12 +25,6 @@ lookup-reply-requires c κs = search needs
 keep-step-requires : tie.Need-keep-step-requires
 keep-step-requires c κs = search needs
 
-put-step-requires : tie.Need-put-step-requires
-put-step-requires c κs = search needs
-
-step-code-requires : tie.Need-step-code-requires
-step-code-requires c κs = search needs
-
 same-length : tie.Need-same-length
 same-length c = search needs
 
@@ -38,7 +32,7 @@ same-length-2 : tie.Need-same-length-2
 same-length-2 c = search needs
 
 returns-3 : tie.Need-returns-3
-returns-3 c = let a = c .before .before .before .before .before .before .before .before .before .before .before .before .before .before .before .before .before .before .before .before .before .before .args in reply-done (a .me .now) (a .memory .now) (a .id .now) (a .body .now) (a .view .now) (a .out .now) _ _ _ _ _ _ _ (c .before .before .before .before .before .before .before .before .before .before .before .before .before .before .before .if1 .left) (c .before .before .before .before .before .before .before .before .before .before .before .before .before .before .if2 .left) (c .before .before .before .before .before .before .before .before .before .before .before .before .before .peer-in .ensures) (c .before .before .before .before .before .before .before .before .before .before .before .lookup-in .ensures) (c .before .before .before .before .before .before .before .before .before .before .view-in .ensures) (c .before .before .before .before .before .before .before .before .before .lookup-reply .ensures) (c .step-code .ensures) (c .before .before .before .before .before .before .before .keep-step .ensures) (c .before .before .before .put-step .ensures)
+returns-3 c = let a = c .before .before .before .before .before .before .before .before .before .before .before .before .before .before .before .before .before .before .before .before .args in reply-done (a .me .now) (a .memory .now) (a .id .now) (a .body .now) (a .view .now) (a .out .now) _ _ _ _ _ _ _ (c .before .before .before .before .before .before .before .before .before .before .before .before .before .if1 .left) (c .before .before .before .before .before .before .before .before .before .before .before .before .if2 .left) (c .before .before .before .before .before .before .before .before .before .before .before .peer-in .ensures) (c .before .before .before .before .before .before .before .before .before .lookup-in .ensures) (c .before .before .before .before .before .before .before .before .view-in .ensures) (c .before .before .before .before .before .before .before .lookup-reply .ensures) (c .before .before .before .before .keep-step .ensures .0) (c .before .before .before .before .keep-step .ensures .1) (c .before .before .before .before .keep-step .ensures .2)
 
 pub starterbell-lookup-reply-spec : {M : Type 1} → statement M
 starterbell-lookup-reply-spec =
@@ -51,8 +45,6 @@ starterbell-lookup-reply-spec =
     view-in-requires
     lookup-reply-requires
     keep-step-requires
-    put-step-requires
-    step-code-requires
     same-length
     same-length-2
     returns-3)

@@ -16,14 +16,8 @@ peer-in-requires c κs = search needs
 lookup-start-requires : tie.Need-lookup-start-requires
 lookup-start-requires c κs = search needs
 
-put-lookup-requires : tie.Need-put-lookup-requires
-put-lookup-requires c κs = search needs
-
-put-step-requires : tie.Need-put-step-requires
-put-step-requires c κs = search needs
-
-step-code-requires : tie.Need-step-code-requires
-step-code-requires c κs = search needs
+keep-start-requires : tie.Need-keep-start-requires
+keep-start-requires c κs = search needs
 
 same-length : tie.Need-same-length
 same-length c = search needs
@@ -32,7 +26,7 @@ same-length-2 : tie.Need-same-length-2
 same-length-2 c = search needs
 
 returns-3 : tie.Need-returns-3
-returns-3 c = let a = c .before .before .before .before .before .before .before .before .before .before .before .before .before .before .before .before .before .before .before .args in begin-done (a .me .now) (a .memory .now) (a .contacts .now) (a .key .now) (a .limit) (a .out .now) _ _ _ _ _ (c .before .before .before .before .before .before .before .before .before .before .before .before .before .if1 .left) (c .before .before .before .before .before .before .before .before .before .before .before .before .if2 .left) (c .before .before .before .before .before .before .before .before .before .before .before .peer-in .ensures) (c .before .before .before .before .before .before .before .before .before .before .lookup-start .ensures) (c .step-code .ensures) (c .before .before .before .before .before .before .before .put-lookup .ensures) (c .before .before .before .put-step .ensures)
+returns-3 c = let a = c .before .before .before .before .before .before .before .before .before .before .before .before .before .before .before .before .args in begin-done (a .me .now) (a .memory .now) (a .contacts .now) (a .key .now) (a .limit) (a .out .now) _ _ _ _ _ (c .before .before .before .before .before .before .before .before .before .before .if1 .left) (c .before .before .before .before .before .before .before .before .before .if2 .left) (c .before .before .before .before .before .before .before .before .peer-in .ensures) (c .before .before .before .before .before .before .before .lookup-start .ensures) (c .before .before .before .before .keep-start .ensures .0) (c .before .before .before .before .keep-start .ensures .1) (c .before .before .before .before .keep-start .ensures .2)
 
 pub starterbell-lookup-start-spec : {M : Type 1} → statement M
 starterbell-lookup-start-spec =
@@ -42,9 +36,7 @@ starterbell-lookup-start-spec =
     returns-2
     peer-in-requires
     lookup-start-requires
-    put-lookup-requires
-    put-step-requires
-    step-code-requires
+    keep-start-requires
     same-length
     same-length-2
     returns-3)

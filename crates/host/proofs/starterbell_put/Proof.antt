@@ -1,5 +1,5 @@
 -- `starterbell_put` meets its contract. Assumes nothing.
-use Rattle.host.specs.Host.{putNumber}
+use Rattle.host_answers.specs.Answers.{putNumber}
 use mathlib.Core.Path.{ap, _∙_}
 use borrow.Author.Needs.{needs}
 use Rattle.host.proofs.starterbell_put.Statement.{statement}

@@ -1,5 +1,5 @@
 -- `starterbell_read` meets its contract. Assumes nothing.
-use Rattle.host.specs.Host.{readNumber, readNumbers}
+use Rattle.host_answers.specs.Answers.{readNumber, readNumbers}
 use mathlib.Core.Path.{ap, _∙_}
 use borrow.Author.Needs.{needs}
 use Rattle.host.proofs.starterbell_read.Statement.{statement}

@@ -1,0 +1,118 @@
+-- The answers of the calls on contacts, records and messages: each returns a number, a refusal's own or an answer from 64 up, and writes further numbers to out.
+use Prim.Native.Nat.{ℕ}
+use mathlib.Core.Bool.{cond}
+use mathlib.Core.List.{List, [], _∷_}
+use lib.ListN.{take}
+use lib.Seq.{sets}
+use lib.Dec.{ltb}
+use Rattle.refusal.specs.Refusal.{numberOf}
+use Rattle.contact_calls.specs.declared.SeenOutcome.{SeenOutcome}
+use Rattle.contact_calls.specs.declared.SeenOutcome.the-variants as seen
+use Rattle.contact_calls.specs.declared.SettleOutcome.{SettleOutcome}
+use Rattle.contact_calls.specs.declared.SettleOutcome.the-variants as settle
+use Rattle.contact_calls.specs.declared.RemoveOutcome.{RemoveOutcome}
+use Rattle.contact_calls.specs.declared.RemoveOutcome.the-variants as remove
+use Rattle.records.specs.declared.Answer as records
+use Rattle.records.specs.declared.Answer.the-variants as offer
+use Rattle.records.specs.declared.Found.{Found}
+use Rattle.records.specs.declared.Found.the-variants as found
+use Rattle.wire.specs.declared.Found as wire
+use Rattle.wire.specs.declared.Found.the-variants as part
+use Rattle.wire.specs.Wire.{firstOf, fieldsAt, spans}
+use Rattle.message.specs.declared.Reading.{Reading}
+use Rattle.message.specs.declared.Reading.the-variants as reading
+use Rattle.message.specs.View.{idAt, connectionAt}
+use Rattle.writer.specs.declared.Written.{Written}
+use Rattle.writer.specs.declared.Written.the-variants as written
+use Rattle.host_calls.specs.declared.Nearby.{Nearby}
+use Rattle.flat.specs.Flat.{saysYes}
+use Rattle.host_numbers.specs.Numbers.{unlessRefused, viewNumbers}
+
+-- ---- contacts
+-- 64 moved, 65 joined, 13 with the bucket's head
+abbrev pub seenNumber : SeenOutcome → ℕ
+seenNumber (seen.Moved i) = 64
+seenNumber (seen.Joined i) = 65
+seenNumber (seen.Probe h) = 13
+seenNumber (seen.Refused r) = numberOf r
+
+-- the slot goes to out
+abbrev pub seenNumbers : List ℕ → SeenOutcome → List ℕ
+seenNumbers out (seen.Moved i) = sets out 0 (i ∷ [])
+seenNumbers out (seen.Joined i) = sets out 0 (i ∷ [])
+seenNumbers out (seen.Probe h) = sets out 0 (h ∷ [])
+seenNumbers out (seen.Refused r) = out
+
+-- 64 kept, 65 swapped
+abbrev pub settleNumber : SettleOutcome → ℕ
+settleNumber settle.Kept = 64
+settleNumber settle.Swapped = 65
+settleNumber (settle.Refused r) = numberOf r
+
+abbrev pub removeNumber : RemoveOutcome → ℕ
+removeNumber remove.Gone = 64
+removeNumber (remove.Refused r) = numberOf r
+
+-- how many there are and the twenty slots go to out
+abbrev pub nearestNumbers : List ℕ → Nearby → List ℕ
+nearestNumbers out n = unlessRefused (n .told) (sets out 0 (n .closest .n ∷ n .closest .at)) out
+
+-- ---- records
+abbrev pub putNumber : records.Answer → ℕ
+putNumber offer.Taken = 64
+putNumber (offer.Refused r) = numberOf r
+
+-- 64 held, 65 not held; where the value starts and ends goes to out
+abbrev pub findNumber : Found → ℕ
+findNumber (found.Held start end) = 64
+findNumber found.NotHeld = 65
+findNumber (found.Refused r) = numberOf r
+
+abbrev pub findNumbers : List ℕ → Found → List ℕ
+findNumbers out (found.Held start end) = sets out 0 (start ∷ end ∷ [])
+findNumbers out found.NotHeld = out
+findNumbers out (found.Refused r) = out
+
+abbrev pub readNumber : Reading → ℕ
+readNumber (reading.Whole m) = 64
+readNumber (reading.Refused r) = numberOf r
+
+abbrev pub readNumbers : List ℕ → Reading → List ℕ
+readNumbers out (reading.Whole m) = sets out 0 (viewNumbers m)
+readNumbers out (reading.Refused r) = out
+
+-- the next entry of closerPeers from a position on, for list 0; of providerPeers, for any other number
+unfoldable pub entryFrom : List ℕ → ℕ → ℕ → wire.Found
+entryFrom s list from = cond (saysYes list) (firstOf (spans 9 (fieldsAt s from))) (firstOf (spans 8 (fieldsAt s from)))
+
+-- the later of two positions
+unfoldable pub laterOf : ℕ → ℕ → ℕ
+laterOf a b = cond (ltb a b) b a
+
+-- the next address of the entry at start up to end, from a position in it on
+unfoldable pub addressFrom : List ℕ → ℕ → ℕ → ℕ → wire.Found
+addressFrom s start end from = firstOf (spans 2 (fieldsAt (take end s) (laterOf start from)))
+
+-- 64 there is one, 65 there is none
+abbrev pub partNumber : wire.Found → ℕ
+partNumber (part.At p) = 64
+partNumber part.Nothing = 65
+
+-- where the entry is, where its id is, and its connection
+abbrev pub peerNumbers : List ℕ → List ℕ → wire.Found → List ℕ
+peerNumbers out s (part.At p) = sets out 0 (p .at ∷ p .end ∷ idAt s p .at ∷ idAt s p .end ∷ connectionAt s p ∷ [])
+peerNumbers out s part.Nothing = out
+
+-- where the address is
+abbrev pub addressNumbers : List ℕ → wire.Found → List ℕ
+addressNumbers out (part.At p) = sets out 0 (p .at ∷ p .end ∷ [])
+addressNumbers out part.Nothing = out
+
+-- the length goes to out
+abbrev pub writeNumber : Written → ℕ
+writeNumber (written.Done n) = 64
+writeNumber (written.Refused r) = numberOf r
+
+abbrev pub writeNumbers : List ℕ → Written → List ℕ
+writeNumbers out (written.Done n) = sets out 0 (n ∷ [])
+writeNumbers out (written.Refused r) = out

@@ -1,0 +1,171 @@
+// What a call on contacts, records or messages answers, as a number and the numbers that go to `out`, for the functions that C and Rust programs link (crates/host).
+use contact_calls::RemoveOutcome;
+use contact_calls::SeenOutcome;
+use contact_calls::SettleOutcome;
+use host_calls::Nearby;
+use message::Reading;
+use node::Told;
+use records::Found;
+use wire::Span;
+use writer::Written;
+ghost use mathlib.Core.Path.{_≡_};
+ghost use Rattle.host_numbers.specs.Numbers.{toldCode};
+ghost use Rattle.host_answers.specs.Answers.{seenNumber, seenNumbers, settleNumber, removeNumber, nearestNumbers, putNumber, findNumber, findNumbers, readNumber};
+ghost use Rattle.host_answers.specs.Answers.{readNumbers, entryFrom, laterOf, addressFrom, partNumber, peerNumbers, addressNumbers, writeNumber, writeNumbers};
+
+pub fn seen_answer(out: &mut [u64], o: SeenOutcome) -> u32
+    ensures { λ r. ⌜ (r ≡ seenNumber o) × (now (out .exit) ≡ seenNumbers (now (out .entry)) o) ⌝ }
+{
+    match o {
+        SeenOutcome::Moved(i) => {
+            host_numbers::put_number(out, i);
+            64
+        }
+        SeenOutcome::Joined(i) => {
+            host_numbers::put_number(out, i);
+            65
+        }
+        SeenOutcome::Probe(h) => {
+            host_numbers::put_number(out, h);
+            13
+        }
+        SeenOutcome::Refused(r) => host_numbers::code_of(r),
+    }
+}
+
+pub fn settle_answer(o: SettleOutcome) -> u32
+    ensures { λ r. ⌜ r ≡ settleNumber o ⌝ }
+{
+    match o {
+        SettleOutcome::Kept => 64,
+        SettleOutcome::Swapped => 65,
+        SettleOutcome::Refused(r) => host_numbers::code_of(r),
+    }
+}
+
+pub fn remove_answer(o: RemoveOutcome) -> u32
+    ensures { λ r. ⌜ r ≡ removeNumber o ⌝ }
+{
+    match o {
+        RemoveOutcome::Gone => 64,
+        RemoveOutcome::Refused(r) => host_numbers::code_of(r),
+    }
+}
+
+pub fn nearest_answer(out: &mut [u64], n: Nearby) -> u32
+    ensures { λ r. ⌜ (r ≡ toldCode (n .told)) × (now (out .exit) ≡ nearestNumbers (now (out .entry)) n) ⌝ }
+{
+    let told = n.told;
+    let closest = n.closest;
+    let at = closest.at;
+    match told {
+        Told::Fine => {
+            host_numbers::put_number(out, closest.n);
+            host_numbers::put_numbers(out, 1, &at);
+            64
+        }
+        Told::Refused(r) => host_numbers::code_of(r),
+    }
+}
+
+pub fn put_answer(a: records::Answer) -> u32
+    ensures { λ r. ⌜ r ≡ putNumber a ⌝ }
+{
+    match a {
+        records::Answer::Taken => 64,
+        records::Answer::Refused(r) => host_numbers::code_of(r),
+    }
+}
+
+pub fn find_answer(out: &mut [u64], f: Found) -> u32
+    ensures { λ r. ⌜ (r ≡ findNumber f) × (now (out .exit) ≡ findNumbers (now (out .entry)) f) ⌝ }
+{
+    match f {
+        Found::Held { start, end } => {
+            let ends = [start, end];
+            host_numbers::put_numbers(out, 0, &ends);
+            64
+        }
+        Found::NotHeld => 65,
+        Found::Refused(r) => host_numbers::code_of(r),
+    }
+}
+
+pub fn read_answer(out: &mut [u64], r: Reading) -> u32
+    ensures { λ n. ⌜ (n ≡ readNumber r) × (now (out .exit) ≡ readNumbers (now (out .entry)) r) ⌝ }
+{
+    match r {
+        Reading::Whole(m) => {
+            host_numbers::put_view(out, 0, m);
+            64
+        }
+        Reading::Refused(why) => host_numbers::code_of(why),
+    }
+}
+
+// The next entry of a list of peers: closerPeers for list 0, providerPeers for any other number.
+pub fn next_entry(body: &[u8], list: u32, from: usize) -> wire::Found
+    ensures { λ r. ⌜ r ≡ entryFrom (now (body .entry)) list from ⌝ }
+{
+    if host_numbers::says_yes(list) {
+        return message::provider_peer(body, from);
+    }
+    message::closer_peer(body, from)
+}
+
+pub fn peer_answer(body: &[u8], out: &mut [u64], f: wire::Found) -> u32
+    ensures { λ r. ⌜ (r ≡ partNumber f) × (now (out .exit) ≡ peerNumbers (now (out .entry)) (now (body .entry)) f) ⌝ }
+{
+    match f {
+        wire::Found::At(p) => {
+            let id = message::peer_id(body, p);
+            let connection = message::peer_connection(body, p) as usize;
+            let numbers = [p.at, p.end, id.at, id.end, connection];
+            host_numbers::put_numbers(out, 0, &numbers);
+            64
+        }
+        wire::Found::Nothing => 65,
+    }
+}
+
+fn later(a: usize, b: usize) -> usize
+    ensures { λ r. ⌜ r ≡ laterOf a b ⌝ }
+{
+    if a < b {
+        return b;
+    }
+    a
+}
+
+// The next address of the entry at start up to end.
+pub fn next_address(body: &[u8], start: usize, end: usize, from: usize) -> wire::Found
+    ensures { λ r. ⌜ r ≡ addressFrom (now (body .entry)) start end from ⌝ }
+{
+    let at = later(start, from);
+    message::peer_address(body, Span { at: start, end }, at)
+}
+
+pub fn address_answer(out: &mut [u64], f: wire::Found) -> u32
+    ensures { λ r. ⌜ (r ≡ partNumber f) × (now (out .exit) ≡ addressNumbers (now (out .entry)) f) ⌝ }
+{
+    match f {
+        wire::Found::At(p) => {
+            let ends = [p.at, p.end];
+            host_numbers::put_numbers(out, 0, &ends);
+            64
+        }
+        wire::Found::Nothing => 65,
+    }
+}
+
+pub fn write_answer(out: &mut [u64], w: Written) -> u32
+    ensures { λ r. ⌜ (r ≡ writeNumber w) × (now (out .exit) ≡ writeNumbers (now (out .entry)) w) ⌝ }
+{
+    match w {
+        Written::Done(n) => {
+            host_numbers::put_number(out, n);
+            64
+        }
+        Written::Refused(r) => host_numbers::code_of(r),
+    }
+}

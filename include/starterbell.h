@@ -1,0 +1,281 @@
+/* Starterbell for C and C++: the networking core of a box that winds violin strings, in the archive that `tools/native-lib host OUT.a` writes.
+
+   The core opens no socket, keeps no clock, takes no memory of its own and keeps nothing between calls. The host hands it bytes and lends it memory, sends what
+   it writes, and does what it answers. Every call returns, on every input: what a call returns and every byte that it leaves in lent memory is fixed and proved.
+
+   Memory
+     All of it is the host's, before, during and after a call. What stands in `const` memory isn't written.
+     A slice is a pointer and a length in elements. The pointer is never null, also where the length is 0.
+     Memory that a call may write (not `const`) must not overlap any other memory handed to the same call. Memory that is only read may.
+     Bytes need no alignment; `out` and `view` are arrays of uint64_t.
+     A box, a connection and a lookup are bytes that only these functions write. The host may copy them; there are no pointers in them.
+     Contacts and records are lists of slots, cleared by the host once before their first use (all zeros), and then written by these functions alone.
+     Calls that are lent none of the same memory may run at the same time.
+
+   What a call returns
+     A refusal's number, 0 to 21 (enum starterbell_refusal), or an answer from 64 up (enum starterbell_answer).
+     Further numbers go to `out`, as many as fit: those past `out_length` are left out. Where a call is refused `out` stays as it was, unless its comment says more.
+     A refused call changes nothing, unless its comment says more.
+
+   What a host hands over
+     An id is a peer's id, 1 to 64 bytes. A key of a lookup or request is 1 to 128 bytes.
+     Addresses are one byte string: for each its length in two bytes, the lower first, and then its bytes. Those of 1 to 128 bytes are usable, and the first four
+     usable ones are kept. One that runs past the end ends the list.
+     A yes or no is a number: 0 is no, any other is yes. */
+#ifndef STARTERBELL_H
+#define STARTERBELL_H
+
+#include <stddef.h>
+#include <stdint.h>
+
+#ifdef __cplusplus
+extern "C" {
+#endif
+
+/* ---- Sizes */
+
+/* Bytes of a box, of a connection and of a lookup. In fewer a call gives 0; those past them aren't looked at. */
+#define STARTERBELL_BOX 616
+#define STARTERBELL_CONNECTION 640
+#define STARTERBELL_LOOKUP 25256
+
+/* Bytes of a contact's slot and of a record's, and the most slots that are looked at. A part of a slot at the end isn't touched. */
+#define STARTERBELL_CONTACT_SLOT 616
+#define STARTERBELL_CONTACT_SLOTS_MOST 5120
+#define STARTERBELL_RECORD_SLOT 2184
+#define STARTERBELL_RECORD_SLOTS_MOST 256
+
+/* The least bytes of a receive buffer and of a reply buffer; in fewer a call gives 1. */
+#define STARTERBELL_RECEIVE_BUFFER 16384
+#define STARTERBELL_REPLY_BUFFER 16387
+
+/* How many numbers go to `out`, by the call. STARTERBELL_OUT_MOST is enough for every call. */
+#define STARTERBELL_SEEN_OUT 1
+#define STARTERBELL_NEAREST_OUT 21
+#define STARTERBELL_FIND_OUT 2
+#define STARTERBELL_VIEW 8
+#define STARTERBELL_PEER_OUT 5
+#define STARTERBELL_PEER_ADDRESS_OUT 2
+#define STARTERBELL_WRITE_OUT 1
+#define STARTERBELL_RECEIVE_OUT 12
+#define STARTERBELL_LOOKUP_OUT 22
+#define STARTERBELL_OUT_MOST 22
+
+/* ---- What a host may read in lent memory */
+
+/* In a box, a contact's slot and the start of a connection: the length of the id, how many addresses there are, their four lengths, the place (SHA-256 of the
+   id), the id, and four rooms of 128 bytes for the addresses. Byte 0 of a contact's slot is 0 where the slot is free. */
+#define STARTERBELL_PEER_ID_LENGTH_AT 2
+#define STARTERBELL_PEER_ADDRESS_COUNT_AT 3
+#define STARTERBELL_PEER_ADDRESS_LENGTHS_AT 4
+#define STARTERBELL_PEER_PLACE_AT 8
+#define STARTERBELL_PEER_ID_AT 40
+#define STARTERBELL_PEER_ADDRESSES_AT 104
+#define STARTERBELL_PEER_ADDRESS_ROOM 128
+
+/* In a lookup: the number of candidates in two bytes, the lower first, and the candidates from the nearest on. The candidate of rank r is at
+   STARTERBELL_CANDIDATES_AT + r * STARTERBELL_CANDIDATE; in it are its mark (0 idle, 1 in flight, 2 answered, 3 failed), the length of its id, and its id. */
+#define STARTERBELL_CANDIDATE_COUNT_AT 0
+#define STARTERBELL_CANDIDATES_AT 168
+#define STARTERBELL_CANDIDATE 98
+#define STARTERBELL_CANDIDATES_MOST 256
+#define STARTERBELL_CANDIDATE_MARK_AT 0
+#define STARTERBELL_CANDIDATE_ID_LENGTH_AT 1
+#define STARTERBELL_CANDIDATE_ID_AT 2
+
+/* ---- Numbers */
+
+/* Where several refusals apply the lowest is given, except that 17 comes before 16 and 18 before 13 and 14, and a contact that is held is never refused with 13
+   or 14. */
+enum starterbell_refusal {
+    /* lent contact or record memory, a lookup, a view or a connection is out of form */
+    STARTERBELL_REFUSAL_OUT_OF_FORM = 0,
+    /* receive buffer under 16,384 or reply buffer under 16,387 bytes */
+    STARTERBELL_REFUSAL_SMALL_BUFFER = 1,
+    /* connection is shut */
+    STARTERBELL_REFUSAL_SHUT = 2,
+    /* length prefix not minimal */
+    STARTERBELL_REFUSAL_PREFIX_NOT_MINIMAL = 3,
+    /* message over 16,384 bytes */
+    STARTERBELL_REFUSAL_TOO_LONG = 4,
+    /* body isn't well formed */
+    STARTERBELL_REFUSAL_MALFORMED = 5,
+    /* type not 0 to 5 */
+    STARTERBELL_REFUSAL_UNKNOWN_TYPE = 6,
+    /* type 2 or 3 (providers) */
+    STARTERBELL_REFUSAL_PROVIDERS = 7,
+    /* key or record breaks the request rules */
+    STARTERBELL_REFUSAL_BREAKS_RULES = 8,
+    /* recipe broken */
+    STARTERBELL_REFUSAL_BROKEN_RECIPE = 9,
+    /* held record ranks higher */
+    STARTERBELL_REFUSAL_OUTRANKED = 10,
+    /* key not held, every record slot holds another key */
+    STARTERBELL_REFUSAL_NO_RECORD_SLOT = 11,
+    /* peer id not 1 to 64 bytes, or of our place */
+    STARTERBELL_REFUSAL_BAD_PEER = 12,
+    /* bucket holds 20; its head is named for a probe */
+    STARTERBELL_REFUSAL_BUCKET_FULL = 13,
+    /* bucket has room, every contact slot is used */
+    STARTERBELL_REFUSAL_NO_CONTACT_SLOT = 14,
+    /* settle or remove no longer fits the table */
+    STARTERBELL_REFUSAL_NO_LONGER_FITS = 15,
+    /* peer isn't in flight in this lookup */
+    STARTERBELL_REFUSAL_NOT_IN_FLIGHT = 16,
+    /* lookup is over */
+    STARTERBELL_REFUSAL_LOOKUP_OVER = 17,
+    /* peer is a client */
+    STARTERBELL_REFUSAL_CLIENT = 18,
+    /* connection ended inside a prefix or body */
+    STARTERBELL_REFUSAL_ENDED_INSIDE = 19,
+    /* concurrency not 1 to 10 */
+    STARTERBELL_REFUSAL_BAD_CONCURRENCY = 20,
+    /* message can't be written: a part or the whole is over its limit, or type or connection out of range */
+    STARTERBELL_REFUSAL_UNWRITABLE = 21
+};
+
+/* Whether what a call returned is a refusal. */
+#define STARTERBELL_REFUSED(code) ((code) < 64u)
+
+enum starterbell_answer {
+    /* start, open, end, remove, nearest, put, read, write */
+    STARTERBELL_DONE = 64,
+    /* seen */
+    STARTERBELL_SEEN_MOVED = 64,
+    STARTERBELL_SEEN_JOINED = 65,
+    /* settle */
+    STARTERBELL_SETTLE_KEPT = 64,
+    STARTERBELL_SETTLE_SWAPPED = 65,
+    /* find */
+    STARTERBELL_FIND_HELD = 64,
+    STARTERBELL_FIND_NOT_HELD = 65,
+    /* peer, peer_address */
+    STARTERBELL_PEER_AT = 64,
+    STARTERBELL_PEER_NOTHING = 65,
+    /* receive */
+    STARTERBELL_RECEIVE_MORE = 64,
+    STARTERBELL_RECEIVE_REPLY = 65,
+    STARTERBELL_RECEIVE_HEARD = 66,
+    /* lookup_start, lookup_next, lookup_reply, lookup_failure */
+    STARTERBELL_LOOKUP_GOING = 64,
+    STARTERBELL_LOOKUP_WAIT = 65,
+    STARTERBELL_LOOKUP_ASK = 66,
+    STARTERBELL_LOOKUP_COMPLETE = 67,
+    STARTERBELL_LOOKUP_CUT_SHORT = 68
+};
+
+/* What came of a sender's sighting, the third number of a receive. */
+enum starterbell_sighting {
+    STARTERBELL_SIGHTING_NOT_SEEN = 0,
+    STARTERBELL_SIGHTING_MOVED = 1,
+    STARTERBELL_SIGHTING_JOINED = 2,
+    STARTERBELL_SIGHTING_FULL = 3,
+    STARTERBELL_SIGHTING_NO_SLOT = 4
+};
+
+/* ---- The box and its connections */
+
+/* Makes a box in `me` from its id and its addresses. DONE, or 12 for an id that isn't 1 to 64 bytes; 0 where `me` is short. */
+uint32_t starterbell_start(uint8_t *me, size_t me_length, const uint8_t *id, size_t id_length, const uint8_t *addresses, size_t addresses_length);
+
+/* Opens a connection to a peer in `conn`, with the peer's id and addresses. `server`: the peer is in server mode, so it is seen when it asks. `asking`: we ask on
+   it, and its messages are for our lookups; else the peer asks, and we reply. Each connection has a receive buffer of its own, handed to every receive on it.
+   DONE, or 12, and then `conn` has a connection that is shut; 0 where `me` or `conn` is short. */
+uint32_t starterbell_open(const uint8_t *me, size_t me_length, uint8_t *conn, size_t conn_length, const uint8_t *id, size_t id_length,
+    uint32_t server, uint32_t asking, const uint8_t *addresses, size_t addresses_length);
+
+/* Takes bytes of a piece, up to the first event; the host hands in the rest of the piece with the next call, so that no byte is lost and none is taken twice.
+     MORE: the piece is taken, and more bytes are wanted.
+     REPLY: a request was answered; the reply, with its length prefix, is at the start of `reply`. Then its sender is seen, if it is a server.
+     HEARD: a message for a lookup is at the start of `buffer`, and stays there until the next byte is taken.
+   Or a refusal: 0, 1, 2 and 12 take and change nothing, 3 to 11 shut the connection, 3 and 4 also leave `buffer` alone. Four numbers always go to `out`: the
+   bytes taken; the length of the reply or of the message, else 0; what came of the sighting (enum starterbell_sighting); and the contact's slot, or that of the
+   bucket's head for FULL, else 0. For HEARD the eight numbers of the message's view follow (see starterbell_read). Only a REPLY writes in `reply`, and bytes
+   after it stay. */
+uint32_t starterbell_receive(const uint8_t *me, size_t me_length, uint8_t *conn, size_t conn_length, uint8_t *buffer, size_t buffer_length,
+    const uint8_t *piece, size_t piece_length, uint8_t *contacts, size_t contacts_length, uint8_t *records, size_t records_length,
+    uint8_t *reply, size_t reply_length, uint64_t *out, size_t out_length);
+
+/* The peer's bytes are over: the connection is shut. DONE where they ended between messages, 19 where they ended inside one; 0 or 2 change nothing. */
+uint32_t starterbell_end(const uint8_t *me, size_t me_length, uint8_t *conn, size_t conn_length);
+
+/* ---- Contacts */
+
+/* A peer was seen. MOVED or JOINED, and its slot goes to `out`. 13 where its bucket is full: then the slot of the bucket's head goes to `out`, which the host
+   probes and settles. Or 0, 12, 14 or 18. */
+uint32_t starterbell_seen(const uint8_t *me, size_t me_length, uint8_t *contacts, size_t contacts_length, const uint8_t *id, size_t id_length,
+    uint32_t client, const uint8_t *addresses, size_t addresses_length, uint64_t *out, size_t out_length);
+
+/* The probe of a bucket's head came back: `answered`, or it was silent. `head` is the head's id; the newcomer is given as for seen. KEPT: the head answered and
+   moves to the tail, and the newcomer is dropped. SWAPPED: the head was silent and is out, and the newcomer is at the tail. Or 0, 12, 15 or 18. */
+uint32_t starterbell_settle(const uint8_t *me, size_t me_length, uint8_t *contacts, size_t contacts_length, const uint8_t *head, size_t head_length,
+    const uint8_t *id, size_t id_length, uint32_t client, const uint8_t *addresses, size_t addresses_length, uint32_t answered);
+
+/* Takes a contact out. DONE, or 0, 12 or 15. */
+uint32_t starterbell_remove(const uint8_t *me, size_t me_length, uint8_t *contacts, size_t contacts_length, const uint8_t *id, size_t id_length);
+
+/* The contacts nearest to a key. DONE, or 0, 8 or 12. How many there are, up to 20, and twenty slots go to `out`, nearest first, with zeros after the last. */
+uint32_t starterbell_nearest(const uint8_t *me, size_t me_length, const uint8_t *contacts, size_t contacts_length, const uint8_t *key, size_t key_length,
+    uint64_t *out, size_t out_length);
+
+/* ---- Records */
+
+/* Puts a record of our own into the store, under the rules for a PUT_VALUE. DONE, or 0 or 8 to 11. */
+uint32_t starterbell_put(uint8_t *records, size_t records_length, const uint8_t *key, size_t key_length, const uint8_t *value, size_t value_length);
+
+/* Where a key's value stands in `records`. HELD, and where it starts and ends goes to `out`; NOT_HELD; or 0. */
+uint32_t starterbell_find(const uint8_t *records, size_t records_length, const uint8_t *key, size_t key_length, uint64_t *out, size_t out_length);
+
+/* ---- Messages */
+
+/* The message that a body is, without its length prefix. DONE, or 4, 5 or 6. Its view goes to `out`: its type (0 PUT_VALUE, 1 GET_VALUE, 4 FIND_NODE, 5 PING),
+   where its key starts and ends, 1 if it has a record and else 0, and where the record's key and its value start and end. An absent part starts and ends at 0. */
+uint32_t starterbell_read(const uint8_t *body, size_t body_length, uint64_t *out, size_t out_length);
+
+/* The next entry, from a position on, of a message's closerPeers (list 0) or of its providerPeers (any other list). From 0, and then from each entry's end, these
+   are all of them. PEER_AT, and to `out` go where the entry starts and ends, where its id starts and ends, and its connection, 0 to 3; or PEER_NOTHING. */
+uint32_t starterbell_peer(const uint8_t *body, size_t body_length, uint32_t list, size_t from, uint64_t *out, size_t out_length);
+
+/* The next address, from a position on, of the peer whose entry starts and ends there. From 0, and then from each address's end, these are all of them.
+   PEER_AT, and where the address starts and ends goes to `out`; or PEER_NOTHING. */
+uint32_t starterbell_peer_address(const uint8_t *body, size_t body_length, size_t start, size_t end, size_t from, uint64_t *out, size_t out_length);
+
+/* Writes a message with its length prefix at the start of `message`: its type, its key, its record if `held` says that it has one, and its two lists of peers.
+   A list is one byte string: for each peer the length of its id in two bytes, the lower first, its id, a byte for its connection, the length of its addresses in
+   two bytes, and its addresses. DONE, and the length with the prefix goes to `out`; 1 where `message` has under 16,387 bytes; 21 where it can't be written. */
+uint32_t starterbell_write(uint8_t *message, size_t message_length, uint64_t kind, const uint8_t *key, size_t key_length, uint32_t held,
+    const uint8_t *record_key, size_t record_key_length, const uint8_t *value, size_t value_length,
+    const uint8_t *closer, size_t closer_length, const uint8_t *providers, size_t providers_length, uint64_t *out, size_t out_length);
+
+/* ---- Lookups
+
+   A lookup finds the 20 peers nearest to a key. Start it, then call next until it is over: for ASK send a FIND_NODE for the key to the candidate of that rank,
+   and go on; for WAIT, wait until a reply comes or a request fails, and report that. The rank holds until the lookup's next call, so take the id from the lookup
+   at once. The host keeps addresses by id: those of contacts, and those that replies named (starterbell_peer, starterbell_peer_address).
+
+   Each of the four calls writes to `out`, unless it is refused: the rank to ask for ASK, the number of requests sent for COMPLETE and CUT_SHORT, else 0; how many
+   peers were found; and twenty ranks of those, nearest first, with zeros after the last. Peers are found once the lookup is over. CUT_SHORT is over too: there was
+   no room for someone that was heard of. */
+
+/* Starts a lookup in `memory` from the contacts, with up to `limit` requests at a time, 1 to 10. GOING, or COMPLETE where nobody is to be asked. Or 0, 8, 12 or 20,
+   and then `memory` has an empty lookup for which every later call gives 0, unless `me` or `memory` is short. */
+uint32_t starterbell_lookup_start(const uint8_t *me, size_t me_length, uint8_t *memory, size_t memory_length,
+    const uint8_t *contacts, size_t contacts_length, const uint8_t *key, size_t key_length, size_t limit, uint64_t *out, size_t out_length);
+
+/* What to do next. ASK, WAIT, COMPLETE or CUT_SHORT; or 0. */
+uint32_t starterbell_lookup_next(uint8_t *memory, size_t memory_length, uint64_t *out, size_t out_length);
+
+/* A message came from the peer with this id, which was asked: its body, and its view as receive or read gave it. GOING, COMPLETE or CUT_SHORT. A message of
+   another type than FIND_NODE is a failure. Or 0, 12, 16 or 17. */
+uint32_t starterbell_lookup_reply(const uint8_t *me, size_t me_length, uint8_t *memory, size_t memory_length, const uint8_t *id, size_t id_length,
+    const uint8_t *body, size_t body_length, const uint64_t *view, size_t view_length, uint64_t *out, size_t out_length);
+
+/* The peer with this id, which was asked, didn't answer, or its connection broke. GOING, COMPLETE or CUT_SHORT. Or 0, 12, 16 or 17. */
+uint32_t starterbell_lookup_failure(const uint8_t *me, size_t me_length, uint8_t *memory, size_t memory_length, const uint8_t *id, size_t id_length,
+    uint64_t *out, size_t out_length);
+
+#ifdef __cplusplus
+}
+#endif
+
+#endif
