@@ -35,7 +35,9 @@ fn build(archive: &Path) {
     let host = env::var("HOST").expect("cargo sets HOST");
     let target = env::var("TARGET").expect("cargo sets TARGET");
     if host.split('-').next() != target.split('-').next() {
-        panic!("the library is built for the machine that builds it ({host}); for {target}, build it there with tools/native-lib and name it in STARTERBELL_LIB");
+        panic!(
+            "the library is built for the machine that builds it ({host}); for {target}, build it there with tools/native-lib and name it in STARTERBELL_LIB"
+        );
     }
     match Command::new(root.join("tools/native-lib")).arg("host").arg(archive).status() {
         Ok(status) if status.success() => {}

@@ -9,11 +9,13 @@ pub const BOX: usize = 616;
 pub const CONNECTION: usize = 640;
 /// The bytes of a lookup.
 pub const LOOKUP: usize = 25_256;
-/// The bytes of a contact's slot, and how many slots count.
+/// The bytes of a contact's slot.
 pub const CONTACT: usize = 616;
+/// How many slots of contacts are used.
 pub const MOST_CONTACTS: usize = 5_120;
-/// The bytes of a record's slot, and how many slots may be lent.
+/// The bytes of a record's slot.
 pub const RECORD: usize = 2_184;
+/// How many slots of records are used.
 pub const MOST_RECORDS: usize = 256;
 /// The receive buffer of a connection.
 pub const BUFFER: usize = 16_384;
@@ -65,9 +67,11 @@ exported! {
     fn open = starterbell_open(me: bytes, connection: bytes_mut, id: bytes, server: u32, asking: u32, addresses: bytes);
 
     /// Takes bytes of a piece up to the first event. 64 more are wanted, 65 a request was answered in `reply`, 66 a message for a lookup stands in `buffer`.
-    /// `out`: bytes taken; length of the reply or the message; the sender's sighting (0 none, 1 moved, 2 joined, 3 bucket full, 4 no slot); its slot; for 66 the
-    /// message's view, as [`read`] gives it.
-    fn receive = starterbell_receive(me: bytes, connection: bytes_mut, buffer: bytes_mut, piece: bytes, contacts: bytes_mut, records: bytes_mut, reply: bytes_mut, out: numbers_mut);
+    /// `out`: bytes taken; length of the reply or the message; the sender's sighting (0 none, 1 moved, 2 joined, 3 bucket full, 4 no slot); its slot; for 66
+    /// the message's view, as [`read`] gives it.
+    fn receive = starterbell_receive(
+        me: bytes, connection: bytes_mut, buffer: bytes_mut, piece: bytes, contacts: bytes_mut, records: bytes_mut, reply: bytes_mut, out: numbers_mut
+    );
 
     /// The peer's bytes are over. 64 where they ended between messages.
     fn end = starterbell_end(me: bytes, connection: bytes_mut);
@@ -90,8 +94,8 @@ exported! {
     /// Where a key's value stands in the store. 64 held, 65 not held. `out`: where it starts and ends.
     fn find = starterbell_find(records: bytes, key: bytes, out: numbers_mut);
 
-    /// The message that a body is. 64. `out`: its type; where its key starts and ends; 1 if it has a record, else 0; where the record's key starts and ends; where
-    /// its value starts and ends.
+    /// The message that a body is. 64. `out`: its type; where its key starts and ends; 1 if it has a record, else 0; where the record's key starts and ends;
+    /// where its value starts and ends.
     fn read = starterbell_read(body: bytes, out: numbers_mut);
 
     /// The next peer of a message from a position on, of closerPeers where `list` is 0, else of providerPeers. 64, or 65 where there is none. `out`: where it
@@ -102,10 +106,12 @@ exported! {
     fn peer_address = starterbell_peer_address(body: bytes, start: usize, end: usize, from: usize, out: numbers_mut);
 
     /// Writes a message with its length before it. 64. `out`: its length with the prefix.
-    fn write = starterbell_write(message: bytes_mut, kind: u64, key: bytes, held: u32, record_key: bytes, value: bytes, closer: bytes, providers: bytes, out: numbers_mut);
+    fn write = starterbell_write(
+        message: bytes_mut, kind: u64, key: bytes, held: u32, record_key: bytes, value: bytes, closer: bytes, providers: bytes, out: numbers_mut
+    );
 
-    /// Starts a lookup. 64 going, 67 complete. As for the three below, `out`: the rank to ask for 66, the requests sent for 67 and 68, else 0; how many peers were
-    /// found; twenty ranks.
+    /// Starts a lookup. 64 going, 67 complete. As for the three below, `out`: the rank to ask for 66, the requests sent for 67 and 68, else 0; how many peers
+    /// were found; twenty ranks.
     fn lookup_start = starterbell_lookup_start(me: bytes, lookup: bytes_mut, contacts: bytes, key: bytes, limit: usize, out: numbers_mut);
 
     /// The next step of a lookup. 65 wait, 66 ask, 67 complete, 68 cut short.

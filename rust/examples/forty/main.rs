@@ -1,0 +1,171 @@
+//! Forty boxes share winding recipes with no server, in this process or over TCP. Some never answer, and some lie. See `--help`.
+
+mod bench;
+mod job;
+mod liar;
+mod memory;
+mod net;
+mod rng;
+mod svg;
+mod tally;
+mod tcp;
+mod world;
+
+use net::Net;
+use starterbell::Refusal;
+use std::io::{IsTerminal, Write};
+use std::path::{Path, PathBuf};
+use std::process::ExitCode;
+use std::time::{Duration, Instant};
+use world::{Phase, World};
+
+const HELP: &str = "\
+usage: forty [--tcp] [--seed N] [--benches N] [--svg FILE]
+
+Forty boxes join over time, put winding recipes at the boxes nearest to their keys, put newer versions, and then every honest one finds every recipe.
+One in eight never answers; one in eight lies: it makes up peers, sends broken bytes, recipes that don't check or are old, or more than it was asked for.
+Bytes come in pieces of random size. The exit status is 0 where every recipe was found as it was put and every lookup has ended.
+
+  --tcp         over TCP on this machine, with real sockets and timeouts, instead of in memory
+  --seed N      another run; in memory the same seed gives the same run (40)
+  --benches N   how many boxes, 8 to 80 (40)
+  --svg FILE    where the picture of who knows whom is written (forty.svg in the project's target folder)
+  --help        this";
+
+struct Wanted {
+    tcp: bool,
+    seed: u64,
+    benches: usize,
+    svg: PathBuf,
+}
+
+enum Asked {
+    Run(Wanted),
+    Help,
+}
+
+/// The folder that cargo and rt write to, so that a run leaves nothing elsewhere.
+fn default_svg() -> PathBuf {
+    let package = Path::new(env!("CARGO_MANIFEST_DIR"));
+    package.parent().unwrap_or(package).join("target").join("forty.svg")
+}
+
+fn arguments() -> Result<Asked, String> {
+    let mut wanted = Wanted { tcp: false, seed: 40, benches: 40, svg: default_svg() };
+    let mut words = std::env::args().skip(1);
+    while let Some(word) = words.next() {
+        let mut value = || words.next().ok_or_else(|| format!("{word} needs a value"));
+        match word.as_str() {
+            "--help" | "-h" => return Ok(Asked::Help),
+            "--tcp" => wanted.tcp = true,
+            "--seed" => wanted.seed = number(&value()?)?,
+            "--benches" => wanted.benches = number(&value()?)? as usize,
+            "--svg" => wanted.svg = value()?.into(),
+            _ => return Err(format!("{word} is not known here")),
+        }
+    }
+    if !(8..=80).contains(&wanted.benches) {
+        return Err(format!("{} benches: it takes 8 to 80", wanted.benches));
+    }
+    Ok(Asked::Run(wanted))
+}
+
+fn number(word: &str) -> Result<u64, String> {
+    word.parse().map_err(|_| format!("{word} is no whole number"))
+}
+
+fn main() -> ExitCode {
+    let wanted = match arguments() {
+        Ok(Asked::Run(wanted)) => wanted,
+        Ok(Asked::Help) => {
+            println!("{HELP}");
+            return ExitCode::SUCCESS;
+        }
+        Err(why) => {
+            eprintln!("forty: {why}\n\n{HELP}");
+            return ExitCode::from(2);
+        }
+    };
+    run(&wanted).unwrap_or_else(|why| {
+        eprintln!("forty: {why}");
+        ExitCode::from(2)
+    })
+}
+
+fn run(wanted: &Wanted) -> Result<ExitCode, String> {
+    let start = Instant::now();
+    let draw = |picture: &str| std::fs::write(&wanted.svg, picture).map_err(|why| format!("{} can't be written: {why}", wanted.svg.display()));
+    draw("")?; // now, not after the run
+    let net: Box<dyn Net> = if wanted.tcp {
+        Box::new(tcp::Tcp::new(wanted.benches, wanted.seed).map_err(|why| format!("no sockets to listen on: {why}"))?)
+    } else {
+        Box::new(memory::Memory::new(wanted.benches, wanted.seed))
+    };
+    let mut world = World::new(wanted.benches, wanted.seed, net).map_err(|refusal| format!("a box can't be started: {refusal}"))?;
+    world.run(progress());
+    let kinds = kinds(&world);
+    draw(&svg::draw(&world.benches, &kinds))?;
+    let problems = world.problems();
+    let said = summary(wanted, &world, &kinds, start.elapsed()) + &verdict(&problems);
+    // a reader that has gone away is no failure of the run
+    let _ = std::io::stdout().write_all(said.as_bytes());
+    Ok(if problems.is_empty() { ExitCode::SUCCESS } else { ExitCode::FAILURE })
+}
+
+fn verdict(problems: &[String]) -> String {
+    if problems.is_empty() {
+        return "every lookup has ended, and every honest bench found every recipe\n".into();
+    }
+    let first: String = problems.iter().take(20).map(|problem| format!("wrong: {problem}\n")).collect();
+    format!("{first}{} things went wrong\n", problems.len())
+}
+
+/// On a terminal a line that changes; else a line for each phase.
+fn progress() -> impl FnMut(&World) {
+    let terminal = std::io::stderr().is_terminal();
+    let mut told = None;
+    let mut last = Instant::now();
+    move |world| {
+        let new = told != Some(world.phase);
+        told = Some(world.phase);
+        if terminal && (new || last.elapsed() > Duration::from_millis(100)) {
+            last = Instant::now();
+            let end = if world.phase == Phase::Over { "\n" } else { "" };
+            eprint!("\r\x1b[K{}: {} lookups, {} recipes found{end}", world.phase.says(), world.tally.lookups, world.found());
+        } else if new && !terminal {
+            eprintln!("{}", world.phase.says());
+        }
+    }
+}
+
+fn kinds(world: &World) -> String {
+    let silent = world.benches.iter().filter(|bench| matches!(bench.role, bench::Role::Silent)).count();
+    let (all, honest) = (world.benches.len(), world.honest());
+    let liars = all - honest - silent;
+    format!("{all} benches: {honest} honest, {silent} silent, {liars} {}", if liars == 1 { "liar" } else { "liars" })
+}
+
+fn summary(wanted: &Wanted, world: &World, kinds: &str, took: Duration) -> String {
+    let (tally, traffic) = (&world.tally, world.net.traffic());
+    let carried = if wanted.tcp { "over TCP" } else { "in memory" };
+    let each = tally.requests as f64 / tally.ended().max(1) as f64;
+    let lines = [
+        format!("{kinds}; {carried}, seed {}", wanted.seed),
+        format!("recipes    {} in two versions, {} puts accepted; {} finds by {} benches", world.recipes(), tally.stored, world.found(), world.honest()),
+        format!("lookups    {} begun, {} complete, {} cut short", tally.lookups, tally.complete, tally.cut_short),
+        format!("requests   {each:.1} for each lookup, at most {}; {} of all requests unanswered", tally.most_requests, tally.failures),
+        format!("messages   {} on {} connections; {} bytes in {} pieces", tally.messages, traffic.connections, traffic.bytes, traffic.pieces),
+        format!("contacts   {} heads of full buckets probed, {} swapped", tally.probes, tally.swaps),
+        format!("lies       {} messages nobody asked for, {} bad recipes, {} old ones outranked", tally.unasked, tally.broken, tally.outranked),
+        format!("refusals   {}", refusals(&tally.refusals)),
+        format!("time       {:.1} s", took.as_secs_f64()),
+        format!("picture    {}", wanted.svg.display()),
+    ];
+    lines.join("\n") + "\n"
+}
+
+/// Those that were given, by number.
+fn refusals(counts: &[u64]) -> String {
+    let given = Refusal::ALL.iter().zip(counts).filter(|(_, count)| **count > 0);
+    given.map(|(refusal, count)| format!("{}: {count}", refusal.number())).collect::<Vec<_>>().join("  ")
+}

@@ -1,0 +1,58 @@
+//! What happened, counted.
+
+use crate::net::{Link, Net};
+use crate::rng::Rng;
+use starterbell::Refusal;
+
+#[derive(Default)]
+pub struct Tally {
+    pub messages: u64,
+    /// By number, of all boxes.
+    pub refusals: [u64; Refusal::ALL.len()],
+    pub lookups: u64,
+    pub complete: u64,
+    pub cut_short: u64,
+    /// Requests of lookups: all, and the most of one.
+    pub requests: u64,
+    pub most_requests: u64,
+    /// Peers that failed to answer in time, or at all.
+    pub failures: u64,
+    /// Messages that nobody had asked for.
+    pub unasked: u64,
+    /// Recipes that honest benches got and threw away, since they don't check or are of another key.
+    pub broken: u64,
+    /// Recipes that honest benches got and that another one outranked.
+    pub outranked: u64,
+    pub probes: u64,
+    pub swaps: u64,
+    pub stored: u64,
+}
+
+impl Tally {
+    pub fn ended(&self) -> u64 {
+        self.complete + self.cut_short
+    }
+}
+
+/// What a bench has around it.
+pub struct Around<'a> {
+    pub net: &'a mut dyn Net,
+    pub rng: &'a mut Rng,
+    pub tally: &'a mut Tally,
+}
+
+impl Around<'_> {
+    pub fn send(&mut self, link: Link, message: &[u8]) {
+        self.tally.messages += 1;
+        self.net.send(link, message);
+    }
+
+    pub fn refused(&mut self, refusal: Refusal) {
+        self.tally.refusals[refusal.number() as usize] += 1;
+    }
+
+    /// Counts a refusal, if it is one.
+    pub fn told<T>(&mut self, result: Result<T, Refusal>) -> Option<T> {
+        result.map_err(|refusal| self.refused(refusal)).ok()
+    }
+}

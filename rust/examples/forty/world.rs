@@ -1,0 +1,216 @@
+//! The run: benches join over time, put recipes, put newer ones, and then each finds all of them.
+
+use crate::bench::{Bench, Role};
+use crate::job::Goal;
+use crate::liar::{Liar, Trick};
+use crate::net::Net;
+use crate::rng::Rng;
+use crate::tally::{Around, Tally};
+use starterbell::recipe::{Recipe, Setpoint};
+use starterbell::{Node, Peer, Refusal, Room};
+use std::time::{Duration, Instant};
+
+/// Each honest bench owns so many recipes.
+const RECIPES_EACH: usize = 2;
+/// A run that takes longer has failed.
+const LONGEST: Duration = Duration::from_secs(300);
+
+#[derive(Clone, Copy, PartialEq, Eq, Debug)]
+pub enum Phase {
+    Joining,
+    LookingAround,
+    Putting,
+    PuttingNewer,
+    Finding,
+    Over,
+}
+
+impl Phase {
+    pub fn says(self) -> &'static str {
+        match self {
+            Phase::Joining => "benches join",
+            Phase::LookingAround => "each looks around once more",
+            Phase::Putting => "recipes are put at the benches nearest to their keys",
+            Phase::PuttingNewer => "newer versions of all recipes are put",
+            Phase::Finding => "every honest bench finds every recipe",
+            Phase::Over => "done",
+        }
+    }
+
+    fn next(self) -> Phase {
+        match self {
+            Phase::Joining => Phase::LookingAround,
+            Phase::LookingAround => Phase::Putting,
+            Phase::Putting => Phase::PuttingNewer,
+            Phase::PuttingNewer => Phase::Finding,
+            Phase::Finding | Phase::Over => Phase::Over,
+        }
+    }
+}
+
+/// A recipe in two versions, and the bench that puts it.
+struct Owned {
+    owner: usize,
+    key: Vec<u8>,
+    versions: [Vec<u8>; 2],
+}
+
+pub struct World {
+    pub benches: Vec<Bench>,
+    pub tally: Tally,
+    pub net: Box<dyn Net>,
+    pub phase: Phase,
+    rng: Rng,
+    recipes: Vec<Owned>,
+    joined: usize,
+    next_bother: u64,
+}
+
+impl World {
+    pub fn new(count: usize, seed: u64, net: Box<dyn Net>) -> Result<World, Refusal> {
+        let mut rng = Rng(seed ^ 0xf0f0);
+        let mut benches = Vec::new();
+        for (number, role) in roles(count, &mut rng).into_iter().enumerate() {
+            // libp2p's id of an Ed25519 key: the key itself, with what it is before it
+            let id = [&[0, 36, 8, 1, 18, 32][..], &rng.bytes::<32>()].concat();
+            let node = Node::start(&id, &[&net.address(number)], Room { contacts: 64, records: RECIPES_EACH * count })?;
+            benches.push(Bench::new(number, node, role));
+        }
+        let honest: Vec<usize> = (0..count).filter(|bench| benches[*bench].is_honest()).collect();
+        let owners = honest.iter().flat_map(|owner| std::iter::repeat_n(*owner, RECIPES_EACH));
+        let recipes = owners.enumerate().map(|(n, owner)| make_recipe(n, owner, &mut rng)).collect::<Result<_, _>>()?;
+        Ok(World { benches, tally: Tally::default(), net, phase: Phase::Joining, rng, recipes, joined: 0, next_bother: 0 })
+    }
+
+    pub fn recipes(&self) -> usize {
+        self.recipes.len()
+    }
+
+    pub fn honest(&self) -> usize {
+        self.benches.iter().filter(|bench| bench.is_honest()).count()
+    }
+
+    /// How many times a recipe was looked for and something was found, or nothing.
+    pub fn found(&self) -> usize {
+        self.benches.iter().map(|bench| bench.got.len()).sum()
+    }
+
+    /// Runs it all. `tell` is called with the state now and then.
+    pub fn run(&mut self, mut tell: impl FnMut(&World)) {
+        let start = Instant::now();
+        while self.phase != Phase::Over && start.elapsed() < LONGEST {
+            self.step();
+            tell(self);
+        }
+    }
+
+    fn step(&mut self) {
+        let World { benches, tally, net, rng, .. } = self;
+        let news = net.poll();
+        let mut around = Around { net: net.as_mut(), rng, tally };
+        for news in news {
+            benches[news.bench].on(news, &mut around);
+        }
+        for bench in benches.iter_mut() {
+            bench.advance(&mut around);
+        }
+        if around.net.now() >= self.next_bother {
+            self.next_bother = around.net.now() + around.net.patience() / 8;
+            for bench in benches.iter_mut() {
+                bench.bother(&mut around);
+            }
+        }
+        self.join();
+        if self.joined == self.benches.len() && self.benches.iter().all(Bench::is_idle) {
+            self.phase = self.phase.next();
+            self.begin();
+        }
+    }
+
+    /// The next bench joins when its time has come. It knows one honest bench that was there before.
+    fn join(&mut self) {
+        let number = self.joined;
+        if number == self.benches.len() || self.net.now() < number as u64 * self.net.patience() / 16 {
+            return;
+        }
+        self.joined += 1;
+        let before: Vec<usize> = (0..number).filter(|bench| self.benches[*bench].is_honest()).collect();
+        if before.is_empty() {
+            return;
+        }
+        let first = before[self.rng.below(before.len())];
+        let (id, address) = (self.benches[first].node.id().to_vec(), self.net.address(first));
+        let bench = &mut self.benches[number];
+        if bench.node.seen(Peer::server(&id, &[&address])).is_ok() {
+            bench.goals.push_back(Goal::Join);
+        }
+    }
+
+    /// Gives each bench what it has to do in this phase.
+    fn begin(&mut self) {
+        match self.phase {
+            Phase::LookingAround => self.benches.iter_mut().for_each(|bench| bench.goals.push_back(Goal::Join)),
+            Phase::Putting => self.put(0),
+            Phase::PuttingNewer => self.put(1),
+            Phase::Finding => self.find_all(),
+            Phase::Joining | Phase::Over => {}
+        }
+    }
+
+    fn put(&mut self, version: usize) {
+        for recipe in &self.recipes {
+            let goal = Goal::Put { key: recipe.key.clone(), value: recipe.versions[version].clone() };
+            self.benches[recipe.owner].goals.push_back(goal);
+        }
+    }
+
+    fn find_all(&mut self) {
+        for bench in self.benches.iter_mut().filter(|bench| bench.is_honest()) {
+            let mut keys: Vec<_> = self.recipes.iter().map(|recipe| recipe.key.clone()).collect();
+            self.rng.shuffle(&mut keys);
+            bench.goals.extend(keys.into_iter().map(|key| Goal::Get { key }));
+        }
+    }
+
+    /// What went wrong, a line for each.
+    pub fn problems(&self) -> Vec<String> {
+        let mut problems = Vec::new();
+        for (number, bench) in self.benches.iter().enumerate().filter(|(_, bench)| bench.is_honest()) {
+            for recipe in &self.recipes {
+                let name = String::from_utf8_lossy(&recipe.key);
+                match bench.got.iter().find(|(key, _)| *key == recipe.key) {
+                    Some((_, Some(value))) if *value == recipe.versions[1] => {}
+                    Some((_, Some(value))) if *value == recipe.versions[0] => problems.push(format!("bench {number} found an old version of {name}")),
+                    Some((_, Some(_))) => problems.push(format!("bench {number} found another recipe under {name}")),
+                    _ => problems.push(format!("bench {number} didn't find {name}")),
+                }
+            }
+        }
+        let open = self.tally.lookups - self.tally.ended();
+        if open > 0 {
+            problems.push(format!("{open} lookups didn't end"));
+        }
+        problems
+    }
+}
+
+/// One in eight is silent and one in eight lies; the first, which all the others join through, is honest.
+fn roles(count: usize, rng: &mut Rng) -> Vec<Role> {
+    let mut roles: Vec<Role> = Vec::new();
+    roles.extend((0..count / 8).map(|_| Role::Silent));
+    roles.extend((0..count / 8).map(|n| Role::Liar(Liar::new(Trick::ALL[n % Trick::ALL.len()]))));
+    roles.resize_with(count - 1, || Role::Honest);
+    rng.shuffle(&mut roles);
+    roles.insert(0, Role::Honest);
+    roles
+}
+
+fn make_recipe(n: usize, owner: usize, rng: &mut Rng) -> Result<Owned, Refusal> {
+    const STRINGS: [&str; 4] = ["e", "a", "d", "g"];
+    let key = format!("/wind/bench-{owner}/{}-string", STRINGS[n % STRINGS.len()]).into_bytes();
+    let mut version = |sequence| {
+        let setpoints = (0..1 + rng.below(60)).map(|n| Setpoint { turn: n as u32 * 90 + rng.below(90) as u32, trim: rng.below(40_001) as i32 - 20_000 });
+        Recipe { note: format!("bench {owner}, version {sequence}").into_bytes(), setpoints: setpoints.collect(), sequence }.to_value()
+    };
+    Ok(Owned { owner, key, versions: [version(1)?, version(2)?] })
+}

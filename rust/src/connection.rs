@@ -1,0 +1,87 @@
+//! Connections, and what comes of their bytes.
+
+use crate::message::Message;
+use crate::node::Seen;
+use crate::peer::{Contact, Mode};
+use crate::raw;
+use crate::refusal::Refusal;
+use alloc::boxed::Box;
+use alloc::vec;
+
+/// What we do on a connection.
+#[derive(Clone, Copy, Debug, PartialEq, Eq, Hash)]
+pub enum Side {
+    /// The peer asks: each message is a request, and is answered.
+    Serving,
+    /// We ask: each message is for one of our lookups.
+    Asking,
+}
+
+/// A connection: the state of its bytes, and its receive buffer. [`Node::accept`](crate::Node::accept) and [`Node::connect`](crate::Node::connect) give one.
+///
+/// Hand it to the box that opened it.
+#[derive(Clone, Debug)]
+pub struct Connection {
+    pub(crate) state: Box<[u8]>,
+    pub(crate) buffer: Box<[u8]>,
+}
+
+impl Connection {
+    /// Memory for a connection, not opened yet.
+    pub(crate) fn room() -> Connection {
+        Connection { state: vec![0; raw::CONNECTION].into(), buffer: vec![0; raw::BUFFER].into() }
+    }
+
+    /// The peer at its other end.
+    pub fn peer(&self) -> Contact<'_> {
+        Contact::at(&self.state)
+    }
+
+    /// What that peer does.
+    pub fn mode(&self) -> Mode {
+        if self.state[616] == 0 {
+            Mode::Client
+        } else {
+            Mode::Server
+        }
+    }
+
+    /// What we do on it.
+    pub fn side(&self) -> Side {
+        if self.state[617] == 0 {
+            Side::Serving
+        } else {
+            Side::Asking
+        }
+    }
+
+    /// Whether it takes no more bytes: it was ended, or refused a message.
+    pub fn is_shut(&self) -> bool {
+        self.state[618] == 0
+    }
+}
+
+/// What came of a piece, up to its first event.
+#[must_use = "it says how many bytes were taken, and what to send"]
+#[derive(Clone, Debug)]
+pub struct Received<'n, 'c> {
+    /// How many bytes were taken. Hand in the rest of the piece again.
+    pub taken: usize,
+    /// What happened.
+    pub event: Event<'n, 'c>,
+    /// What came of the sender, which is seen with each request that is answered: as [`Node::seen`](crate::Node::seen) gives it. None where it wasn't seen.
+    pub seen: Option<Result<Seen<'n>, Refusal>>,
+}
+
+/// What happened on a connection.
+#[derive(Clone, Debug)]
+pub enum Event<'n, 'c> {
+    /// Nothing yet: the whole piece was taken, and more bytes are wanted.
+    More,
+    /// A request was answered: send these bytes.
+    Reply(&'n [u8]),
+    /// A message came on a connection on which we ask. It lies in the connection's receive buffer until that takes another byte.
+    Heard(Message<'c>),
+    /// A message was refused, and the connection is shut; or it was shut before.
+    Refused(Refusal),
+}

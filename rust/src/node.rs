@@ -1,0 +1,299 @@
+//! The box.
+
+use crate::connection::{Connection, Event, Received};
+use crate::message::{Message, Record};
+use crate::peer::{listed, Contact, Mode, Peer};
+use crate::raw;
+use crate::refusal::{answer, Refusal};
+use alloc::boxed::Box;
+use alloc::vec;
+use alloc::vec::Vec;
+
+/// How much a box can keep: slots of 616 bytes for contacts, and of 2,184 for records.
+#[derive(Clone, Copy, Debug, PartialEq, Eq)]
+pub struct Room {
+    /// Contacts, at most 5,120; more aren't used, and take no memory.
+    pub contacts: usize,
+    /// Records, at most 256; more aren't used, and take no memory.
+    pub records: usize,
+}
+
+impl Room {
+    /// As much as a box can use: 3.7 megabytes.
+    pub const MOST: Room = Room { contacts: raw::MOST_CONTACTS, records: raw::MOST_RECORDS };
+}
+
+impl Default for Room {
+    /// 256 contacts and 64 records: 300 kilobytes.
+    fn default() -> Room {
+        Room { contacts: 256, records: 64 }
+    }
+}
+
+/// What came of a peer that was seen.
+#[derive(Clone, Copy, Debug, PartialEq, Eq)]
+pub enum Seen<'a> {
+    /// It was a contact, and is now the last of its bucket.
+    Moved(Contact<'a>),
+    /// It is a contact now.
+    Joined(Contact<'a>),
+    /// Its bucket is full. Ping this contact, the bucket's head, and tell [`Node::settle`] whether it answered.
+    Probe(Contact<'a>),
+}
+
+/// What a probed head did.
+#[derive(Clone, Copy, Debug, PartialEq, Eq, Hash)]
+pub enum Probed {
+    /// It answered, and stays.
+    Answered,
+    /// It didn't answer, and makes room.
+    Silent,
+}
+
+/// Who got the place for which a head was probed.
+#[derive(Clone, Copy, Debug, PartialEq, Eq, Hash)]
+pub enum Settled {
+    /// The head is kept.
+    Kept,
+    /// The newcomer has its place.
+    Swapped,
+}
+
+/// A box, with the memory for its contacts, its records and its replies.
+///
+/// ```
+/// use starterbell::{Node, Peer, Room, Seen};
+///
+/// let mut node = Node::start(b"bench-1", &[b"/ip4/10.0.0.1/tcp/4001"], Room::default())?;
+/// let seen = node.seen(Peer::server(b"bench-2", &[b"/ip4/10.0.0.2/tcp/4001"]))?;
+/// assert!(matches!(seen, Seen::Joined(contact) if contact.id() == b"bench-2"));
+/// assert_eq!(node.nearest(b"any key")?.len(), 1);
+/// # Ok::<(), starterbell::Refusal>(())
+/// ```
+#[derive(Clone, Debug)]
+pub struct Node {
+    me: Box<[u8]>,
+    contacts: Box<[u8]>,
+    records: Box<[u8]>,
+    reply: Box<[u8]>,
+}
+
+impl Node {
+    /// Starts a box. Its id has 1 to 64 bytes; its first four addresses with 1 to 128 bytes are told to peers that ask for it.
+    pub fn start(id: &[u8], addresses: &[&[u8]], room: Room) -> Result<Node, Refusal> {
+        let mut node = Node {
+            me: vec![0; raw::BOX].into(),
+            contacts: vec![0; room.contacts.min(raw::MOST_CONTACTS) * raw::CONTACT].into(),
+            records: vec![0; room.records.min(raw::MOST_RECORDS) * raw::RECORD].into(),
+            reply: vec![0; raw::REPLY].into(),
+        };
+        answer(raw::start(&mut node.me, id, &listed(addresses)))?;
+        Ok(node)
+    }
+
+    /// The box's own bytes, as the exported functions take them.
+    pub(crate) fn me(&self) -> &[u8] {
+        &self.me
+    }
+
+    /// The contacts' bytes.
+    pub(crate) fn table(&self) -> &[u8] {
+        &self.contacts
+    }
+
+    /// Its id.
+    pub fn id(&self) -> &[u8] {
+        Contact::at(&self.me).id()
+    }
+
+    /// Its place: the SHA-256 of its id.
+    pub fn place(&self) -> &[u8; 32] {
+        Contact::at(&self.me).place()
+    }
+
+    /// Its addresses, up to four.
+    pub fn addresses(&self) -> impl ExactSizeIterator<Item = &[u8]> {
+        Contact::at(&self.me).addresses()
+    }
+
+    /// How much it can keep.
+    pub fn room(&self) -> Room {
+        Room { contacts: self.contacts.len() / raw::CONTACT, records: self.records.len() / raw::RECORD }
+    }
+
+    fn slot(&self, slot: u64) -> Contact<'_> {
+        Contact::at(&self.contacts[slot as usize * raw::CONTACT..][..raw::CONTACT])
+    }
+
+    /// A peer was seen: it answered us. Those that ask are seen by [`receive`](Node::receive), which doesn't see those that we ask.
+    pub fn seen(&mut self, peer: Peer<'_>) -> Result<Seen<'_>, Refusal> {
+        let mut out = [0];
+        let returned = raw::seen(&self.me, &mut self.contacts, peer.id, peer.is_client(), &listed(peer.addresses), &mut out);
+        let contact = |node| Node::slot(node, out[0]);
+        match answer(returned) {
+            Ok(64) => Ok(Seen::Moved(contact(self))),
+            Ok(_) => Ok(Seen::Joined(contact(self))),
+            Err(Refusal::BucketFull) => Ok(Seen::Probe(contact(self))),
+            Err(refusal) => Err(refusal),
+        }
+    }
+
+    /// The probe of a bucket's head is over, for which a newcomer was waiting. Refused where the contacts have changed since.
+    pub fn settle(&mut self, head: &[u8], newcomer: Peer<'_>, head_did: Probed) -> Result<Settled, Refusal> {
+        let addresses = listed(newcomer.addresses);
+        let answered = u32::from(head_did == Probed::Answered);
+        match answer(raw::settle(&self.me, &mut self.contacts, head, newcomer.id, newcomer.is_client(), &addresses, answered))? {
+            64 => Ok(Settled::Kept),
+            _ => Ok(Settled::Swapped),
+        }
+    }
+
+    /// Takes a contact out. Refused where it is none.
+    pub fn remove(&mut self, id: &[u8]) -> Result<(), Refusal> {
+        answer(raw::remove(&self.me, &mut self.contacts, id)).map(|_| ())
+    }
+
+    /// The contacts nearest to a key of 1 to 128 bytes, nearest first: all, or twenty.
+    pub fn nearest(&self, key: &[u8]) -> Result<Vec<Contact<'_>>, Refusal> {
+        let mut out = [0; 21];
+        answer(raw::nearest(&self.me, &self.contacts, key, &mut out))?;
+        Ok(out[1..=out[0] as usize].iter().map(|&slot| self.slot(slot)).collect())
+    }
+
+    /// The contacts, in no order that means anything.
+    pub fn contacts(&self) -> impl Iterator<Item = Contact<'_>> {
+        self.contacts.chunks_exact(raw::CONTACT).filter(|slot| slot[0] != 0).map(Contact::at)
+    }
+
+    /// Puts a record of our own into the store: a key of `/wind/` and 1 to 122 bytes more, a value that is a [recipe](crate::recipe). Refused where the one
+    /// that is held ranks higher.
+    pub fn put(&mut self, key: &[u8], value: &[u8]) -> Result<(), Refusal> {
+        answer(raw::put(&mut self.records, key, value)).map(|_| ())
+    }
+
+    /// The value that is held under a key.
+    pub fn find(&self, key: &[u8]) -> Result<Option<&[u8]>, Refusal> {
+        let mut out = [0; 2];
+        match answer(raw::find(&self.records, key, &mut out))? {
+            64 => Ok(Some(&self.records[out[0] as usize..out[1] as usize])),
+            _ => Ok(None),
+        }
+    }
+
+    /// The records, in no order that means anything.
+    pub fn records(&self) -> impl Iterator<Item = Record<'_>> {
+        // a slot is laid out as crates/records says (specs/Store)
+        self.records.chunks_exact(raw::RECORD).filter(|slot| slot[0] != 0).map(|slot| {
+            let length = usize::from(u16::from_le_bytes([slot[2], slot[3]]));
+            Record { key: &slot[8..8 + usize::from(slot[0])], value: &slot[136..136 + length] }
+        })
+    }
+
+    /// A connection on which a peer asks and the box answers. Refused where the peer's id isn't 1 to 64 bytes, or is the box's own.
+    pub fn accept(&self, peer: Peer<'_>) -> Result<Connection, Refusal> {
+        self.open(peer, 0)
+    }
+
+    /// A connection on which we ask a peer. Refused as for [`accept`](Node::accept).
+    pub fn connect(&self, peer: Peer<'_>) -> Result<Connection, Refusal> {
+        self.open(peer, 1)
+    }
+
+    fn open(&self, peer: Peer<'_>, asking: u32) -> Result<Connection, Refusal> {
+        let mut connection = Connection::room();
+        let server = u32::from(peer.mode == Mode::Server);
+        answer(raw::open(&self.me, &mut connection.state, peer.id, server, asking, &listed(peer.addresses)))?;
+        Ok(connection)
+    }
+
+    /// Takes bytes of a piece up to the first event. Hand in the rest again until all are taken, or the connection is shut. How the bytes are cut into pieces
+    /// changes nothing.
+    ///
+    /// ```
+    /// use starterbell::{Event, Node, Peer, Room};
+    ///
+    /// let mut node = Node::start(b"bench-1", &[], Room::default())?;
+    /// let mut connection = node.accept(Peer::client(b"someone", &[]))?;
+    /// let mut piece: &[u8] = &[2, 8, 5, 6, 8, 4, 18, 2, b'A', b'B']; // a PING, and a FIND_NODE for the key AB
+    /// let mut sent = Vec::new();
+    /// while !piece.is_empty() {
+    ///     let received = node.receive(&mut connection, piece);
+    ///     piece = &piece[received.taken..];
+    ///     match received.event {
+    ///         Event::Reply(reply) => sent.extend_from_slice(reply),
+    ///         Event::Refused(refusal) => return Err(refusal),
+    ///         Event::More | Event::Heard(_) => {}
+    ///     }
+    /// }
+    /// assert_eq!(sent, [2, 8, 5, 2, 8, 4]);
+    /// # Ok::<(), starterbell::Refusal>(())
+    /// ```
+    pub fn receive<'n, 'c>(&'n mut self, connection: &'c mut Connection, piece: &[u8]) -> Received<'n, 'c> {
+        let (returned, out) = self.take(connection, piece);
+        self.received(connection, returned, out)
+    }
+
+    /// Takes a whole piece, and calls `each` with every reply and every message. Stops at a refusal: then no later byte of the connection counts.
+    ///
+    /// ```
+    /// use starterbell::{Event, Node, Peer, Room};
+    ///
+    /// let mut node = Node::start(b"bench-1", &[], Room::default())?;
+    /// let mut connection = node.accept(Peer::client(b"someone", &[]))?;
+    /// let mut sent = Vec::new();
+    /// node.feed(&mut connection, &[2, 8, 5, 6, 8, 4, 18, 2, b'A', b'B'], |_, received| {
+    ///     if let Event::Reply(reply) = received.event {
+    ///         sent.extend_from_slice(reply);
+    ///     }
+    /// })?;
+    /// assert_eq!(sent, [2, 8, 5, 2, 8, 4]);
+    /// # Ok::<(), starterbell::Refusal>(())
+    /// ```
+    pub fn feed(&mut self, connection: &mut Connection, piece: &[u8], mut each: impl FnMut(&Node, Received<'_, '_>)) -> Result<(), Refusal> {
+        let mut rest = piece;
+        loop {
+            let (returned, out) = self.take(connection, rest);
+            let received = self.received(connection, returned, out);
+            rest = &rest[received.taken..];
+            match received.event {
+                Event::More => {}
+                Event::Refused(refusal) => return Err(refusal),
+                Event::Reply(_) | Event::Heard(_) => each(self, received),
+            }
+            if rest.is_empty() {
+                return Ok(());
+            }
+        }
+    }
+
+    /// The bytes of a connection are over, and it is shut. Refused where they ended inside a message.
+    pub fn end(&self, connection: &mut Connection) -> Result<(), Refusal> {
+        answer(raw::end(&self.me, &mut connection.state)).map(|_| ())
+    }
+
+    fn take(&mut self, connection: &mut Connection, piece: &[u8]) -> (u32, [u64; 12]) {
+        let mut out = [0; 12];
+        let Connection { state, buffer } = connection;
+        let returned = raw::receive(&self.me, state, buffer, piece, &mut self.contacts, &mut self.records, &mut self.reply, &mut out);
+        (returned, out)
+    }
+
+    /// What the numbers of a receive say.
+    fn received<'n, 'c>(&'n self, connection: &'c Connection, returned: u32, out: [u64; 12]) -> Received<'n, 'c> {
+        let [taken, length, sighting, slot, view @ ..] = out;
+        let event = match answer(returned) {
+            Ok(64) => Event::More,
+            Ok(65) => Event::Reply(&self.reply[..length as usize]),
+            Ok(_) => Event::Heard(Message::of(&connection.buffer[..length as usize], view)),
+            Err(refusal) => Event::Refused(refusal),
+        };
+        let seen = match sighting {
+            0 => None,
+            1 => Some(Ok(Seen::Moved(self.slot(slot)))),
+            2 => Some(Ok(Seen::Joined(self.slot(slot)))),
+            3 => Some(Ok(Seen::Probe(self.slot(slot)))),
+            _ => Some(Err(Refusal::NoContactSlot)),
+        };
+        Received { taken: taken as usize, event, seen }
+    }
+}

@@ -1,0 +1,171 @@
+//! Connections: requests and their replies, cut anywhere.
+
+use starterbell::message::{Draft, Kind, Message};
+use starterbell::recipe::Recipe;
+use starterbell::{Event, Mode, Node, Peer, Refusal, Room, Seen, Side};
+
+fn bench() -> Node {
+    let mut node = Node::start(b"bench", &[b"/bench"], Room::default()).expect("a good id");
+    for n in 0..30u8 {
+        node.seen(Peer::server(&[b'p', n], &[&[n + 1]])).expect("room");
+    }
+    node
+}
+
+/// A connection's bytes: several requests, one right after another.
+fn requests() -> Vec<u8> {
+    let value = Recipe { sequence: 4, ..Recipe::default() }.to_value().expect("a recipe");
+    let drafts = [
+        Draft::ping(),
+        Draft::find_node(b"bench"),
+        Draft::put_value(b"/wind/g", &value),
+        Draft::get_value(b"/wind/g"),
+        Draft::get_value(b"/wind/no"),
+        Draft::find_node(b"asker"),
+    ];
+    drafts.iter().flat_map(|draft| draft.to_vec().expect("within the limits")).collect()
+}
+
+/// All replies to bytes that come in pieces of one size.
+fn replies(bytes: &[u8], size: usize) -> (Vec<u8>, Result<(), Refusal>) {
+    let mut node = bench();
+    let mut connection = node.accept(Peer::server(b"asker", &[b"/asker"])).expect("a good id");
+    let mut sent = Vec::new();
+    for piece in bytes.chunks(size) {
+        let told = node.feed(&mut connection, piece, |_, received| match received.event {
+            Event::Reply(reply) => sent.extend_from_slice(reply),
+            other => panic!("{other:?} on the serving side"),
+        });
+        if told.is_err() {
+            assert!(connection.is_shut());
+            return (sent, told);
+        }
+    }
+    (sent, node.end(&mut connection))
+}
+
+#[test]
+fn cuts_change_nothing() {
+    let bytes = requests();
+    let whole = replies(&bytes, bytes.len());
+    assert_eq!(whole.1, Ok(()));
+    assert!(whole.0.len() > 1_000);
+    for size in [1, 2, 3, 7, 64] {
+        assert_eq!(replies(&bytes, size), whole, "pieces of {size}");
+    }
+}
+
+#[test]
+fn refuses_by_number() {
+    let cases: [(&[u8], Refusal); 10] = [
+        (&[0x80, 0], Refusal::PrefixNotMinimal),
+        (&[0x81, 0x80, 1], Refusal::TooLong),
+        (&[1, 3], Refusal::Malformed),
+        (&[2, 8, 6], Refusal::UnknownType),
+        (&[2, 8, 2], Refusal::Providers),
+        (&[0], Refusal::BreaksRules),
+        (&[2, 8, 4], Refusal::BreaksRules),
+        (&[22, 8, 0, 18, 7, 47, 119, 105, 110, 100, 47, 103, 26, 9, 10, 7, 47, 119, 105, 110, 100, 47, 103], Refusal::BrokenRecipe),
+        (&[5, 8, 5], Refusal::EndedInside),
+        (&[0x80], Refusal::EndedInside),
+    ];
+    for (bytes, refusal) in cases {
+        for size in [1, bytes.len()] {
+            assert_eq!(replies(bytes, size), (vec![], Err(refusal)), "{bytes:?}");
+        }
+    }
+}
+
+#[test]
+fn a_refusal_shuts_the_connection_and_keeps_what_came_before() {
+    let bytes = [Draft::ping().to_vec().expect("short"), vec![2, 8, 6, 2, 8, 5]].concat();
+    let (sent, told) = replies(&bytes, bytes.len());
+    assert_eq!((&sent[..], told), (&[2, 8, 5][..], Err(Refusal::UnknownType)));
+
+    let mut node = bench();
+    let mut connection = node.accept(Peer::client(b"asker", &[])).expect("a good id");
+    assert!(!connection.is_shut());
+    node.end(&mut connection).expect("between messages");
+    assert!(connection.is_shut());
+    let received = node.receive(&mut connection, &[2, 8, 5]);
+    assert!(matches!((received.taken, received.event), (0, Event::Refused(Refusal::Shut))));
+    assert_eq!(node.end(&mut connection), Err(Refusal::Shut));
+}
+
+#[test]
+fn a_sender_is_seen_if_it_is_a_server() {
+    let mut node = bench();
+    let ping = Draft::ping().to_vec().expect("short");
+    let mut client = node.accept(Peer::client(b"client", &[])).expect("a good id");
+    assert!(node.receive(&mut client, &ping).seen.is_none());
+    let mut server = node.accept(Peer::server(b"server", &[b"/server"])).expect("a good id");
+    assert!(matches!(node.receive(&mut server, &ping).seen, Some(Ok(Seen::Joined(contact))) if contact.addresses().eq([b"/server"])));
+    assert!(matches!(node.receive(&mut server, &ping).seen, Some(Ok(Seen::Moved(_)))));
+    assert_eq!((server.mode(), server.side(), server.peer().id()), (Mode::Server, Side::Serving, &b"server"[..]));
+
+    let mut full = Node::start(b"full", &[], Room { contacts: 0, records: 0 }).expect("a good id");
+    let mut server = full.accept(Peer::server(b"server", &[])).expect("a good id");
+    assert!(matches!(full.receive(&mut server, &ping).seen, Some(Err(Refusal::NoContactSlot))), "which refuses nothing");
+}
+
+#[test]
+fn opens_only_to_peers() {
+    let node = bench();
+    for id in [&b""[..], b"bench", &[1; 65]] {
+        assert_eq!(node.accept(Peer::server(id, &[])).err(), Some(Refusal::BadPeer));
+        assert_eq!(node.connect(Peer::server(id, &[])).err(), Some(Refusal::BadPeer));
+    }
+}
+
+#[test]
+fn what_we_asked_for_is_heard() {
+    let (bytes, _) = replies(&requests(), 4_096);
+    let mut node = bench();
+    let mut connection = node.connect(Peer::server(b"other", &[])).expect("a good id");
+    assert_eq!(connection.side(), Side::Asking);
+    let mut heard = Vec::new();
+    for piece in bytes.chunks(5) {
+        let told = node.feed(&mut connection, piece, |_, received| match received.event {
+            Event::Heard(message) => heard.push((message.kind(), message.closer_peers().count(), message.record().map(|record| record.key.to_vec()))),
+            other => panic!("{other:?} on the asking side"),
+        });
+        assert_eq!(told, Ok(()));
+    }
+    let key = Some(b"/wind/g".to_vec());
+    let kinds = [Kind::Ping, Kind::FindNode, Kind::PutValue, Kind::GetValue, Kind::GetValue, Kind::FindNode];
+    assert_eq!(heard.iter().map(|message| message.0).collect::<Vec<_>>(), kinds);
+    assert_eq!((heard[1].1, heard[3].1), (21, 20), "FIND_NODE for the box itself adds it");
+    assert_eq!((&heard[2].2, &heard[3].2, &heard[4].2), (&key, &key, &None));
+}
+
+#[test]
+fn the_added_entry_has_its_addresses() {
+    let (bytes, _) = replies(&Draft::find_node(b"bench").to_vec().expect("short"), 4_096);
+    let message = Message::read(&bytes[2..]).expect("a reply");
+    let last = message.closer_peers().last().expect("21 peers");
+    assert_eq!((last.id(), last.addresses().collect::<Vec<_>>()), (&b"bench"[..], vec![&b"/bench"[..]]));
+}
+
+/// Numbers that look random, the same in every run.
+fn numbers(mut seed: u64) -> impl FnMut(usize) -> usize {
+    move |below| {
+        seed = seed.wrapping_mul(6_364_136_223_846_793_005).wrapping_add(1_442_695_040_888_963_407);
+        (seed >> 33) as usize % below
+    }
+}
+
+#[test]
+fn any_bytes_in_any_pieces() {
+    let mut number = numbers(7);
+    let good = requests();
+    for _ in 0..500 {
+        // requests with some bytes changed, from somewhere on
+        let mut bytes = good[number(good.len())..].to_vec();
+        for _ in 0..number(4) {
+            let at = number(bytes.len());
+            bytes[at] = number(256) as u8;
+        }
+        let whole = replies(&bytes, bytes.len());
+        assert_eq!(replies(&bytes, 1 + number(40)), whole, "{bytes:?}");
+    }
+}
