@@ -32,14 +32,8 @@ fn build(archive: &Path) {
     for source in ["crates", "crates.txt", "tools/native-lib"] {
         println!("cargo:rerun-if-changed={}", root.join(source).display());
     }
-    let host = env::var("HOST").expect("cargo sets HOST");
-    let target = env::var("TARGET").expect("cargo sets TARGET");
-    if host.split('-').next() != target.split('-').next() {
-        panic!(
-            "the library is built for the machine that builds it ({host}); for {target}, build it there with tools/native-lib and name it in STARTERBELL_LIB"
-        );
-    }
-    match Command::new(root.join("tools/native-lib")).arg("host").arg(archive).status() {
+    let machine = env::var("CARGO_CFG_TARGET_ARCH").expect("cargo sets CARGO_CFG_TARGET_ARCH");
+    match Command::new(root.join("tools/native-lib")).arg("host").arg(archive).arg(machine).status() {
         Ok(status) if status.success() => {}
         Ok(status) => panic!("tools/native-lib failed ({status}); what it said is above. Without the Rattle kit, name a built library in STARTERBELL_LIB"),
         Err(why) => panic!("tools/native-lib can't be run: {why}"),

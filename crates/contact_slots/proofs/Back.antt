@@ -3,9 +3,9 @@ use Prim.Native.Nat.{ℕ, zero, suc, _+_, _-_, _*_, _<_, _≤_}
 use mathlib.Core.Path.{_≡_, refl, sym, ap, ap₂, _∙_}
 use mathlib.Core.List.{List, [], _∷_, _++_, append-nil}
 use native.Mathlib.Omega.{arith}
-use lib.ListN.{length, getD, take, drop, length-append}
+use lib.ListN.{length, getD, take, length-append}
 use lib.Seq.{take-suc, take-length, drop-append-add}
-use Rattle.contacts.specs.Table.{slotSize, slot}
+use Rattle.contacts.specs.Table.{slot}
 use Rattle.sightings.specs.Order.{contactBytes}
 use Rattle.flat.specs.Flat.{field, peerBytes, peerIn}
 use Rattle.flat.specs.Promises.{Whole}
@@ -31,7 +31,7 @@ one-back : (c : Contact) → Whole (c .peer) → contactIn (slotBytes c) ≡ c
 unfolding contactIn slotBytes contactBytes
 one-back c w = ap (λ (p : Peer). record { peer = p; rank = c .rank }) (any-first (c .rank) (c .peer) ∙ ap peerIn (sym (append-nil (peerBytes (c .peer)))) ∙ reads-back .peer (c .peer) [] w)
 
-size-back : (t : List Contact) → AllWhole t → length (tableBytes t) ≡ length t * 616
+pub size-back : (t : List Contact) → AllWhole t → length (tableBytes t) ≡ length t * 616
 unfolding tableBytes AllWhole
 size-back [] w = refl
 size-back (c ∷ t) w = omega (arith, length-append (slotBytes c) (tableBytes t), length-slot c (w .0), size-back t (w .1))

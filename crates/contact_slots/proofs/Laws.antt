@@ -1,10 +1,10 @@
 -- Stores into one slot of a table, and the bytes of a list of contacts. Assumes nothing.
-use Prim.Native.Nat.{ℕ, zero, suc, _+_, _-_, _*_, _/_, _<_, _≤_}
+use Prim.Native.Nat.{ℕ, zero, suc, _-_, _*_, _/_, _<_, _≤_}
 use mathlib.Core.Path.{_≡_, refl, sym, ap, _∙_}
 use mathlib.Core.Bool.{Bool, true, false, cond}
-use mathlib.Core.List.{List, [], _∷_, _++_, append-assoc, append-nil}
+use mathlib.Core.List.{List, [], _∷_, _++_, append-nil}
 use native.Mathlib.Omega.{arith}
-use lib.ListN.{length, getD, set, take, drop, length-append, length-drop, drop-of-length-le, List·getD-eq-default}
+use lib.ListN.{length, getD, set, take, drop, length-drop, drop-of-length-le, List·getD-eq-default}
 use lib.Seq.{sets, set-set, set-comm, take-all, length-take-le}
 use lib.Dec.{leb}
 use borrow.Author.Tests.{leb-true}
@@ -14,7 +14,6 @@ use Rattle.peer.proofs.Runs.{sets-cons}
 use Rattle.contacts.specs.Table.{putSlot}
 use Rattle.sightings.specs.Order.{contactBytes}
 use Rattle.peer.specs.declared.Peer.{Peer}
-use Rattle.flat.specs.Promises.{Whole}
 use Rattle.flat.specs.Flat.{peerBytes, peerIn}
 use Rattle.contact_slots.specs.declared.Contact.{Contact}
 use Rattle.contact_slots.specs.Slots.{slotBytes, contactIn, enough}

@@ -1,14 +1,14 @@
 -- The bytes of a list of contacts, slot by slot. Assumes nothing.
-use Prim.Native.Nat.{ℕ, zero, suc, _+_, _-_, _*_, _/_, _<_, _≤_}
+use Prim.Native.Nat.{ℕ, zero, suc, _+_, _-_, _*_, _<_, _≤_}
 use mathlib.Core.Path.{_≡_, refl, sym, ap, ap₂, _∙_}
-use mathlib.Core.Bool.{Bool, true, false, cond}
+use mathlib.Core.Bool.{true, cond}
 use mathlib.Core.List.{List, [], _∷_, _++_, append-assoc, append-nil}
 use native.Mathlib.Omega.{arith}
-use lib.ListN.{length, getD, set, take, drop, length-append, length-take, length-drop}
-use lib.Seq.{sets, sets-eq, take-append-le, drop-append-le, drop-append-add, drop-at, take-at, take-suc, take-length, drop-length, drop-drop, set-at, drop-cons, append-snoc, set-getD}
-use mathlib.Core.Logic.{_⊎_, inl, inr}
+use lib.ListN.{length, getD, set, take, drop, length-append, length-drop}
+use lib.Seq.{sets-eq, take-append-le, drop-append-le, drop-at, take-at, take-suc, take-length, drop-length, drop-drop, set-at, drop-cons, append-snoc, set-getD}
+use mathlib.Core.Logic.{inl, inr}
 use Rattle.octets.proofs.Bools.{either, cond-yes, cond-no, cond-ind}
-use Rattle.contacts.specs.Table.{slotSize, slot, putSlot}
+use Rattle.contacts.specs.Table.{slot, putSlot}
 use Rattle.contact_slots.specs.declared.Contact.{Contact}
 use Rattle.contact_slots.specs.Slots.{slotBytes, contactIn, tableBytes, contactsIn, enough, withTable, contactFrom}
 use Rattle.contact_slots.proofs.Laws.{enough-fits, enough-same}

@@ -16,7 +16,7 @@ use Rattle.contact_calls.specs.declared.SettleOutcome.{SettleOutcome}
 use Rattle.contact_calls.specs.declared.SettleOutcome.the-variants as settle
 use Rattle.contact_calls.specs.declared.RemoveOutcome.{RemoveOutcome}
 use Rattle.contact_calls.specs.declared.RemoveOutcome.the-variants as remove
-use Rattle.host_calls.specs.Hosts.{seenOf, seenAfter, settleOf, settleAfter, removeOf, removeAfter}
+use Rattle.host_calls.specs.Hosts.{seenOf, settleOf, removeOf}
 use Rattle.contact_slots.specs.declared.Contact.{Contact}
 
 -- ---- one contact

@@ -1,5 +1,5 @@
-// A contact as a struct, in the slot of a table of flat bytes, and the contact calls on a table that lies at the start of the room that a host lends. Every function takes any numbers
-// and any bytes; what lies past their end reads as zeros, and what would be written there is left out.
+// A contact as a struct, in the slot of a table of flat bytes, and the contact calls on a table that lies at the start of the room that a host
+// lends. Every function takes any numbers and any bytes; what lies past their end reads as zeros, and what would be written there is left out.
 use contact_calls::RemoveOutcome;
 use contact_calls::SeenOutcome;
 use contact_calls::SettleOutcome;

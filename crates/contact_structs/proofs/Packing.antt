@@ -2,7 +2,7 @@
 --     packs      the contacts are lent as a `&` and the room again, `pack` is called, and both come back, the room with the contacts laid out
 --     unpacks    the contacts are lent again and the room as a `&`, `unpack` is called, and both come back, the contacts as the room has them
 -- All that they know of the two is that each meets its contract. Assumes `Given`.
-use mathlib.Core.Path.{_≡_, refl, _∙_}
+use mathlib.Core.Path.{_≡_, refl}
 use Prim.Native.Nat.{ℕ, _*_}
 use mathlib.Core.List.{List, [], _∷_}
 use lib.Dec.{T as Holds}
@@ -37,7 +37,7 @@ use Rattle.contact_slots.specs.declared.Contact.{Contact}
 use Rattle.contact_slots.specs.Slots.{tableBytes}
 use Rattle.contact_slots.proofs.Contact as T
 use Rattle.contact_structs.specs.Structs.{contactsAfter, roomAfter}
-use Rattle.contact_structs.proofs.Again.{LentAgain, SharedOut, lends, takes, shows-out, shuts}
+use Rattle.contact_structs.proofs.Again.{lends, takes, shows-out, shuts}
 use Rattle.contact_structs.proofs.pack as pk
 use Rattle.contact_structs.proofs.pack.Symbol.{name as #pk}
 use Rattle.contact_structs.proofs.unpack as un

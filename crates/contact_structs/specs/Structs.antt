@@ -1,5 +1,5 @@
--- Seen, settle and remove on contacts that sit in a list of structs lent by the host: document 01, 'Distance and contacts'. Each is host_calls' on the bytes of the contacts, which are laid out in
--- the room that the host lends beside them: 616 bytes for each, else refusal 0, and nothing changes.
+-- Seen, settle and remove on contacts that sit in a list of structs lent by the host: document 01, 'Distance and contacts'. Each is host_calls' on the
+-- bytes of the contacts, which are laid out in the room that the host lends beside them: 616 bytes for each, else refusal 0, and nothing changes.
 use Prim.Native.Nat.{ℕ}
 use mathlib.Core.Bool.{Bool, cond}
 use mathlib.Core.List.{List}

@@ -1,5 +1,5 @@
-// Seen, settle and remove on contacts that sit in a list of structs lent by the host, above the core on flat bytes. The host lends room for the contacts' bytes too: 616 for each, else refusal 0.
-// Every function takes any contacts and any bytes.
+// Seen, settle and remove on contacts that sit in a list of structs lent by the host, above the core on flat bytes. The host lends room for the
+// contacts' bytes too: 616 for each, else refusal 0. Every function takes any contacts and any bytes.
 use contact_calls::RemoveOutcome;
 use contact_calls::SeenOutcome;
 use contact_calls::SettleOutcome;

@@ -14,7 +14,7 @@ use base.Logic.{ent, sep, ex}
 use base.Fml.{Lft, GName, Fml, fsep, fat, flent, fdead}
 use prog.Wp.{Heap}
 use ghost.Atoms.{Atoms, sem}
-use types.Kit.{Given, ‵, _⊛_, some, later, _$_, _∵_, !, qed, move, use1, use3, drop, rewrite, split, pick, fsplit, fjoin, fpick, fpack, feqI, await, updating, now as at-once, show, done}
+use types.Kit.{Given, ‵, _⊛_, some, later, _$_, _∵_, !, qed, move, use1, use3, drop, rewrite, pick, fsplit, fjoin, fpick, fpack, feqI, await, updating, now as at-once, show, done}
 use types.SemTy.{cells, Arr}
 use types.Share.{arr-parts}
 use denote.RattleType.{RattleType}

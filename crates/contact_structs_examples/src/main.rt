@@ -1,5 +1,5 @@
-// A box that holds room for two contacts, as structs: two peers of one bucket are seen, then the first again, and at last a peer with too little room lent. It writes both contacts after each call: the id's first
-// byte and the rank plus 1, or - for a free slot.
+// A box with room for two contacts, held as structs: two peers of one bucket are seen, then the first again, and at last the second with too
+// little room lent. It writes both contacts after each call: the id's first byte and the rank plus 1, or - for a free slot.
 use contact_slots::Contact;
 use peer::Peer;
 ghost use mathlib.Core.Path.{_≡_};

@@ -38,8 +38,8 @@ struct Asking {
     connection: Connection,
     peer: Known,
     waiting: VecDeque<Waiting>,
-    /// When the last byte came, or the last request went.
-    moved: u64,
+    /// Since when the first of these is awaited: bytes that come to nothing gain a peer no time.
+    since: u64,
 }
 
 enum End {
@@ -176,7 +176,6 @@ impl Bench {
 
     /// Takes what answers our requests. False where a message was refused.
     fn hear(&mut self, asking: &mut Asking, piece: &[u8], around: &mut Around) -> bool {
-        asking.moved = around.net.now();
         let mut rest = piece;
         while !rest.is_empty() {
             let received = self.node.receive(&mut asking.connection, rest);
@@ -184,6 +183,9 @@ impl Bench {
             match received.event {
                 Event::Heard(message) => {
                     let waiting = asking.waiting.pop_front();
+                    if waiting.is_some() {
+                        asking.since = around.net.now();
+                    }
                     self.heard(&asking.peer, waiting, &message, around);
                 }
                 Event::Refused(refusal) => {
@@ -230,6 +232,9 @@ impl Bench {
         match end {
             End::Asking(mut asking) => {
                 self.end(&mut asking.connection, around);
+                if !asking.waiting.is_empty() {
+                    self.rest(&asking.peer, around);
+                }
                 for waiting in asking.waiting {
                     self.failed(&asking.peer, waiting, around);
                 }
@@ -247,9 +252,17 @@ impl Bench {
         }
     }
 
+    /// Who failed isn't asked for a while, and what would be asked of it fails at once.
+    fn rest(&mut self, peer: &Known, around: &Around) {
+        self.resting.insert(peer.id.clone(), around.net.now() + 20 * around.net.patience());
+    }
+
+    fn rests(&self, peer: &Known, around: &Around) -> bool {
+        self.resting.get(&peer.id).is_some_and(|until| around.net.now() < *until)
+    }
+
     fn failed(&mut self, peer: &Known, waiting: Waiting, around: &mut Around) {
         around.tally.failures += 1;
-        self.resting.insert(peer.id.clone(), around.net.now() + 20 * around.net.patience());
         match waiting {
             Waiting::Job(number, why) => {
                 // it may be no contact: then there is nothing to take out
@@ -309,13 +322,19 @@ impl Bench {
 
     /// Sends a request, on a connection that is there or on a new one.
     fn send(&mut self, peer: Known, message: &[u8], waiting: Waiting, around: &mut Around) {
-        let now = around.net.now();
-        let link = if self.resting.get(&peer.id).is_some_and(|until| now < *until) { None } else { self.link_to(&peer, around) };
-        let Some(link) = link else { return self.failed(&peer, waiting, around) };
+        if self.rests(&peer, around) {
+            return self.failed(&peer, waiting, around);
+        }
+        let Some(link) = self.link_to(&peer, around) else {
+            self.rest(&peer, around);
+            return self.failed(&peer, waiting, around);
+        };
         around.send(link, message);
         if let Some(End::Asking(asking)) = self.links.get_mut(&link) {
+            if asking.waiting.is_empty() {
+                asking.since = around.net.now();
+            }
             asking.waiting.push_back(waiting);
-            asking.moved = now;
         }
     }
 
@@ -330,7 +349,7 @@ impl Bench {
         let link = peer.addresses.iter().find_map(|address| around.net.dial(self.number, address))?;
         let greeting = self.greeting();
         around.net.send(link, &greeting);
-        self.links.insert(link, End::Asking(Asking { connection, peer: peer.clone(), waiting: VecDeque::new(), moved: 0 }));
+        self.links.insert(link, End::Asking(Asking { connection, peer: peer.clone(), waiting: VecDeque::new(), since: 0 }));
         Some(link)
     }
 
@@ -353,7 +372,7 @@ impl Bench {
     /// Who let too much time pass has failed.
     fn time_out(&mut self, around: &mut Around) {
         let (now, patience) = (around.net.now(), around.net.patience());
-        let late = |end: &End| matches!(end, End::Asking(asking) if !asking.waiting.is_empty() && asking.moved + patience < now);
+        let late = |end: &End| matches!(end, End::Asking(asking) if !asking.waiting.is_empty() && asking.since + patience < now);
         let links: Vec<Link> = self.links.iter().filter(|(_, end)| late(end)).map(|(link, _)| *link).collect();
         for link in links {
             around.net.close(link);

@@ -38,7 +38,7 @@ pub trait Net {
     fn poll(&mut self) -> Vec<News>;
     /// The time in ticks.
     fn now(&self) -> u64;
-    /// After how many ticks without a byte a peer counts as silent.
+    /// After how many ticks without an answer a peer counts as silent.
     fn patience(&self) -> u64;
     fn traffic(&self) -> Traffic;
 }

@@ -18,8 +18,14 @@ const SILENT: &str = "#c98a1b";
 const LIAR: &str = "#c23b33";
 const PAPER: &str = "#fbfaf6";
 
-const STYLE: &str = "text { font-family: 'Helvetica Neue', Helvetica, Arial, sans-serif; fill: #22313a; } .edge { fill: none; stroke-width: 1.1; } \
-.honest { stroke: #1f6f8b; stroke-opacity: .26; } .silent { stroke: #c98a1b; stroke-opacity: .5; } .liar { stroke: #c23b33; stroke-opacity: .34; }";
+const TEXT: &str = "text { font-family: 'Helvetica Neue', Helvetica, Arial, sans-serif; fill: #22313a; } .edge { fill: none; stroke-width: 1.1; }";
+
+/// The colours of lines: the fewer there are, the stronger.
+fn style(benches: usize) -> String {
+    let strength = (40.0 / benches as f64).clamp(0.7, 2.5);
+    let line = |class, colour, opacity: f64| format!(" .{class} {{ stroke: {colour}; stroke-opacity: {:.2}; }}", (opacity * strength).min(0.9));
+    [TEXT.to_string(), line("honest", HONEST, 0.26), line("silent", SILENT, 0.5), line("liar", LIAR, 0.34)].concat()
+}
 
 fn colour(role: &Role) -> &'static str {
     match role {
@@ -60,7 +66,7 @@ pub fn draw(benches: &[Bench], subtitle: &str) -> String {
     let step = TAU / benches.len() as f64;
     let angles: BTreeMap<usize, f64> = order.iter().enumerate().map(|(n, bench)| (*bench, n as f64 * step - TAU / 4.0)).collect();
     let _ = writeln!(svg, r#"<svg xmlns="http://www.w3.org/2000/svg" viewBox="0 0 {WIDTH} {HEIGHT}" role="img" aria-label="Who knows whom">"#);
-    let _ = writeln!(svg, r#"<style>{STYLE}</style><rect width="100%" height="100%" fill="{PAPER}"/>"#);
+    let _ = writeln!(svg, r#"<style>{}</style><rect width="100%" height="100%" fill="{PAPER}"/>"#, style(benches.len()));
     let _ = writeln!(svg, r#"<text x="48" y="72" font-size="34" font-weight="600">Who knows whom</text>"#);
     let _ = writeln!(svg, r#"<text x="48" y="104" font-size="17" fill-opacity=".75">{subtitle}</text>"#);
     edges(&mut svg, benches, &angles);

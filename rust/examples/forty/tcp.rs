@@ -1,4 +1,4 @@
-//! A net over TCP on this machine: sockets that don't block, read into buffers of random size. A tick is a millisecond.
+//! A net over TCP on this machine: sockets that don't block, read into buffers of random size. A tick is a millisecond of its own clock.
 
 use crate::net::{ip_and_port, multiaddr, Link, Net, News, Traffic, What};
 use crate::rng::Rng;
@@ -6,6 +6,10 @@ use std::collections::{BTreeMap, VecDeque};
 use std::io::{self, ErrorKind, Read, Write};
 use std::net::{Ipv4Addr, TcpListener, TcpStream};
 use std::time::{Duration, Instant};
+
+/// No more time than this passes between two looks at the sockets, however busy the machine is: all benches are in one process, and one that had no time to
+/// answer isn't silent.
+const LONGEST_STEP: Duration = Duration::from_millis(20);
 
 struct End {
     bench: usize,
@@ -20,7 +24,8 @@ pub struct Tcp {
     listeners: Vec<TcpListener>,
     ends: BTreeMap<Link, End>,
     last: Link,
-    start: Instant,
+    clock: Duration,
+    looked: Instant,
     rng: Rng,
     traffic: Traffic,
 }
@@ -34,7 +39,8 @@ impl Tcp {
             listener.set_nonblocking(true)?;
             listeners.push(listener);
         }
-        Ok(Tcp { listeners, ends: BTreeMap::new(), last: 0, start: Instant::now(), rng: Rng(seed), traffic: Traffic::default() })
+        let (rng, traffic) = (Rng(seed), Traffic::default());
+        Ok(Tcp { listeners, ends: BTreeMap::new(), last: 0, clock: Duration::ZERO, looked: Instant::now(), rng, traffic })
     }
 
     fn add(&mut self, bench: usize, stream: TcpStream) -> Option<Link> {
@@ -114,6 +120,8 @@ impl Net for Tcp {
     }
 
     fn poll(&mut self) -> Vec<News> {
+        self.clock += self.looked.elapsed().min(LONGEST_STEP);
+        self.looked = Instant::now();
         let mut news = Vec::new();
         self.accept(&mut news);
         let (rng, traffic) = (&mut self.rng, &mut self.traffic);
@@ -138,11 +146,11 @@ impl Net for Tcp {
     }
 
     fn now(&self) -> u64 {
-        self.start.elapsed().as_millis() as u64
+        self.clock.as_millis() as u64
     }
 
     fn patience(&self) -> u64 {
-        500
+        300
     }
 
     fn traffic(&self) -> Traffic {

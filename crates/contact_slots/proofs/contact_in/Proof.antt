@@ -3,11 +3,6 @@ use Rattle.contact_slots.proofs.Laws.{in-done}
 use borrow.Author.Needs.{needs}
 use Rattle.contact_slots.proofs.contact_in.Statement.{statement}
 use Rattle.contact_slots.proofs.contact_in.Tie as tie
-use Rattle.contact_slots.proofs.contact_in.Reads as reads
-use Rattle.contact_slots.proofs.contact_in.Lts as lts
-use Rattle.contact_slots.proofs.first.Reads as first-reads
-use Rattle.contacts.proofs.slot_of.Reads as slot-of-reads
-use Rattle.flat.proofs.peer_in.Reads as peer-in-reads
 
 slot-of-requires : tie.Need-slot-of-requires
 slot-of-requires c κs = search needs

@@ -3,8 +3,6 @@ use Rattle.contact_slots.proofs.Laws.{none-first}
 use borrow.Author.Needs.{needs}
 use Rattle.contact_slots.proofs.first.Statement.{statement}
 use Rattle.contact_slots.proofs.first.Tie as tie
-use Rattle.contact_slots.proofs.first.Reads as reads
-use Rattle.contact_slots.proofs.first.Lts as lts
 
 shared-slice-read-result : tie.Need-shared-slice-read-result
 shared-slice-read-result c = search needs

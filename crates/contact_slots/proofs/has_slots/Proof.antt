@@ -3,8 +3,6 @@ use mathlib.Core.Path.{refl}
 use Rattle.contact_slots.specs.Slots.{enough}
 use Rattle.contact_slots.proofs.has_slots.Statement.{statement}
 use Rattle.contact_slots.proofs.has_slots.Tie as tie
-use Rattle.contact_slots.proofs.has_slots.Reads as reads
-use Rattle.contact_slots.proofs.has_slots.Lts as lts
 
 returns : tie.Need-returns
 unfolding enough

@@ -7,10 +7,6 @@ use Rattle.contact_slots.proofs.Back.{length-slot}
 use borrow.Author.Needs.{needs}
 use Rattle.contact_slots.proofs.lay.Statement.{statement}
 use Rattle.contact_slots.proofs.lay.Tie as tie
-use Rattle.contact_slots.proofs.lay.Reads as reads
-use Rattle.contact_slots.proofs.lay.Lts as lts
-use Rattle.contact_slots.proofs.has_slots.Reads as has-slots-reads
-use Rattle.contact_slots.proofs.put_contact.Reads as put-contact-reads
 
 whole : (c : tie.Start) → Whole (c .args .c .peer)
 whole c =

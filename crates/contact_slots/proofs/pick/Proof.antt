@@ -5,10 +5,6 @@ use Rattle.contact_slots.proofs.Laws.{if-enough, if-short}
 use borrow.Author.Needs.{needs}
 use Rattle.contact_slots.proofs.pick.Statement.{statement}
 use Rattle.contact_slots.proofs.pick.Tie as tie
-use Rattle.contact_slots.proofs.pick.Reads as reads
-use Rattle.contact_slots.proofs.pick.Lts as lts
-use Rattle.contact_slots.proofs.contact_in.Reads as contact-in-reads
-use Rattle.contact_slots.proofs.has_slots.Reads as has-slots-reads
 
 has-slots-requires : tie.Need-has-slots-requires
 has-slots-requires c κs = search needs

@@ -4,9 +4,6 @@ use Rattle.contact_slots.proofs.Laws.{put-past, put-end, put-done}
 use borrow.Author.Needs.{needs}
 use Rattle.contact_slots.proofs.put_contact.Statement.{statement}
 use Rattle.contact_slots.proofs.put_contact.Tie as tie
-use Rattle.contact_slots.proofs.put_contact.Reads as reads
-use Rattle.contact_slots.proofs.put_contact.Lts as lts
-use Rattle.flat.proofs.put_peer.Reads as put-peer-reads
 
 returns : tie.Need-returns
 returns c = put-past (c .before .before .args .bytes .now) (c .before .before .args .i) (c .before .before .args .c) (c .if1 .taken)

@@ -10,10 +10,6 @@ use Rattle.contact_slots.proofs.Laws.{if-enough, if-short, slots-fit, c
 use borrow.Author.Needs.{needs}
 use Rattle.contact_slots.proofs.settle_in.Statement.{statement}
 use Rattle.contact_slots.proofs.settle_in.Tie as tie
-use Rattle.contact_slots.proofs.settle_in.Reads as reads
-use Rattle.contact_slots.proofs.settle_in.Lts as lts
-use Rattle.contact_slots.proofs.has_slots.Reads as has-slots-reads
-use Rattle.host_calls.proofs.settle.Reads as settle-reads
 
 has-slots-requires : tie.Need-has-slots-requires
 has-slots-requires c κs = search needs

@@ -1,13 +1,13 @@
 -- `unpack` meets its contract: a walk of its MIR, by hand, with a loop. Each turn opens the slice of contacts, copies contact i, calls `pick` on the copy, and stores what it returns in contact i's place.
 -- The invariant: the contacts up to i are taken from the room. Assumes nothing.
 use mathlib.Core.Path.{_≡_, refl, sym, ap, subst, _∙_}
-use Prim.Native.Nat.{ℕ, suc, _+_, _-_, _<_, _≤_, _^_, _*_}
+use Prim.Native.Nat.{ℕ, _+_, _-_, _<_, _≤_, _^_, _*_}
 use mathlib.Core.List.{List, [], _∷_}
 use native.Mathlib.Omega.{arith}
 use native.Mathlib.Numerals.{add-one}
 use native.Mathlib.Nat.{eq-or-lt-of-le}
 use mathlib.Core.Bool.{Bool}
-use mathlib.Core.Logic.{_⊎_, inl, inr}
+use mathlib.Core.Logic.{inl, inr}
 use mathlib.Core.WellFounded.{WellFounded, InvImage·wf}
 use lib.WfN.{Nat·lt-wfRel}
 use lib.Dec.{lit<}
@@ -25,7 +25,7 @@ use prog.Wp.{Heap, Calls, Loops, Env, Out, Wp, WpFn, Tables, afterTurn, afterBlo
 use ghost.Atoms.{Atoms, sem}
 use contract.Monad.{Fun, fact}
 use contract.Running.{givenOf, tables, tablesOf}
-use types.Kit.{Given, Item, Sq, runs, anyQ, atRet, raw, some, later, use1, use2, pick, await, drop, ‵, _⊛_, ⋆, _$_, _∵_, !, qed, by, move, keep, split, join, rewrite, fsplit, fjoin, feqI, suffices, frame, done}
+use types.Kit.{Given, Item, Sq, runs, anyQ, atRet, raw, some, later, use1, use2, pick, await, ‵, _⊛_, ⋆, _$_, _∵_, !, qed, by, move, keep, split, join, rewrite, fsplit, fjoin, feqI, suffices, frame, done}
 use types.Part.{whole, sub, look-in}
 use types.Run.{look, look-raw, init, store, store-raw, land, and-then, no-more, first, blocks, stays, leaves-loop, exec, assigns-last, Below, loops, again, unit-lit, forget, stop, hop, fld, from, load, lit, of-opd, bin, assigns, returns, enter, alloc1, alloc0, params1, pass1, pass0, free1, free0}
 use sound.WpLaws.{fmOf, WpFn-mono}
@@ -51,7 +51,7 @@ use denote.Triple.Table.{entered, cited}
 use denote.Triple.Walked.{says, Stays, stay-none-slice, stay-slice, walkOf, goes-none-slice, goes-slice, Walks, ends-at, walked, walk-meets}
 use denote.Exit.{yes}
 use Rattle.contact_slots.specs.declared.Contact.{Contact}
-use Rattle.contact_slots.specs.Slots.{contactIn, contactsIn, enough, contactFrom}
+use Rattle.contact_slots.specs.Slots.{contactIn, contactFrom}
 use Rattle.contact_slots.proofs.Rows.{takenTo, taken-none, taken-all, taken-more}
 use Rattle.contact_structs.specs.Structs.{contactsAfter}
 use Rattle.contact_slots.proofs.Contact as T

@@ -26,7 +26,7 @@ use sound.WpLaws.{FmC, fmOf, WpFn-mono}
 use denote.RattleType.{owns}
 use denote.Laws.{Is, shows}
 use denote.Plain.{Boolean, bool-makes}
-use denote.Array.{array-vals, array-tells, array-makes, array-lawful}
+use denote.Array.{array-vals, array-tells, array-lawful}
 use denote.Builtin.{u8}
 use denote.Ref.{RefT}
 use denote.Signature.{plain}
