@@ -38,7 +38,7 @@ use Rattle.node.specs.declared.Gate.the-variants.{Open, Closed}
 use Rattle.node.specs.Box.{ownFits, nobody, startOf, withFraming, openOf, connForm, endConn}
 use Rattle.node.specs.Node.{Dealing, Out, gateOf, done, shutIf, dealingOf, heard, receiveOf}
 use Rattle.host_calls.specs.Hosts.{seenOf, seenAfter, settleOf, settleAfter, removeOf, removeAfter, nearestTo}
-use Rattle.host_calls.proofs.Hosting.{seen-on, seen-off, settle-on, settle-off, remove-on, remove-off}
+use Rattle.host_contacts.proofs.Hosting.{seen-on, seen-off, settle-on, settle-off, remove-on, remove-off}
 use Rattle.answer_promises.proofs.Promised.{refused-changes-nothing}
 use Rattle.node_promises.specs.Promises.{Unchanged, NotTaken, Early, Refuses, ReceiveRefused, CallsRefused, ValuesRefused}
 use Rattle.node_promises.proofs.Cases.{deal-cases, afterwards, cases, open-cases}

@@ -1,10 +1,10 @@
--- `host_calls::seen` meets its contract. Assumes nothing.
+-- `host_contacts::seen` meets its contract. Assumes nothing.
 use mathlib.Core.Path.{sym, _∙_}
 use borrow.Author.Tests.{not-true, not-false}
-use Rattle.host_calls.proofs.Hosting.{seen-off, seen-on}
+use Rattle.host_contacts.proofs.Hosting.{seen-off, seen-on}
 use borrow.Author.Needs.{needs}
-use Rattle.host_calls.proofs.seen.Statement.{statement}
-use Rattle.host_calls.proofs.seen.Tie as tie
+use Rattle.host_contacts.proofs.seen.Statement.{statement}
+use Rattle.host_contacts.proofs.seen.Tie as tie
 
 own-fits-requires : tie.Need-own-fits-requires
 own-fits-requires c κs = search needs

@@ -1,9 +1,9 @@
--- `host_calls::own_size` meets its contract. Assumes nothing.
+-- `host_lookups::own_size` meets its contract. Assumes nothing.
 use mathlib.Core.Path.{sym, _∙_}
-use Rattle.host_calls.proofs.Hosting.{size-own, size-nobody}
+use Rattle.host_lookups.proofs.Hosting.{size-own, size-nobody}
 use borrow.Author.Needs.{needs}
-use Rattle.host_calls.proofs.own_size.Statement.{statement}
-use Rattle.host_calls.proofs.own_size.Tie as tie
+use Rattle.host_lookups.proofs.own_size.Statement.{statement}
+use Rattle.host_lookups.proofs.own_size.Tie as tie
 
 own-fits-requires : tie.Need-own-fits-requires
 own-fits-requires c κs = search needs

@@ -1,9 +1,9 @@
--- `host_calls::refusal_of_box` meets its contract. Assumes nothing.
+-- `host_contacts::refusal_of_box` meets its contract. Assumes nothing.
 use mathlib.Core.Path.{sym, _∙_}
-use Rattle.host_calls.proofs.Hosting.{box-form, box-broken}
+use Rattle.host_contacts.proofs.Hosting.{box-form, box-broken}
 use borrow.Author.Needs.{needs}
-use Rattle.host_calls.proofs.refusal_of_box.Statement.{statement}
-use Rattle.host_calls.proofs.refusal_of_box.Tie as tie
+use Rattle.host_contacts.proofs.refusal_of_box.Statement.{statement}
+use Rattle.host_contacts.proofs.refusal_of_box.Tie as tie
 
 in-form-requires : tie.Need-in-form-requires
 in-form-requires c κs = search needs

@@ -1,10 +1,10 @@
--- `host_calls::remove` meets its contract. Assumes nothing.
+-- `host_contacts::remove` meets its contract. Assumes nothing.
 use mathlib.Core.Path.{sym, _∙_}
 use borrow.Author.Tests.{not-true, not-false}
-use Rattle.host_calls.proofs.Hosting.{remove-off, remove-on}
+use Rattle.host_contacts.proofs.Hosting.{remove-off, remove-on}
 use borrow.Author.Needs.{needs}
-use Rattle.host_calls.proofs.remove.Statement.{statement}
-use Rattle.host_calls.proofs.remove.Tie as tie
+use Rattle.host_contacts.proofs.remove.Statement.{statement}
+use Rattle.host_contacts.proofs.remove.Tie as tie
 
 own-fits-requires : tie.Need-own-fits-requires
 own-fits-requires c κs = search needs

@@ -1,10 +1,10 @@
--- `host_calls::settle` meets its contract. Assumes nothing.
+-- `host_contacts::settle` meets its contract. Assumes nothing.
 use mathlib.Core.Path.{sym, _∙_}
 use borrow.Author.Tests.{not-true, not-false}
-use Rattle.host_calls.proofs.Hosting.{settle-off, settle-on}
+use Rattle.host_contacts.proofs.Hosting.{settle-off, settle-on}
 use borrow.Author.Needs.{needs}
-use Rattle.host_calls.proofs.settle.Statement.{statement}
-use Rattle.host_calls.proofs.settle.Tie as tie
+use Rattle.host_contacts.proofs.settle.Statement.{statement}
+use Rattle.host_contacts.proofs.settle.Tie as tie
 
 own-fits-requires : tie.Need-own-fits-requires
 own-fits-requires c κs = search needs

@@ -1,0 +1,39 @@
+-- The host's calls on contacts, for a box: document 01, 'Distance and contacts'. As in contact_calls, and 12 where the box handed in has an id that no
+-- start gives, in the order of the refusal numbers.
+use Prim.Native.Nat.{ℕ}
+use mathlib.Core.Bool.{Bool, cond, not}
+use mathlib.Core.List.{List}
+use Rattle.refusal.specs.declared.Refusal.the-variants.{OutOfForm, BadPeer}
+use Rattle.peer.specs.declared.Peer.{Peer}
+use Rattle.contacts.specs.Form.{inForm}
+use Rattle.contact_calls.specs.declared.SeenOutcome.{SeenOutcome}
+use Rattle.contact_calls.specs.declared.SeenOutcome.the-variants as seen
+use Rattle.contact_calls.specs.declared.SettleOutcome.{SettleOutcome}
+use Rattle.contact_calls.specs.declared.SettleOutcome.the-variants as settle
+use Rattle.contact_calls.specs.declared.RemoveOutcome.{RemoveOutcome}
+use Rattle.contact_calls.specs.declared.RemoveOutcome.the-variants as remove
+use Rattle.contact_calls.specs.Calls.{seenCall, seenCallTable, settleCall, settleCallTable, removeCall, removeCallTable}
+use Rattle.node.specs.Box.{ownFits}
+
+-- 0, then 12
+abbrev pub gated : {A : Type 0} → Peer → List ℕ → A → A → A → A
+gated me t zero twelve rest = cond (not (inForm t (me .place))) zero (cond (not (ownFits me)) twelve rest)
+
+unfoldable pub seenOf : Peer → List ℕ → List ℕ → Bool → SeenOutcome
+seenOf me t id client = gated me t (seen.Refused OutOfForm) (seen.Refused BadPeer) (seenCall t (me .place) id client)
+
+unfoldable pub seenAfter : Peer → List ℕ → List ℕ → Bool → List ℕ → List ℕ
+seenAfter me t id client addresses = cond (ownFits me) (seenCallTable t (me .place) id client addresses) t
+
+unfoldable pub settleOf : Peer → List ℕ → List ℕ → List ℕ → Bool → Bool → SettleOutcome
+settleOf me t head id client answered =
+    gated me t (settle.Refused OutOfForm) (settle.Refused BadPeer) (settleCall t (me .place) head id client answered)
+
+unfoldable pub settleAfter : Peer → List ℕ → List ℕ → List ℕ → Bool → List ℕ → Bool → List ℕ
+settleAfter me t head id client addresses answered = cond (ownFits me) (settleCallTable t (me .place) head id client addresses answered) t
+
+unfoldable pub removeOf : Peer → List ℕ → List ℕ → RemoveOutcome
+removeOf me t id = gated me t (remove.Refused OutOfForm) (remove.Refused BadPeer) (removeCall t (me .place) id)
+
+unfoldable pub removeAfter : Peer → List ℕ → List ℕ → List ℕ
+removeAfter me t id = cond (ownFits me) (removeCallTable t (me .place) id) t

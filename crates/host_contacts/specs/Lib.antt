@@ -1,0 +1,2 @@
+pub mod Contacts
+pub mod Inner
