@@ -16,7 +16,7 @@ use Rattle.octets.proofs.Bools.{either, to-false, not-both}
 use Rattle.octets.proofs.Searching.{some-at, some-intro, every-nil, every-cons}
 use Rattle.contacts.specs.Table.{slot, place}
 use Rattle.contacts.specs.Contact.{entryId, entryAddress, entryCount, entryAddressesTo, entryAddresses}
-use Rattle.contacts.proofs.EntryFacts.{entry-id-most, entry-address-most, entry-count-most}
+use Rattle.contact_form.proofs.EntryFacts.{entry-id-most, entry-address-most, entry-count-most}
 use Rattle.peer.specs.declared.Peer as peers
 use Rattle.peer.specs.Addresses.{addressRoom, mostAddresses}
 use Rattle.peer.specs.Peers.{idIn, addressIn, addressesTo, addressesIn}

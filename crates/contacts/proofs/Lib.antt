@@ -1,10 +1,4 @@
-pub mod Cuts
-pub mod FormFacts
-pub mod Crowds
-pub mod EntryFacts
-mod FieldTests
-mod Pairs
-mod Index
 pub mod Sorting
 pub mod TwentyNearest
+mod Pairs
 mod Shifts

@@ -18,9 +18,9 @@ use Rattle.contacts.specs.Table.{slotsOf, slot, used, place}
 use Rattle.contacts.specs.Form.{inForm as inFormTable}
 use Rattle.contacts.specs.Contact.{entryId}
 use Rattle.contacts.specs.Near.{far, nearestSlots}
-use Rattle.contacts.proofs.Cuts.{slot-whole, place-size, bytes-place}
-use Rattle.contacts.proofs.FormFacts.{InForm, form-elim}
-use Rattle.contacts.proofs.EntryFacts.{entry-id-most, form-entry}
+use Rattle.contact_slots.proofs.Cuts.{slot-whole, place-size, bytes-place}
+use Rattle.contact_form.proofs.FormFacts.{InForm, form-elim}
+use Rattle.contact_form.proofs.EntryFacts.{entry-id-most, form-entry}
 use Rattle.contacts.proofs.TwentyNearest.{nearest-are, nearest-strict}
 use Rattle.lookup_marks.specs.Marks.{idle, flying, answered, failed}
 use Rattle.lookup.specs.Lookup.{room, idMost, keyMost, limitMost, candidatesOf, wellMade, follow, nearestFirst, inForm, turnAway, put, mark, idFits, padded, fresh, known, enter, meet, hear, hearAll, nobody, contactAt, firstOnes, begun, keyFits, limitFits, startOf}

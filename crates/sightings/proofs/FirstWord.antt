@@ -15,7 +15,7 @@ use Rattle.octets.proofs.Bools.{either, to-false, and-l, and-r, and-on, and-off
 use Rattle.place.specs.Place.{bits, common, bucketOf}
 use Rattle.place.proofs.Buckets.{bucket-places, word-same, word-other}
 use Rattle.contacts.specs.Table.{slotsOf, slot, place}
-use Rattle.contacts.proofs.Cuts.{place-size, slot-whole, bytes-place}
+use Rattle.contact_slots.proofs.Cuts.{place-size, slot-whole, bytes-place}
 use Rattle.sightings.specs.Order.{isAt}
 use Rattle.sightings.specs.Inner.{Sieves, siftedOut}
 use Rattle.sightings.specs.declared.Sieve.{Sieve}

@@ -14,7 +14,7 @@ use borrow.Author.Tests.{lt-ltb, le-ltb, eq-eqb, ne-eqb}
 use Rattle.octets.proofs.Bools.{and-i, and-off, and-fails, either, cond-yes, cond-no}
 use Rattle.octets.proofs.Stores.{sets-append}
 use Rattle.place.specs.Place.{bucketOf}
-use Rattle.contacts.proofs.Cuts.{mark-used}
+use Rattle.contact_slots.proofs.Cuts.{mark-used}
 use Rattle.contacts.specs.Table.{slotsOf, slot, putSlot, mark, place}
 use Rattle.peer.specs.declared.Peer.{Peer}
 use Rattle.sightings.specs.Order.{ofBucket, freeAt, tailOf, withMark, contactBytes, freeBytes, withAddresses, renewed, lowered, each, closeUp, leave, tailed, moveToTail, moveAndRenew, dropped, joinAt, join}

@@ -11,7 +11,7 @@ use Rattle.octets.proofs.Bools.{not-both, either, eq-or-ne, cond-yes, cond-no}
 use Rattle.place.specs.Place.{placeOf, bucketOf}
 use Rattle.contacts.specs.Table.{bucketSize, slotsOf, slot, used, place, id}
 use Rattle.contacts.specs.Form.{inForm}
-use Rattle.contacts.proofs.FormFacts.{form-elim}
+use Rattle.contact_form.proofs.FormFacts.{form-elim}
 use Rattle.peer.specs.declared.Peer.{Peer}
 use Rattle.peer.specs.Peers.{idIn}
 use Rattle.sightings.specs.declared.Sighting.{Sighting}

@@ -14,7 +14,7 @@ use Rattle.octets.proofs.Searching.{count-zero, first-is, first-lt}
 use Rattle.place.specs.Place.{bucketOf}
 use Rattle.contacts.specs.Table.{slotsOf, slot, mark}
 use Rattle.contacts.specs.Form.{inForm}
-use Rattle.contacts.proofs.FormFacts.{form-elim}
+use Rattle.contact_form.proofs.FormFacts.{form-elim}
 use Rattle.sightings.specs.declared.Sighting.the-variants.{Joined, Full, NoSlot}
 use Rattle.sightings.specs.Order.{ofBucket, isHead, freeAt, headAt, tailOf}
 use Rattle.sightings.specs.Sightings.{held, newcomer, sightingOf}

@@ -10,9 +10,9 @@ use lib.ListN.{length}
 use borrow.Author.Tests.{ltb-true, ltb-false}
 use Rattle.octets.proofs.Bools.{not-both, to-false, either, eq-or-ne}
 use Rattle.place.specs.Place.{bucketOf}
-use Rattle.contacts.proofs.Cuts.{mark-used}
+use Rattle.contact_slots.proofs.Cuts.{mark-used}
 use Rattle.contacts.specs.Table.{slotsOf, slot, putSlot, mark, used, place}
-use Rattle.contacts.proofs.FormFacts.{Fields}
+use Rattle.contact_form.proofs.FormFacts.{Fields}
 use Rattle.sightings.specs.Order.{ofBucket, tailOf, withMark, lowered, dropped}
 use Rattle.sightings.proofs.Slots.{slot-long, slots-put, slot-put, slot-other}
 use Rattle.sightings.proofs.Tests.{of-used, of-is, of-make, of-mark, tail-ge, tail-le, tail-at}

@@ -4,7 +4,7 @@ use lib.ListN.{length}
 use native.Mathlib.Omega.{arith}
 use borrow.Author.Needs.{needs}
 use Rattle.contacts.specs.Table.{slot}
-use Rattle.contacts.proofs.EntryFacts.{entry-id-most}
+use Rattle.contact_form.proofs.EntryFacts.{entry-id-most}
 use Rattle.lookup.proofs.Starting.{contact-is}
 use borrow.Author.Needs.{needs}
 use Rattle.lookup.proofs.contact.Statement.{statement}

@@ -1,7 +1,7 @@
 -- `sightings::mark_at` meets its contract. Assumes nothing.
 use native.Mathlib.Omega.{arith}
 use Rattle.contacts.specs.Table.{slotsOf}
-use Rattle.contacts.proofs.Cuts.{mark-cut}
+use Rattle.contact_slots.proofs.Cuts.{mark-cut}
 use Rattle.sightings.proofs.mark_at.Statement.{statement}
 use Rattle.sightings.proofs.mark_at.Tie as tie
 

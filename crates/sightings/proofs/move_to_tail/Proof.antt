@@ -2,7 +2,7 @@
 use native.Mathlib.Omega.{arith}
 use mathlib.Core.Path.{ap, _∙_}
 use lib.ListN.{length}
-use Rattle.contacts.proofs.Cuts.{slot-whole}
+use Rattle.contact_slots.proofs.Cuts.{slot-whole}
 use Rattle.sightings.proofs.Slots.{few}
 use Rattle.sightings.proofs.Moves.{leave-length, move-done}
 use borrow.Author.Needs.{needs}

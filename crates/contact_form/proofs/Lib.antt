@@ -1,0 +1,6 @@
+pub mod FormFacts
+pub mod Crowds
+pub mod EntryFacts
+mod FieldTests
+mod Pairs
+mod Index
