@@ -40,13 +40,16 @@ use Rattle.message.specs.declared.Reading.{Reading}
 use Rattle.message.specs.declared.Reading.the-variants as read
 use Rattle.pieces.proofs.Sizes.{message-length, held-most, entries-most}
 use Rattle.round_trip.proofs.RoundTrip.{round-trip}
-use Rattle.answer.specs.Replies.{putValue, getValue, findNode, ping, contactEntry, peerEntry, closerPeers, listed, lastEntry, findNodeReply, recordAt, getValueReply, putValueReply, pingReply}
-use Rattle.answer.specs.Answers.{Verdict, replies, refuses, keyFits, keyed, echoed, putVerdict, verdictOf, putAfter, recordsAfter, replied, byVerdict, byReading, dealOf}
+use Rattle.replies.specs.Replies.{putValue, getValue, findNode, ping, closerPeers, listed, lastEntry, findNodeReply, recordAt, getValueReply, putValueReply, pingReply}
+use Rattle.entries.specs.Entries.{contactEntry, peerEntry}
+use Rattle.replies.specs.Verdicts.{Verdict, replies, refuses, keyFits, keyed, echoed, putVerdict, putAfter, replied, byVerdict}
+use Rattle.answer.specs.Answers.{verdictOf, recordsAfter, byReading, dealOf}
 use Rattle.answer_promises.specs.Promises.{RefusedChangesNothing, ReadsBack, Roomed, RepliesReadBack, EntryIsPeer, RecordsStayInForm}
-use Rattle.answer.specs.declared.Answered.the-variants.{Reply, Refused}
-use Rattle.answer.proofs.Entries.{own-fits, id-most, entries-fit}
-use Rattle.answer.proofs.Whole.{record-fits, nearest-few}
-use Rattle.answer.proofs.Serving.{held-lies, value-short, taken-fits}
+use Rattle.replies.specs.declared.Answered.the-variants.{Reply, Refused}
+use Rattle.entries.proofs.Entries.{own-fits, id-most}
+use Rattle.replies.proofs.Runs.{entries-fit}
+use Rattle.replies.proofs.Whole.{record-fits, nearest-few}
+use Rattle.replies.proofs.Serving.{held-lies, value-short, taken-fits}
 
 -- ---- a refusal
 verdict-refused : (v : Verdict) (k after y : List ℕ) (r : Refusal) → byVerdict v k after y .told ≡ Refused r → (byVerdict v k after y .records ≡ k) × (byVerdict v k after y .reply ≡ y)

@@ -12,9 +12,10 @@ use Rattle.peer.specs.Peers.{idFits, peerOf}
 use Rattle.records.specs.Store.{inForm}
 use Rattle.message.specs.Limits.{leastReply}
 use Rattle.message.specs.Message.{Message, messageOf, decode, encode, frame}
-use Rattle.answer.specs.Replies.{peerEntry}
-use Rattle.answer.specs.Answers.{Verdict, replies, verdictOf, Dealt, dealOf}
-use Rattle.answer.specs.declared.Answered.the-variants.{Reply, Refused}
+use Rattle.entries.specs.Entries.{peerEntry}
+use Rattle.replies.specs.Verdicts.{Verdict, replies, Dealt}
+use Rattle.answer.specs.Answers.{verdictOf, dealOf}
+use Rattle.replies.specs.declared.Answered.the-variants.{Reply, Refused}
 
 -- a request that is refused changes nothing
 abbrev pub RefusedChangesNothing : Type 0

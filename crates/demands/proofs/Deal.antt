@@ -21,9 +21,10 @@ use Rattle.message.specs.Message.{Record, Message, messageOf, encode, frame}
 use Rattle.message.specs.View.{readingOf}
 use Rattle.message.specs.declared.Reading.{Reading}
 use Rattle.message.specs.declared.Reading.the-variants as reading
-use Rattle.answer.specs.Replies.{putValue}
-use Rattle.answer.specs.declared.Answered.the-variants as told
-use Rattle.answer.specs.Answers.{Verdict, replies, refuses, echoed, putVerdict, verdictOf, putAfter, recordsAfter, Dealt, byVerdict, byReading, dealOf}
+use Rattle.replies.specs.Replies.{putValue}
+use Rattle.replies.specs.declared.Answered.the-variants as told
+use Rattle.replies.specs.Verdicts.{Verdict, replies, refuses, echoed, putVerdict, putAfter, Dealt, byVerdict}
+use Rattle.answer.specs.Answers.{verdictOf, recordsAfter, byReading, dealOf}
 use Rattle.demands.specs.Box.{offerBy}
 
 -- what a request comes to

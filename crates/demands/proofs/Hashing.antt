@@ -27,9 +27,10 @@ use Rattle.stream.specs.Stream.{isShut, fresh}
 use Rattle.cutting.specs.Frames.{Event, message, refused as broken}
 use Rattle.cutting.proofs.Kept.{end-shuts}
 use Rattle.cutting.specs.World.{Line, World, Call, calls, Fine, Sound, Ready, AllFit}
-use Rattle.answer.specs.declared.Answered.{Answered}
-use Rattle.answer.specs.declared.Answered.the-variants as told
-use Rattle.answer.specs.Answers.{Dealt, dealOf}
+use Rattle.replies.specs.declared.Answered.{Answered}
+use Rattle.replies.specs.declared.Answered.the-variants as told
+use Rattle.replies.specs.Verdicts.{Dealt}
+use Rattle.answer.specs.Answers.{dealOf}
 use Rattle.node.specs.declared.Sight.{Sight}
 use Rattle.node.specs.declared.Answer.{Answer}
 use Rattle.node.specs.declared.Answer.the-variants.{Reply, Heard, Refused, More}

@@ -21,9 +21,10 @@ use Rattle.message.specs.View.{readingOf}
 use Rattle.stream.specs.Stream.{fresh}
 use Rattle.cutting.specs.Frames.{Event, message, refused as broken}
 use Rattle.cutting.specs.World.{Line}
-use Rattle.answer.specs.declared.Answered.{Answered}
-use Rattle.answer.specs.declared.Answered.the-variants as told
-use Rattle.answer.specs.Answers.{Dealt, dealOf}
+use Rattle.replies.specs.declared.Answered.{Answered}
+use Rattle.replies.specs.declared.Answered.the-variants as told
+use Rattle.replies.specs.Verdicts.{Dealt}
+use Rattle.answer.specs.Answers.{dealOf}
 use Rattle.node.specs.declared.Conn.{Conn}
 use Rattle.node.specs.declared.Sight.{Sight}
 use Rattle.node.specs.declared.Answer.{Answer}

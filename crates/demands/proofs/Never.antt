@@ -43,7 +43,7 @@ use Rattle.stream.specs.Stream as streams
 use Rattle.stream.specs.Stream.{isShut, inForm, runOf, endIn, endOf}
 use Rattle.stream.proofs.Steps.{call-runs}
 use Rattle.cutting.specs.World.{Line, Fine}
-use Rattle.answer.specs.Answers.{keyFits}
+use Rattle.replies.specs.Verdicts.{keyFits}
 use Rattle.node.specs.declared.Answer.the-variants.{Refused}
 use Rattle.node.specs.declared.Ended.{Ended}
 use Rattle.node.specs.declared.Gate.{Gate}

@@ -21,9 +21,10 @@ use Rattle.stream.specs.Stream.{fresh, isShut, Stepped, led, stepOf, storeOf, a
 use Rattle.stream.proofs.Steps.{call-runs}
 use Rattle.cutting.specs.World as world
 use Rattle.cutting.specs.World.{Line, Called, Fine}
-use Rattle.answer.specs.declared.Answered.{Answered}
-use Rattle.answer.specs.declared.Answered.the-variants as told
-use Rattle.answer.specs.Answers.{Dealt, dealOf}
+use Rattle.replies.specs.declared.Answered.{Answered}
+use Rattle.replies.specs.declared.Answered.the-variants as told
+use Rattle.replies.specs.Verdicts.{Dealt}
+use Rattle.answer.specs.Answers.{dealOf}
 use Rattle.node.specs.declared.Gate.{Gate}
 use Rattle.node.specs.declared.Sight.{Sight}
 use Rattle.node.specs.declared.Answer.{Answer}

@@ -32,10 +32,11 @@ use Rattle.stream.specs.declared.Answer as stream
 use Rattle.stream.specs.declared.Answer.the-variants as framed
 use Rattle.stream.specs.Stream as streams
 use Rattle.stream.specs.Stream.{bodyLimit, limited, minimal, prefixStep, Stepped, led, stepOf, storeOf, runOf}
-use Rattle.answer.specs.Replies.{putValue, getValue, findNode, ping}
-use Rattle.answer.specs.declared.Answered.{Answered}
-use Rattle.answer.specs.declared.Answered.the-variants as told
-use Rattle.answer.specs.Answers.{Verdict, replies, refuses, keyFits, keyed, echoed, putVerdict, verdictOf, Dealt, byVerdict, byReading, dealOf}
+use Rattle.replies.specs.Replies.{putValue, getValue, findNode, ping}
+use Rattle.replies.specs.declared.Answered.{Answered}
+use Rattle.replies.specs.declared.Answered.the-variants as told
+use Rattle.replies.specs.Verdicts.{Verdict, replies, refuses, keyFits, keyed, echoed, putVerdict, Dealt, byVerdict}
+use Rattle.answer.specs.Answers.{verdictOf, byReading, dealOf}
 use Rattle.node.specs.declared.Conn.{Conn}
 use Rattle.node.specs.declared.Answer.{Answer}
 use Rattle.node.specs.declared.Answer.the-variants.{Reply, Heard, Refused, More}

@@ -35,7 +35,7 @@ use Rattle.stream.specs.declared.Answer.the-variants as framed
 use Rattle.stream.specs.Stream.{fresh, receiveOf as framedOf}
 use Rattle.cutting.specs.Frames.{Event, message, refused as broken}
 use Rattle.cutting.specs.World.{Did, Line, Called, Layer, setAt}
-use Rattle.answer.specs.Replies.{putValue}
+use Rattle.replies.specs.Replies.{putValue}
 use Rattle.answer_promises.specs.Promises.{Roomed}
 use Rattle.node.specs.declared.Conn.{Conn}
 use Rattle.node.specs.declared.Told.{Told}

@@ -38,7 +38,7 @@ use Rattle.stream.specs.declared.Ending.the-variants as ends
 use Rattle.stream.specs.Stream.{fresh, isShut}
 use Rattle.cutting.specs.World.{Line, World, Call, given, calls, Fine, Ready, AllFit}
 use Rattle.cutting.specs.Plain.{ReadOut, plainly, unread}
-use Rattle.answer.specs.declared.Answered.the-variants as told
+use Rattle.replies.specs.declared.Answered.the-variants as told
 use Rattle.answer.specs.Answers.{verdictOf, dealOf}
 use Rattle.answer_promises.specs.Promises.{Roomed, ReadsBack}
 use Rattle.node.specs.declared.Conn.{Conn}

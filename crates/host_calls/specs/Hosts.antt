@@ -9,7 +9,7 @@ use Rattle.peer.specs.declared.Peer.{Peer}
 use Rattle.place.specs.Place.{placeOf}
 use Rattle.contacts.specs.Form.{inForm}
 use Rattle.contacts.specs.Near.{nearestCount, nearestOf}
-use Rattle.answer.specs.Answers.{keyFits}
+use Rattle.replies.specs.Verdicts.{keyFits}
 use Rattle.node.specs.Box.{ownFits}
 use Rattle.node.specs.declared.Told.the-variants.{Fine, Refused}
 use Rattle.host_calls.specs.declared.Nearby.{Nearby}

@@ -1,10 +1,10 @@
 // The box and its connections: start, open, receive and end. Nothing is kept inside: contacts and records lie in memory that the host lends, and the
 // box's own identity and connections are values that go in and come back. Every function takes any numbers and any buffers, and refuses by number.
-use answer::Answered;
 use message::Fields;
 use message::Reading;
 use peer::Peer;
 use refusal::Refusal;
+use replies::Answered;
 use sightings::Sighting;
 use stream::Ending;
 use stream::Framing;

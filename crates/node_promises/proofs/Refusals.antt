@@ -15,7 +15,7 @@ use Rattle.peer.specs.Peers.{badPeer, idFits}
 use Rattle.contacts.specs.Form.{inForm as contactsForm}
 use Rattle.records.specs.Store.{inForm as recordsForm}
 use Rattle.message.specs.Limits.{mostBody, leastReply}
-use Rattle.answer.specs.Answers.{keyFits}
+use Rattle.replies.specs.Verdicts.{keyFits}
 use Rattle.contact_calls.specs.declared.SeenOutcome.the-variants as seen
 use Rattle.contact_calls.specs.declared.SettleOutcome.the-variants as settle
 use Rattle.contact_calls.specs.declared.RemoveOutcome.the-variants as remove

@@ -12,8 +12,9 @@ use Rattle.wire.specs.Wire.{fields, fieldsAt, fieldsFrom, fieldAt, more, nextOf
 use Rattle.wire.specs.Items.{items, values, parts}
 use Rattle.message.specs.Message.{messageOf, wellMessage, wellFormed}
 use Rattle.message.specs.View.{readingOf, fieldsOf}
-use Rattle.answer.specs.declared.Answered.the-variants.{Refused}
-use Rattle.answer.specs.Answers.{dealOf, verdictOf, putVerdict}
+use Rattle.replies.specs.declared.Answered.the-variants.{Refused}
+use Rattle.answer.specs.Answers.{dealOf, verdictOf}
+use Rattle.replies.specs.Verdicts.{putVerdict}
 use Rattle.starred.specs.Starred.{Starred}
 
 emptied : (me who : Peer) (t k y : List ℕ) → dealOf me who [] t k y .told ≡ Refused BreaksRules

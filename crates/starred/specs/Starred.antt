@@ -5,7 +5,7 @@ use mathlib.Core.Path.{_≡_}
 use mathlib.Core.List.{List, []}
 use Rattle.refusal.specs.declared.Refusal.the-variants.{BreaksRules}
 use Rattle.peer.specs.declared.Peer.{Peer}
-use Rattle.answer.specs.declared.Answered.the-variants.{Refused}
+use Rattle.replies.specs.declared.Answered.the-variants.{Refused}
 use Rattle.answer.specs.Answers.{dealOf}
 use Rattle.stream.specs.Examples.{PrefixExamples}
 use Rattle.recipe.specs.Examples as recipe
