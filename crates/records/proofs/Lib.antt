@@ -1,5 +1,2 @@
-mod Nothing
-mod Words
-pub mod Laying
+pub mod Writing
 pub mod Putting
-pub mod Ordering

@@ -1,26 +1,24 @@
--- Laws of a put: which plan the tests lead to, what a plan to write says, and what is found. Assumes nothing.
+-- Laws of a put: which plan the tests lead to, what a plan to write says. Assumes nothing.
 use mathlib.Core.Path.{_≡_, refl, sym, ap, _∙_}
 use mathlib.Core.Logic.{_⊎_, inl, inr, ⊎-elim}
-use mathlib.Core.Bool.{Bool, true, false, not, _&&_, cond}
+use mathlib.Core.Bool.{Bool, true, false, not, cond}
 use mathlib.Core.List.{List}
 use Prim.Native.Nat.{ℕ, _+_, _*_, _<_, _≤_, min}
 use native.Mathlib.Omega.{arith}
 use lib.Dec.{ltb}
 use lib.ListN.{length}
 use lib.Seq.{sets}
-use borrow.Author.Tests.{lt-ltb, le-ltb, ltb-true, ltb-false, not-true}
+use borrow.Author.Tests.{lt-ltb, le-ltb, ltb-true, ltb-false}
 use Rattle.octets.specs.Octets.{same}
-use Rattle.octets.specs.Search.{all, first}
-use Rattle.octets.proofs.Bools.{and-l, and-r, and-i, or-e, not-both, cond-yes, cond-no}
-use Rattle.octets.proofs.Searching.{all-at, first-is}
-use Rattle.octets.proofs.Strings.{same-eq, same-yes}
+use Rattle.octets.proofs.Bools.{cond-yes, cond-no}
 use Rattle.refusal.specs.declared.Refusal.{Refusal}
 use Rattle.refusal.specs.declared.Refusal.the-variants.{OutOfForm, BreaksRules, BrokenRecipe, Outranked, NoRecordSlot}
 use Rattle.recipe.specs.Limits.{valueMax}
 use Rattle.recipe.specs.Recipe.{isRecipe, outranks}
 use Rattle.recipe.proofs.Trailer.{recipe-most}
-use Rattle.records.specs.Limits.{valueAt, slotSize}
-use Rattle.records.specs.Store.{slotsOf, slot, used, keyOf, sizeOf, valueOf, slotBytes, isKey, isRecord, holds, apart, fits, inForm, slotWith, isFree, freeSlot, heldAt, found, findOf, heldPlan, planOf, answerOf, afterOf, offerAnswer, offerAfter, putAnswer, putAfter}
+use Rattle.record_slots.specs.Limits.{valueAt, slotSize}
+use Rattle.record_slots.specs.Slots.{slotsOf, slot, sizeOf, valueOf, slotBytes, isKey, inForm, slotWith, freeSlot}
+use Rattle.records.specs.Store.{heldAt, found, findOf, heldPlan, planOf, answerOf, afterOf, offerAnswer, offerAfter, putAnswer, putAfter}
 use Rattle.records.specs.Inner.{Fitting}
 use Rattle.records.specs.declared.Found.{Found}
 use Rattle.records.specs.declared.Found.the-variants.{Held, NotHeld, Refused as fRefused}
@@ -28,7 +26,7 @@ use Rattle.records.specs.declared.Plan.{Plan}
 use Rattle.records.specs.declared.Plan.the-variants.{Write, Keep, Refuse}
 use Rattle.records.specs.declared.Answer.{Answer}
 use Rattle.records.specs.declared.Answer.the-variants.{Taken, Refused}
-use Rattle.records.proofs.Laying.{slot-in, slot-long, value-size, key-most}
+use Rattle.record_slots.proofs.Laying.{slot-in, slot-long, value-size, key-most}
 
 -- ---- the steps of `look` and `find`
 module _ (t k : List ℕ) {i n : ℕ} (ei : i ≡ slotWith t k) (en : n ≡ slotsOf t) where
@@ -80,39 +78,6 @@ module _ (t k v : List ℕ) {b : Bool} (eb : b ≡ isKey k) where
 
         pub plan-full : n ≤ j → Refuse NoRecordSlot ≡ planOf t k v
         plan-full l = sym (rest ∙ cond-no (ltb (freeSlot t) (slotsOf t)) (Write (freeSlot t)) (Refuse NoRecordSlot) (le-ltb (freeSlot t) (slotsOf t) (omega arith)))
-
--- ---- what is found
-pub with-holds : (t k : List ℕ) → slotWith t k < slotsOf t → holds t k (slotWith t k) ≡ true
-unfolding slotWith
-with-holds t k h = first-is (holds t k) (slotsOf t) .here h
-
-pub with-before : (t k : List ℕ) (j : ℕ) → j < slotWith t k → holds t k j ≡ false
-unfolding slotWith
-with-before t k j h = first-is (holds t k) (slotsOf t) .before j h
-
-pub free-unused : (t : List ℕ) → freeSlot t < slotsOf t → used (slot t (freeSlot t)) ≡ false
-unfolding freeSlot isFree
-free-unused t h = not-true (used (slot t (first (slotsOf t) (isFree t)))) (first-is (isFree t) (slotsOf t) .here h)
-
-pub holds-out : (t k : List ℕ) (j : ℕ) → holds t k j ≡ true → (used (slot t j) ≡ true) × (keyOf (slot t j) ≡ k)
-unfolding holds
-holds-out t k j h = (and-l (used (slot t j)) _ h, same-eq (keyOf (slot t j)) k (and-r (used (slot t j)) _ h))
-
-pub holds-in : (t k : List ℕ) (j : ℕ) → used (slot t j) ≡ true → keyOf (slot t j) ≡ k → holds t k j ≡ true
-unfolding holds
-holds-in t k j u e = and-i (used (slot t j)) _ u (same-yes (keyOf (slot t j)) k e)
-
--- a slot of a store in form
-module _ (t : List ℕ) (i : ℕ) (form : inForm t ≡ true) (l : i < slotsOf t) (u : used (slot t i) ≡ true) where
-  both : (isRecord (slot t i) && all i (apart t i)) ≡ true
-  unfolding inForm fits
-  both = ⊎-elim (λ e. absurd (not-both (not (used (slot t i))) e (rw u refl))) (λ e. e) (or-e (not (used (slot t i))) _ (all-at (fits t) (slotsOf t) i form l))
-
-  pub form-record : isRecord (slot t i) ≡ true
-  form-record = and-l (isRecord (slot t i)) _ both
-
-  pub form-apart : all i (apart t i) ≡ true
-  form-apart = and-r (isRecord (slot t i)) _ both
 
 -- ---- what a plan to write says
 held-out : (a b : Bool) (j i : ℕ) → cond a Keep (cond b (Refuse Outranked) (Write j)) ≡ Write i → (j ≡ i) × (b ≡ false)

@@ -22,8 +22,9 @@ use Rattle.records.specs.Store.{slotsOf, slot, used, keyOf, sizeOf, valueOf, sl
 use Rattle.records_history.specs.History.{Has, None, got}
 use Rattle.records.specs.declared.Found.the-variants.{Held, NotHeld}
 use Rattle.records.specs.declared.Plan.the-variants.{Write}
-use Rattle.records.proofs.Laying.{slot-in, slot-long, value-size, value-cut, key-most, key-least, record-is}
-use Rattle.records.proofs.Putting.{with-holds, with-before, free-unused, holds-out, holds-in, form-record, form-apart, write-key, write-recipe, write-where, write-in}
+use Rattle.record_slots.proofs.Laying.{slot-in, slot-long, value-size, value-cut, key-most, key-least, record-is}
+use Rattle.record_slots.proofs.Finding.{with-holds, with-before, free-unused, holds-out, holds-in, form-record, form-apart}
+use Rattle.records.proofs.Putting.{write-key, write-recipe, write-where, write-in}
 use Rattle.records_history.proofs.Written.{bytes-size, bytes-used, bytes-key, bytes-count, bytes-value, written-slots, written-same, written-other}
 
 -- ---- what a key gives

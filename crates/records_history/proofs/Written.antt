@@ -16,7 +16,8 @@ use Rattle.octets.proofs.Stores.{take-sets, drop-sets, part-sets}
 use Rattle.recipe.specs.Limits.{valueMax}
 use Rattle.records.specs.Limits.{slotsMax, keyMax, keyAt, valueAt, slotSize}
 use Rattle.records.specs.Store.{slotsOf, slot, used, keyOf, sizeOf, valueOf, padded, header, slotBytes}
-use Rattle.records.proofs.Laying.{padded-size, header-size, slot-in, is-used}
+use Rattle.records.proofs.Writing.{padded-size, header-size}
+use Rattle.record_slots.proofs.Laying.{slot-in, is-used}
 
 -- ---- the bytes of a slot, read back
 module _ (k v : List ℕ) (lk : length k ≤ keyMax) (lv : length v ≤ valueMax) where

@@ -22,7 +22,7 @@ use Rattle.records.specs.declared.Plan.{Plan}
 use Rattle.records.specs.declared.Plan.the-variants.{Write, Keep, Refuse}
 use Rattle.records.specs.declared.Answer.the-variants as store
 use Rattle.records.specs.declared.Found.the-variants as looked
-use Rattle.records.proofs.Laying.{slot-in, slot-long, value-size, key-least, key-most}
+use Rattle.record_slots.proofs.Laying.{slot-in, slot-long, value-size, key-least, key-most}
 use Rattle.records.proofs.Putting.{plan-key, plan-recipe}
 use Rattle.message.specs.Limits.{mostKey}
 use Rattle.message.specs.Message.{Message}

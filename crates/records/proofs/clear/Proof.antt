@@ -1,7 +1,7 @@
 -- `clear` stores zero after zero: what is left to clear from `i` on completes the whole.
 use native.Mathlib.Omega.{arith}
 use Prim.Native.Nat.{_-_}
-use Rattle.records.proofs.Laying.{Clearing, clearing, clear-on, cleared}
+use Rattle.records.proofs.Writing.{Clearing, clearing, clear-on, cleared}
 use Rattle.records.proofs.clear.Statement.{statement}
 use Rattle.records.proofs.clear.Tie as tie
 

@@ -1,5 +1,5 @@
 -- `header_of` lays out the header.
-use Rattle.records.proofs.Laying.{header-is}
+use Rattle.records.proofs.Writing.{header-is}
 use borrow.Author.Needs.{needs}
 use Rattle.records.proofs.header_of.Statement.{statement}
 use Rattle.records.proofs.header_of.Tie as tie

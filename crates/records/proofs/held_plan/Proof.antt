@@ -1,5 +1,5 @@
 -- `held_plan`: the same bytes, then the rank.
-use Rattle.records.proofs.Laying.{held-same, held-higher, held-lower}
+use Rattle.records.proofs.Writing.{held-same, held-higher, held-lower}
 use borrow.Author.Needs.{needs}
 use Rattle.records.proofs.held_plan.Statement.{statement}
 use Rattle.records.proofs.held_plan.Tie as tie

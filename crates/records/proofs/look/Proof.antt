@@ -1,6 +1,6 @@
 -- `look` gives the place of the value in the slot that holds the key.
 use native.Mathlib.Omega.{arith}
-use Rattle.records.proofs.Laying.{slot-in}
+use Rattle.record_slots.proofs.Laying.{slot-in}
 use Rattle.records.proofs.Putting.{look-none, look-held}
 use borrow.Author.Needs.{needs}
 use Rattle.records.proofs.look.Statement.{statement}

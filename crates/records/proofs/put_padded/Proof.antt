@@ -1,5 +1,5 @@
 -- `put_padded` is two runs of stores, one after the other.
-use Rattle.records.proofs.Laying.{pad-write}
+use Rattle.records.proofs.Writing.{pad-write}
 use borrow.Author.Needs.{needs}
 use Rattle.records.proofs.put_padded.Statement.{statement}
 use Rattle.records.proofs.put_padded.Tie as tie

@@ -1,6 +1,6 @@
 -- `size_of` reads two bytes, the low one first.
 use native.Mathlib.Omega.{arith}
-use Rattle.records.proofs.Laying.{size-is}
+use Rattle.record_slots.proofs.Laying.{size-is}
 use borrow.Author.Needs.{needs}
 use Rattle.records.proofs.size_of.Statement.{statement}
 use Rattle.records.proofs.size_of.Tie as tie

@@ -2,7 +2,7 @@
 use native.Mathlib.Omega.{arith}
 use mathlib.Core.Path.{ap, _∙_}
 use lib.ListN.{length}
-use Rattle.records.proofs.Laying.{slot-in, slot-long, slot-cut}
+use Rattle.record_slots.proofs.Laying.{slot-in, slot-long, slot-cut}
 use borrow.Author.Needs.{needs}
 use Rattle.records.proofs.slot_at.Statement.{statement}
 use Rattle.records.proofs.slot_at.Tie as tie

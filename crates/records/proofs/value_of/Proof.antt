@@ -1,5 +1,5 @@
 -- `value_of` cuts out the value, or what there is room for.
-use Rattle.records.proofs.Laying.{value-cut}
+use Rattle.record_slots.proofs.Laying.{value-cut}
 use borrow.Author.Needs.{needs}
 use Rattle.records.proofs.value_of.Statement.{statement}
 use Rattle.records.proofs.value_of.Tie as tie

@@ -1,5 +1,5 @@
 -- `write_slot` is three runs of stores, which together are the whole slot.
-use Rattle.records.proofs.Laying.{slot-write}
+use Rattle.records.proofs.Writing.{slot-write}
 use borrow.Author.Needs.{needs}
 use Rattle.records.proofs.write_slot.Statement.{statement}
 use Rattle.records.proofs.write_slot.Tie as tie

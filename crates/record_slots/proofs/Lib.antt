@@ -1,0 +1,4 @@
+mod Nothing
+pub mod Laying
+pub mod Finding
+pub mod Ordering
