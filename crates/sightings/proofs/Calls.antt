@@ -17,8 +17,9 @@ use Rattle.sightings.specs.declared.Settled.{Settled}
 use Rattle.sightings.specs.declared.Settled.the-variants.{Kept, Swapped, Stale}
 use Rattle.sightings.specs.declared.Removed.{Removed}
 use Rattle.sightings.specs.declared.Removed.the-variants.{Gone, NotHeld}
-use Rattle.sightings.specs.Order.{heldAt, freeAt, headAt, tailOf, contactBytes, moveToTail, moveAndRenew, dropped, join}
-use Rattle.sightings.specs.Sightings.{held, newcomer, sightingOf, afterSighting, seenTable, fits, settlementOf, afterSettling, settledTable, removalOf, afterRemoval, removedTable}
+use Rattle.contact_order.specs.Order.{heldAt, freeAt, headAt, tailOf, held}
+use Rattle.sightings.specs.Order.{contactBytes, moveToTail, moveAndRenew, dropped, join}
+use Rattle.sightings.specs.Sightings.{newcomer, sightingOf, afterSighting, seenTable, fits, settlementOf, afterSettling, settledTable, removalOf, afterRemoval, removedTable}
 use Rattle.sightings.proofs.Moves.{join-at-done}
 use Rattle.sightings.proofs.Dropping.{drop-free, drop-tail}
 

@@ -2,7 +2,7 @@
 use Prim.Native.Nat.{ℕ, _-_, _<_, _≤_}
 use mathlib.Core.Path.{_≡_, refl, sym, ap, _∙_, subst}
 use mathlib.Core.Logic.{⊎-elim}
-use mathlib.Core.Bool.{true, false, not}
+use mathlib.Core.Bool.{true, false}
 use mathlib.Core.List.{List}
 use native.Mathlib.Omega.{arith}
 use lib.ListN.{length, take}
@@ -11,10 +11,12 @@ use Rattle.octets.proofs.Bools.{not-both}
 use Rattle.place.specs.Place.{bucketOf}
 use Rattle.contact_slots.proofs.Cuts.{mark-used, used-mark}
 use Rattle.contacts.specs.Table.{slotsOf, slot, mark, used, place}
-use Rattle.sightings.specs.Order.{ofBucket, freeAt, tailOf, withMark, freeBytes, lowered, leave, dropped}
-use Rattle.sightings.proofs.Slots.{slots-put, slot-put, slot-other, slot-long}
-use Rattle.sightings.proofs.Tests.{of-used, of-is, of-make, free-there, tail-ge, tail-le}
-use Rattle.sightings.proofs.Moves.{lowered-is, leave-slots, leave-at, leave-in, free-long}
+use Rattle.contact_order.specs.Order.{ofBucket, freeAt, tailOf, withMark, lowered, leave}
+use Rattle.sightings.specs.Order.{freeBytes, dropped}
+use Rattle.contact_order.proofs.Slots.{slots-put, slot-put, slot-other, slot-long}
+use Rattle.contact_order.proofs.Tests.{of-used, of-is, of-make, free-there, tail-ge, tail-le}
+use Rattle.contact_order.proofs.Closing.{lowered-is, leave-slots, leave-at, leave-in}
+use Rattle.sightings.proofs.Moves.{free-long}
 
 -- ---- a changed mark
 pub place-mark : (m : ℕ) (s : List ℕ) → place (withMark m s) ≡ place s

@@ -6,17 +6,15 @@ use lib.Dec.{ltb, leb, eqb}
 use Rattle.place.specs.Place.{bucketOf}
 use Rattle.contacts.specs.Table.{bucketSize, slotsOf, slot, mark}
 use Rattle.peer.specs.declared.Peer.{Peer}
-use Rattle.sightings.specs.Order.{heldAt, freeAt, headAt, tailOf, moveToTail, moveAndRenew, dropped, joinAt, join}
+use Rattle.contact_order.specs.Order.{heldAt, freeAt, headAt, tailOf}
+use Rattle.sightings.specs.Order.{moveToTail, moveAndRenew, dropped, joinAt, join}
 use Rattle.sightings.specs.declared.Sighting.{Sighting}
 use Rattle.sightings.specs.declared.Sighting.the-variants.{Moved, Joined, Full, NoSlot}
 use Rattle.sightings.specs.declared.Settled.{Settled}
 use Rattle.sightings.specs.declared.Settled.the-variants.{Kept, Swapped, Stale}
 use Rattle.sightings.specs.declared.Removed.{Removed}
 use Rattle.sightings.specs.declared.Removed.the-variants.{Gone, NotHeld}
-
--- some slot holds the contact at place p
-unfoldable pub held : List ℕ → List ℕ → Bool
-held t p = ltb (heldAt t p) (slotsOf t)
+unfoldable pub use Rattle.contact_order.specs.Order.{held}
 
 -- ---- seen
 -- "a held contact moves to its bucket's tail ..; a new one joins the tail ..; else 13 or 14": for a peer not held,

@@ -27,9 +27,10 @@ use Rattle.sightings.specs.declared.Removed.{Removed}
 use Rattle.sightings.specs.Order.{isAt, heldAt, freeAt, tailOf, withMark, contactBytes, freeBytes, withAddresses, renewed, leave, tailed, moveToTail, moveAndRenew, dropped, joinAt, join}
 use Rattle.sightings.specs.Sightings.{held, newcomer, sightingOf, afterSighting, seenTable, fits, settlementOf, afterSettling, settledTable, removalOf, afterRemoval, removedTable}
 use Rattle.sightings_kept.specs.Promises.{Fair}
-use Rattle.sightings.proofs.Slots.{slot-long, put-put}
-use Rattle.sightings.proofs.Tests.{of-used, held-lt, held-ge, held-is, held-not, at-used, at-place, at-make, free-is, tail-le}
-use Rattle.sightings.proofs.Moves.{leave-in, tailed-long, free-long}
+use Rattle.contact_order.proofs.Slots.{slot-long, put-put}
+use Rattle.contact_order.proofs.Tests.{of-used, held-lt, held-ge, held-is, held-not, at-used, at-place, at-make, free-is, tail-le}
+use Rattle.contact_order.proofs.Closing.{leave-in}
+use Rattle.sightings.proofs.Moves.{tailed-long, free-long}
 use Rattle.sightings.proofs.Dropping.{place-mark, mark-mark, drop-slots, drop-freed, drop-free}
 use Rattle.sightings.proofs.Calls.{fits-held, fits-bucket, fits-full, fits-new}
 use Rattle.sightings_kept.proofs.Ordered.{Ordered, from-form, to-form, fields-by, mark-byte}

@@ -18,7 +18,7 @@ use Rattle.sightings.specs.declared.Sighting.{Sighting}
 use Rattle.sightings.specs.declared.Sighting.the-variants.{Moved, Joined, Full, NoSlot}
 use Rattle.sightings.specs.Order.{heldAt, freeAt, headAt, tailOf, dropped, freeBytes}
 use Rattle.sightings.specs.Sightings.{held, newcomer, sightingOf, afterSighting, seenTable, fits, settledTable, removedTable}
-use Rattle.sightings.proofs.Tests.{held-lt, held-is, at-used, at-place}
+use Rattle.contact_order.proofs.Tests.{held-lt, held-is, at-used, at-place}
 use Rattle.sightings.proofs.Dropping.{none-free, drop-free}
 use Rattle.sightings.proofs.Calls.{fits-held}
 use Rattle.sightings_kept.specs.Promises.{Fair, SameContact, Others, Hashed, HashedPeer}

@@ -19,7 +19,7 @@ use Rattle.sightings.specs.declared.Sighting.the-variants.{Joined, Full, NoSlot
 use Rattle.sightings.specs.Order.{ofBucket, isHead, freeAt, headAt, tailOf}
 use Rattle.sightings.specs.Sightings.{held, newcomer, sightingOf}
 use Rattle.sightings_kept.specs.Promises.{holds}
-use Rattle.sightings.proofs.Tests.{of-mark, tail-ge, tail-at}
+use Rattle.contact_order.proofs.Tests.{of-mark, tail-ge, tail-at}
 use Rattle.sightings_kept.proofs.Ordered.{Ordered, from-form}
 
 -- ---- counting. for octets

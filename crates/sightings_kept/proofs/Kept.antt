@@ -14,9 +14,9 @@ use Rattle.contact_slots.proofs.Cuts.{mark-used}
 use Rattle.contacts.specs.Table.{slotsOf, slot, putSlot, mark, used, place}
 use Rattle.contact_form.proofs.FormFacts.{Fields}
 use Rattle.sightings.specs.Order.{ofBucket, tailOf, withMark, lowered, dropped}
-use Rattle.sightings.proofs.Slots.{slot-long, slots-put, slot-put, slot-other}
-use Rattle.sightings.proofs.Tests.{of-used, of-is, of-make, of-mark, tail-ge, tail-le, tail-at}
-use Rattle.sightings.proofs.Moves.{lowered-low, lowered-far, lowered-on}
+use Rattle.contact_order.proofs.Slots.{slot-long, slots-put, slot-put, slot-other}
+use Rattle.contact_order.proofs.Tests.{of-used, of-is, of-make, of-mark, tail-ge, tail-le, tail-at}
+use Rattle.contact_order.proofs.Closing.{lowered-low, lowered-far, lowered-on}
 use Rattle.sightings.proofs.Dropping.{place-mark, mark-mark, none-free, drop-slots, drop-self, drop-other}
 use Rattle.sightings_kept.proofs.Ordered.{Ordered, fields-by, mark-byte}
 

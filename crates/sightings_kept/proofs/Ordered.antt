@@ -12,7 +12,7 @@ use Rattle.contacts.specs.Form.{rank, slotBucket}
 use Rattle.contact_slots.proofs.Cuts.{used-mark}
 use Rattle.contact_form.proofs.FormFacts.{Fields, InForm}
 use Rattle.sightings.specs.Order.{ofBucket, withMark}
-use Rattle.sightings.proofs.Tests.{of-used, of-is, of-make}
+use Rattle.contact_order.proofs.Tests.{of-used, of-is, of-make}
 
 pub record Ordered (t o : List ℕ) : Type 0 where
   pub sound : (i : ℕ) → i < slotsOf t → used (slot t i) ≡ true → Fields (slot t i) × (bucketOf (place (slot t i)) o < 256)

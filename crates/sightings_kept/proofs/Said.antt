@@ -15,7 +15,7 @@ use Rattle.peer.specs.Peers.{idIn, addressIn, addressesIn}
 use Rattle.peer.specs.Peers as peers
 use Rattle.sightings.specs.Order.{withMark, contactBytes, withAddresses, lowered}
 use Rattle.sightings_kept.specs.Promises.{Fair, SameContact}
-use Rattle.sightings.proofs.Moves.{lowered-is}
+use Rattle.contact_order.proofs.Closing.{lowered-is}
 use Rattle.sightings_kept.proofs.Forms.{bytes-size, getD-sets-in}
 
 -- ---- slots that differ at most in their mark

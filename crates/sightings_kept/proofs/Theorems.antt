@@ -25,9 +25,10 @@ use Rattle.sightings.specs.declared.Removed.the-variants.{Gone}
 use Rattle.sightings.specs.Order.{ofBucket, isAt, heldAt, freeAt, tailOf, contactBytes, freeBytes, withAddresses, renewed, lowered, each, closeUp, leave, tailed, moveToTail, moveAndRenew, dropped, joinAt, join}
 use Rattle.sightings.specs.Sightings.{held, newcomer, sightingOf, afterSighting, seenTable, fits, settlementOf, afterSettling, settledTable, removalOf, afterRemoval, removedTable}
 use Rattle.sightings_kept.specs.Promises.{Fair, SameContact, Others, AtTail}
-use Rattle.sightings.proofs.Slots.{slot-long, slots-put, slot-put, slot-other, put-put, put-outside}
-use Rattle.sightings.proofs.Tests.{of-used, of-is, of-make, held-lt, held-is, held-here, at-used, at-place, at-make, free-is, free-lowest, tail-ge, tail-le}
-use Rattle.sightings.proofs.Moves.{lowered-long, each-slots, leave-slots, leave-in, tailed-long, free-long}
+use Rattle.contact_order.proofs.Slots.{slot-long, slots-put, slot-put, slot-other, put-put, put-outside}
+use Rattle.contact_order.proofs.Tests.{of-used, of-is, of-make, held-lt, held-is, held-here, at-used, at-place, at-make, free-is, free-lowest, tail-ge, tail-le}
+use Rattle.contact_order.proofs.Closing.{lowered-long, each-slots, leave-slots, leave-in}
+use Rattle.sightings.proofs.Moves.{tailed-long, free-long}
 use Rattle.sightings.proofs.Dropping.{drop-slots, drop-self, drop-other, drop-freed, drop-free}
 use Rattle.sightings.proofs.Calls.{fits-held, fits-new}
 use Rattle.sightings_kept.proofs.Ordered.{Ordered, from-form, mark-byte}

@@ -2,7 +2,8 @@
 use mathlib.Core.Path.{ap, sym, _∙_, subst}
 use Prim.Native.Nat.{ℕ, _<_}
 use Rattle.contacts.specs.Table.{slotsOf}
-use Rattle.sightings.proofs.Moves.{leave-slots, drop-done}
+use Rattle.contact_order.proofs.Closing.{leave-slots}
+use Rattle.sightings.proofs.Moves.{drop-done}
 use borrow.Author.Needs.{needs}
 use Rattle.sightings.proofs.drop_slot.Statement.{statement}
 use Rattle.sightings.proofs.drop_slot.Tie as tie

@@ -1,7 +1,7 @@
 -- `sightings::join_tail` meets its contract. Assumes nothing.
 use native.Mathlib.Omega.{arith}
 use mathlib.Core.Path.{ap, _∙_}
-use Rattle.sightings.specs.Order.{tailOf}
+use Rattle.contact_order.specs.Order.{tailOf}
 use Rattle.sightings.proofs.Moves.{join-done}
 use borrow.Author.Needs.{needs}
 use Rattle.sightings.proofs.join_tail.Statement.{statement}

@@ -3,8 +3,9 @@ use native.Mathlib.Omega.{arith}
 use mathlib.Core.Path.{ap, _∙_}
 use lib.ListN.{length}
 use Rattle.contact_slots.proofs.Cuts.{slot-whole}
-use Rattle.sightings.proofs.Slots.{few}
-use Rattle.sightings.proofs.Moves.{leave-length, move-done}
+use Rattle.contact_order.proofs.Slots.{few}
+use Rattle.contact_order.proofs.Closing.{leave-length}
+use Rattle.sightings.proofs.Moves.{move-done}
 use borrow.Author.Needs.{needs}
 use Rattle.sightings.proofs.move_to_tail.Statement.{statement}
 use Rattle.sightings.proofs.move_to_tail.Tie as tie

@@ -13,11 +13,11 @@ held-at-requires c κs = search needs
 returns : tie.Need-returns
 returns c = fits-gone (c .before .before .before .before .before .before .before .args .table .now) (c .before .before .before .before .before .before .before .args .ours .now) (c .before .before .before .before .before .before .before .args .head .now) (c .before .before .before .before .before .before .before .args .p .now) _ _ (c .before .before .slots .ensures) (c .before .held-at .ensures) (c .if1 .taken)
 
-mark-at-requires : tie.Need-mark-at-requires
-mark-at-requires c κs = search needs
+mark-of-requires : tie.Need-mark-of-requires
+mark-of-requires c κs = search needs
 
 returns-2 : tie.Need-returns-2
-returns-2 c = fits-behind (c .before .before .before .before .before .before .before .before .before .args .table .now) (c .before .before .before .before .before .before .before .before .before .args .ours .now) (c .before .before .before .before .before .before .before .before .before .args .head .now) (c .before .before .before .before .before .before .before .before .before .args .p .now) _ _ (c .before .before .before .before .slots .ensures) (c .before .before .before .held-at .ensures) (c .before .before .if1 .left) _ (c .before .mark-at .ensures) (c .if2 .taken)
+returns-2 c = fits-behind (c .before .before .before .before .before .before .before .before .before .args .table .now) (c .before .before .before .before .before .before .before .before .before .args .ours .now) (c .before .before .before .before .before .before .before .before .before .args .head .now) (c .before .before .before .before .before .before .before .before .before .args .p .now) _ _ (c .before .before .before .before .slots .ensures) (c .before .before .before .held-at .ensures) (c .before .before .if1 .left) _ (c .before .mark-of .ensures) (c .if2 .taken)
 
 bucket-requires : tie.Need-bucket-requires
 bucket-requires c κs = search needs
@@ -26,19 +26,19 @@ bucket-requires-2 : tie.Need-bucket-requires-2
 bucket-requires-2 c κs = search needs
 
 returns-3 : tie.Need-returns-3
-returns-3 c = fits-far (c .before .before .before .before .before .before .before .before .before .before .before .before .args .table .now) (c .before .before .before .before .before .before .before .before .before .before .before .before .args .ours .now) (c .before .before .before .before .before .before .before .before .before .before .before .before .args .head .now) (c .before .before .before .before .before .before .before .before .before .before .before .before .args .p .now) _ _ (c .before .before .before .before .before .before .before .slots .ensures) (c .before .before .before .before .before .before .held-at .ensures) (c .before .before .before .before .before .if1 .left) _ (c .before .before .before .before .mark-at .ensures) (c .before .before .before .if2 .left) _ _ (c .before .before .bucket .ensures) (c .before .bucket2 .ensures) (c .if3 .taken)
+returns-3 c = fits-far (c .before .before .before .before .before .before .before .before .before .before .before .before .args .table .now) (c .before .before .before .before .before .before .before .before .before .before .before .before .args .ours .now) (c .before .before .before .before .before .before .before .before .before .before .before .before .args .head .now) (c .before .before .before .before .before .before .before .before .before .before .before .before .args .p .now) _ _ (c .before .before .before .before .before .before .before .slots .ensures) (c .before .before .before .before .before .before .held-at .ensures) (c .before .before .before .before .before .if1 .left) _ (c .before .before .before .before .mark-of .ensures) (c .before .before .before .if2 .left) _ _ (c .before .before .bucket .ensures) (c .before .bucket2 .ensures) (c .if3 .taken)
 
 tail-of-requires : tie.Need-tail-of-requires
 tail-of-requires c κs = search needs
 
 returns-4 : tie.Need-returns-4
-returns-4 c = fits-room (c .before .before .before .before .before .before .before .before .before .before .before .before .before .before .args .table .now) (c .before .before .before .before .before .before .before .before .before .before .before .before .before .before .args .ours .now) (c .before .before .before .before .before .before .before .before .before .before .before .before .before .before .args .head .now) (c .before .before .before .before .before .before .before .before .before .before .before .before .before .before .args .p .now) _ _ (c .before .before .before .before .before .before .before .before .before .slots .ensures) (c .before .before .before .before .before .before .before .before .held-at .ensures) (c .before .before .before .before .before .before .before .if1 .left) _ (c .before .before .before .before .before .before .mark-at .ensures) (c .before .before .before .before .before .if2 .left) _ _ (c .before .before .before .before .bucket .ensures) (c .before .before .before .bucket2 .ensures) (c .before .before .if3 .left) _ (c .before .tail-of .ensures) (c .if4 .taken)
+returns-4 c = fits-room (c .before .before .before .before .before .before .before .before .before .before .before .before .before .before .args .table .now) (c .before .before .before .before .before .before .before .before .before .before .before .before .before .before .args .ours .now) (c .before .before .before .before .before .before .before .before .before .before .before .before .before .before .args .head .now) (c .before .before .before .before .before .before .before .before .before .before .before .before .before .before .args .p .now) _ _ (c .before .before .before .before .before .before .before .before .before .slots .ensures) (c .before .before .before .before .before .before .before .before .held-at .ensures) (c .before .before .before .before .before .before .before .if1 .left) _ (c .before .before .before .before .before .before .mark-of .ensures) (c .before .before .before .before .before .if2 .left) _ _ (c .before .before .before .before .bucket .ensures) (c .before .before .before .bucket2 .ensures) (c .before .before .if3 .left) _ (c .before .tail-of .ensures) (c .if4 .taken)
 
 held-at-requires-2 : tie.Need-held-at-requires-2
 held-at-requires-2 c κs = search needs
 
 returns-5 : tie.Need-returns-5
-returns-5 c = fits-last (c .before .before .before .before .before .before .before .before .before .before .before .before .before .before .before .args .table .now) (c .before .before .before .before .before .before .before .before .before .before .before .before .before .before .before .args .ours .now) (c .before .before .before .before .before .before .before .before .before .before .before .before .before .before .before .args .head .now) (c .before .before .before .before .before .before .before .before .before .before .before .before .before .before .before .args .p .now) _ _ (c .before .before .before .before .before .before .before .before .before .before .slots .ensures) (c .before .before .before .before .before .before .before .before .before .held-at .ensures) (c .before .before .before .before .before .before .before .before .if1 .left) _ (c .before .before .before .before .before .before .before .mark-at .ensures) (c .before .before .before .before .before .before .if2 .left) _ _ (c .before .before .before .before .before .bucket .ensures) (c .before .before .before .before .bucket2 .ensures) (c .before .before .before .if3 .left) _ (c .before .before .tail-of .ensures) (c .before .if4 .left) _ (c .held-at2 .ensures)
+returns-5 c = fits-last (c .before .before .before .before .before .before .before .before .before .before .before .before .before .before .before .args .table .now) (c .before .before .before .before .before .before .before .before .before .before .before .before .before .before .before .args .ours .now) (c .before .before .before .before .before .before .before .before .before .before .before .before .before .before .before .args .head .now) (c .before .before .before .before .before .before .before .before .before .before .before .before .before .before .before .args .p .now) _ _ (c .before .before .before .before .before .before .before .before .before .before .slots .ensures) (c .before .before .before .before .before .before .before .before .before .held-at .ensures) (c .before .before .before .before .before .before .before .before .if1 .left) _ (c .before .before .before .before .before .before .before .mark-of .ensures) (c .before .before .before .before .before .before .if2 .left) _ _ (c .before .before .before .before .before .bucket .ensures) (c .before .before .before .before .bucket2 .ensures) (c .before .before .before .if3 .left) _ (c .before .before .tail-of .ensures) (c .before .if4 .left) _ (c .held-at2 .ensures)
 
 pub still-fits-spec : {M : Type 1} → statement M
 still-fits-spec =
@@ -47,7 +47,7 @@ still-fits-spec =
     slots-requires
     held-at-requires
     returns
-    mark-at-requires
+    mark-of-requires
     returns-2
     bucket-requires
     bucket-requires-2
