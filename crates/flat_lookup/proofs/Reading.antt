@@ -8,7 +8,7 @@ use native.Mathlib.Numerals.{add-one}
 use lib.ListN.{length, getD, take, drop, set, replicate, length-replicate, length-set}
 use lib.Seq.{take-suc, take-suc-set, take-all, drop-drop}
 use Rattle.lookup.specs.Lookup.{room, idMost, keyMost, padded, nobody}
-use Rattle.lookup.specs.declared.Candidate.{Candidate}
+use Rattle.lookup_candidates.specs.declared.Candidate.{Candidate}
 use Rattle.flat_lookup.specs.FlatLookup.{placeSize, idAt, placeAt, keyAt, targetAt, candidateSize, candidatesAt, byteAt, bytesAt, candidateIn, candidatesIn, lookupIn}
 
 -- ---- a field, as it is cut out and copied

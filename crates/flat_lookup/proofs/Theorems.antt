@@ -11,7 +11,7 @@ use lib.Seq.{sets-eq, take-all, length-take-le, drop-append-le, drop-at}
 use borrow.Author.Tests.{ltb-true, ltb-false}
 use Rattle.octets.proofs.Bools.{either}
 use Rattle.lookup.specs.Lookup.{room, idMost, keyMost, padded, nobody}
-use Rattle.lookup.specs.declared.Candidate.{Candidate}
+use Rattle.lookup_candidates.specs.declared.Candidate.{Candidate}
 use Rattle.lookup.specs.declared.Lookup.{Lookup}
 use Rattle.lookup.proofs.Form.{Formed, formed}
 use Rattle.flat_lookup.specs.FlatLookup.{placeSize, idAt, placeAt, candidateSize, keyAt, targetAt, candidatesAt, flatSize, byteAt, bytesAt, candidateIn, candidatesIn, lookupIn, candidateBytes, candidatesBytes, headBytes, lookupBytes}

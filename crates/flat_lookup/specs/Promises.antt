@@ -6,7 +6,7 @@ use mathlib.Core.List.{List}
 use lib.ListN.{length, getD, take}
 use lib.Seq.{sets}
 use Rattle.lookup.specs.Lookup.{room, idMost, keyMost, nobody, inForm}
-use Rattle.lookup.specs.declared.Candidate.{Candidate}
+use Rattle.lookup_candidates.specs.declared.Candidate.{Candidate}
 use Rattle.lookup.specs.declared.Lookup.{Lookup}
 use Rattle.flat_lookup.specs.FlatLookup.{placeSize, flatSize, lookupIn, lookupBytes}
 

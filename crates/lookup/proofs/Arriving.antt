@@ -1,5 +1,5 @@
 -- Laws of one peer heard of: who comes in, whether its place is known, and its rank, by one candidate after another. Assumes nothing.
-use Prim.Native.Nat.{ℕ, zero, suc, _+_, _≤_, _<_}
+use Prim.Native.Nat.{ℕ, suc, _+_, _≤_, _<_}
 use mathlib.Core.Path.{_≡_, refl, sym, ap, _∙_, subst}
 use mathlib.Core.Bool.{Bool, true, false, cond, not, _||_}
 use mathlib.Core.List.{List, [], _∷_, _++_}
@@ -10,15 +10,16 @@ use lib.ListN.{length, getD, take}
 use lib.Seq.{take-suc, length-take-le}
 use borrow.Author.Tests.{lt-ltb, le-ltb, ltb-true, ltb-false, leb-true, not-false}
 use Rattle.octets.specs.Octets.{same}
-use Rattle.octets.proofs.Bools.{cond-yes, cond-no, and-l, or-off}
+use Rattle.octets.proofs.Bools.{cond-yes, cond-no, and-l}
 use Rattle.place.specs.Place.{nearerTo}
 use Rattle.sha256.specs.Sha256.{sha256}
 use Rattle.lookup.specs.Lists.{firstIn, anyIn}
-use Rattle.lookup.specs.Inner.{beyond, rankOn, arrivalOf}
-use Rattle.lookup.specs.Lookup.{idFits, fresh, nobody, meet, hear}
-use Rattle.lookup.specs.declared.Candidate.{Candidate}
+use Rattle.lookup.specs.Inner.{beyond, rankOn}
+use Rattle.lookup_candidates.specs.Candidates.{arrivalOf, idFits, fresh, nobody}
+use Rattle.lookup.specs.Lookup.{meet, hear}
+use Rattle.lookup_candidates.specs.declared.Candidate.{Candidate}
 use Rattle.lookup.specs.declared.Lookup.{Lookup}
-use Rattle.lookup.proofs.Lists.{first-le, first-here, first-past, first-nil}
+use Rattle.lookup.proofs.Lists.{first-le, first-here, first-past}
 
 -- ---- one more of a list
 one-more : {A : Type 0} (xs : List A) (i : ℕ) (d : A) → i < length xs → take (i + 1) xs ≡ take i xs ++ (getD xs i d ∷ [])
@@ -126,24 +127,6 @@ rank-one t p cs j d r s h e q = q ∙ by (ltb r j) refl ∙ sym (ap (firstIn (be
     by : (b : Bool) → ltb r j ≡ b → rankOn t p r j x ≡ firstIn (beyond t p) (take j cs ++ (x ∷ []))
     by true k = early (ltb-true r j k)
     by false k = late (ltb-false r j k)
-
--- ---- who comes in
-module _ (ours id : List ℕ) (r : Candidate) (a : Bool) (ea : a ≡ idFits id) where
-  pub arrival-bad : not a ≡ true → r ≡ nobody → r ≡ arrivalOf ours id
-  unfolding arrivalOf
-  arrival-bad h e = e ∙ sym (cond-yes (not (idFits id)) nobody _ (ap not (sym ea) ∙ h))
-
-  module _ (h : not a ≡ false) (c : Candidate) (ec : c ≡ fresh id) (s : Bool) (es : s ≡ same (c .place) ours) where
-    ourselves : s ≡ same (sha256 id) ours
-    ourselves = es ∙ ap (λ (x : Candidate). same (x .place) ours) ec
-
-    pub arrival-ours : s ≡ true → r ≡ nobody → r ≡ arrivalOf ours id
-    unfolding arrivalOf
-    arrival-ours t e = e ∙ sym (cond-no (not (idFits id)) nobody _ (ap not (sym ea) ∙ h) ∙ cond-yes (same (sha256 id) ours) nobody (fresh id) (sym ourselves ∙ t))
-
-    pub arrival-new : s ≡ false → c ≡ arrivalOf ours id
-    unfolding arrivalOf
-    arrival-new t = ec ∙ sym (cond-no (not (idFits id)) nobody _ (ap not (sym ea) ∙ h) ∙ cond-no (same (sha256 id) ours) nobody (fresh id) (sym ourselves ∙ t))
 
 -- ---- what is heard by it
 module _ (ours id : List ℕ) (l : Lookup) where

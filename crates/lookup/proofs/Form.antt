@@ -2,46 +2,19 @@
 use Prim.Native.Nat.{ℕ, _+_, _≤_, _<_}
 use mathlib.Core.Path.{_≡_, refl, sym, ap, _∙_}
 use mathlib.Core.Bool.{Bool, true, false, not, _&&_}
-use mathlib.Core.List.{List, [], _∷_}
+use mathlib.Core.List.{List}
 use native.Mathlib.Omega.{arith}
 use lib.Dec.{leb}
 use lib.ListN.{length, getD, take, drop}
-use borrow.Author.Tests.{le-leb, lt-leb, leb-true, not-true, not-false}
-use Rattle.octets.specs.Search.{allOf}
-use Rattle.octets.proofs.Bools.{and-on, and-off, all-on, all-off, all-head, all-rest}
+use borrow.Author.Tests.{le-leb, lt-leb, leb-true}
+use Rattle.octets.proofs.Bools.{all-on, all-off, all-head, all-rest}
 use Rattle.place.specs.Place.{nearerTo}
-use Rattle.lookup_marks.specs.Marks.{failed}
-use Rattle.lookup.specs.Lookup.{room, idMost, keyMost, limitMost, candidatesOf, wellMade, follow, nearestFirst, inForm}
-use Rattle.lookup.specs.declared.Candidate.{Candidate}
+use Rattle.lookup.specs.Lookup.{room, keyMost, limitMost, candidatesOf, follow, nearestFirst, inForm}
+use Rattle.lookup_candidates.specs.Candidates.{wellMade}
+use Rattle.lookup_candidates.specs.declared.Candidate.{Candidate}
+use Rattle.lookup_candidates.proofs.Candidates.{all-last, both-no, both-yes}
 use Rattle.lookup.specs.declared.Lookup.{Lookup}
 use Rattle.lookup.proofs.Lists.{one-on, at-end}
-
-pub all-last : (b : Bool) → allOf (b ∷ []) ≡ b
-unfolding allOf
-all-last true = refl
-all-last false = refl
-
--- ---- a candidate
-module _ (c : Candidate) where
-  pub made-mark : failed < c .mark → false ≡ wellMade c
-  unfolding wellMade
-  made-mark h = sym (all-off (leb (c .mark) failed) _ (lt-leb (c .mark) failed h))
-
-  pub made-empty : c .mark ≤ failed → c .len < 1 → false ≡ wellMade c
-  unfolding wellMade
-  made-empty h g = sym (all-on (leb (c .mark) failed) _ (le-leb (c .mark) failed h) ∙ all-off (leb 1 (c .len)) _ (lt-leb 1 (c .len) g))
-
-  pub made-len : c .mark ≤ failed → 1 ≤ c .len → leb (c .len) idMost ≡ wellMade c
-  unfolding wellMade
-  made-len h g =
-      sym (all-on (leb (c .mark) failed) _ (le-leb (c .mark) failed h) ∙ all-on (leb 1 (c .len)) _ (le-leb 1 (c .len) g) ∙ all-last (leb (c .len) idMost))
-
--- ---- two facts of which the first was computed
-pub both-no : (b a x : Bool) → b ≡ a → not b ≡ true → false ≡ (a && x)
-both-no b a x e h = sym (and-off a x (sym e ∙ not-true b h))
-
-pub both-yes : (b a x r : Bool) → b ≡ a → not b ≡ false → r ≡ x → r ≡ (a && x)
-both-yes b a x r e h q = q ∙ sym (and-on a x (sym e ∙ not-false b h))
 
 -- ---- the candidates, nearest first
 module _ (t : List ℕ) (n : ℕ) (xs : List Candidate) where

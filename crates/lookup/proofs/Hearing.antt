@@ -29,8 +29,9 @@ use Rattle.message.specs.declared.Reading.{Reading}
 use Rattle.message.proofs.Meaning.{Cuttable, inside, id-inside}
 use Rattle.message.proofs.Views.{heard-meant}
 use Rattle.lookup.specs.View.{sameSpan, sameBool, sameHeld, sameFields}
-use Rattle.lookup.specs.Lookup.{room, candidatesOf, turnAway, put, mark, refuses, settled, idFits, whomOf, reported, fresh, known, enter, meet, hear, hearAll, isReading, isView, findNode, heardIds, heardFrom, replyOf}
-use Rattle.lookup.specs.declared.Candidate.{Candidate}
+use Rattle.lookup.specs.Lookup.{room, candidatesOf, turnAway, put, mark, refuses, settled, whomOf, reported, known, enter, meet, hear, hearAll, isReading, isView, findNode, heardIds, heardFrom, replyOf}
+use Rattle.lookup_candidates.specs.Candidates.{idFits, fresh}
+use Rattle.lookup_candidates.specs.declared.Candidate.{Candidate}
 use Rattle.lookup.specs.declared.Lookup.{Lookup}
 use Rattle.lookup.specs.declared.Step.{Step}
 use Rattle.lookup.specs.declared.Whom.{Whom}

@@ -11,7 +11,7 @@ use Rattle.place.specs.Place.{nearerTo}
 use Rattle.lookup.specs.Lists.{firstIn}
 use Rattle.lookup.specs.Inner.{beyond, rankOf}
 use Rattle.lookup.specs.Lookup.{candidatesOf, withCandidates, put, withMark, markAt, enter}
-use Rattle.lookup.specs.declared.Candidate.{Candidate}
+use Rattle.lookup_candidates.specs.declared.Candidate.{Candidate}
 use Rattle.lookup.specs.declared.Lookup.{Lookup}
 use Rattle.lookup.proofs.Lists.{one-on, at-end, first-le}
 

@@ -14,15 +14,14 @@ use Rattle.place.specs.Place.{isPlace}
 use Rattle.sha256.specs.Sha256.{sha256}
 use Rattle.refusal.specs.declared.Refusal.{Refusal}
 use Rattle.refusal.specs.declared.Refusal.the-variants.{OutOfForm, BreaksRules, BadPeer, BadConcurrency}
-use Rattle.contacts.specs.Table.{slotsOf, slot, place}
+use Rattle.contacts.specs.Table.{slotsOf}
 use Rattle.contacts.specs.Form.{inForm as inFormTable}
-use Rattle.contacts.specs.Contact.{entryId}
 use Rattle.contacts.specs.Near.{nearestCount, sorted, nearestSlots, filled, nearestOf}
 use Rattle.contacts.specs.declared.Closest.{Closest}
 use Rattle.contacts.proofs.Sorting.{take-filled}
-use Rattle.lookup_marks.specs.Marks.{idle}
-use Rattle.lookup.specs.Lookup.{room, idMost, keyMost, padded, refuses, settled, idFits, nobody, noLookup, contactAt, firstOnes, begun, keyFits, limitFits, startOf}
-use Rattle.lookup.specs.declared.Candidate.{Candidate}
+use Rattle.lookup.specs.Lookup.{room, keyMost, refuses, settled, noLookup, firstOnes, begun, keyFits, limitFits, startOf}
+use Rattle.lookup_candidates.specs.Candidates.{padded, idFits, nobody, contactAt}
+use Rattle.lookup_candidates.specs.declared.Candidate.{Candidate}
 use Rattle.lookup.specs.declared.Lookup.{Lookup}
 use Rattle.lookup.specs.declared.Step.{Step}
 
@@ -43,11 +42,6 @@ no-lookup-is c e = ap none e
   where
     none : Candidate → Lookup
     none c = record { candidates = replicate room c; key = replicate keyMost 0; target = replicate 32 0; count = 0; size = 0; limit = 0; turned = false }
-
--- ---- a contact
-pub contact-is : (t : List ℕ) (i : ℕ) (e kept p : List ℕ) (n : ℕ) (q : List ℕ) → e ≡ entryId (slot t i) → kept ≡ padded idMost e → q ≡ place (slot t i) → p ≡ padded 32 q → n ≡ length e
-    → record { id = kept; place = p; mark = idle; len = n } ≡ contactAt t i
-contact-is t i e kept p n q ee ek eq ep en = rw (ek, ep, en, ee, eq)
 
 -- ---- the first ones in the array: the first i stand there, nobody after them
 pub record Placing {A : Type 0} (f : ℕ → A) (x : A) (slots : List ℕ) (cs : List A) (i : ℕ) : Type 0 where

@@ -4,20 +4,21 @@ use mathlib.Core.Path.{_≡_, sym, ap, ap₂, _∙_, subst}
 use mathlib.Core.Bool.{Bool, true, false, not}
 use mathlib.Core.List.{List, _∷_, _++_, map}
 use native.Mathlib.Omega.{arith}
-use lib.Dec.{leb, ltb, eqb}
-use lib.ListN.{length, take, drop, replicate, length-map}
-use lib.Seq.{sets, length-take-le}
-use borrow.Author.Tests.{eq-eqb, ne-eqb, lt-ltb, le-ltb, le-leb, lt-leb, not-false, leb-true, leb-false}
+use lib.Dec.{leb, ltb}
+use lib.ListN.{length, take, drop, length-map}
+use lib.Seq.{length-take-le}
+use borrow.Author.Tests.{lt-ltb, le-ltb, le-leb, lt-leb, not-false, leb-false}
 use Rattle.octets.specs.Octets.{same}
-use Rattle.octets.proofs.Bools.{cond-yes, cond-no, cond-ind, and-on, and-off, and-r, or-l, or-off, or-r}
+use Rattle.octets.proofs.Bools.{cond-yes, cond-no, cond-ind, or-l, or-off, or-r}
 use Rattle.sha256.specs.Sha256.{sha256}
 use Rattle.refusal.specs.declared.Refusal.{Refusal}
 use Rattle.refusal.specs.declared.Refusal.the-variants.{OutOfForm, BadPeer, NotInFlight, LookupOver}
-use Rattle.lookup_marks.specs.Marks.{idle, flying, failed, twentyOf, isOver, idleOf, flightsOf, sentOf, ranksOf}
+use Rattle.lookup_marks.specs.Marks.{flying, failed, twentyOf, isOver, idleOf, flightsOf, sentOf, ranksOf}
 use Rattle.lookup_marks.specs.declared.Ranks.{Ranks}
 use Rattle.lookup.specs.Inner.{rankOf}
-use Rattle.lookup.specs.Lookup.{room, idMost, candidatesOf, markOf, marksOf, inForm, withCandidates, turnAway, put, mark, gives, refuses, ends, settled, nextOf, idFits, badPeer, flies, flyerOf, whomOf, reported, failureOf, fresh, known, enter, meet}
-use Rattle.lookup.specs.declared.Candidate.{Candidate}
+use Rattle.lookup.specs.Lookup.{room, candidatesOf, marksOf, inForm, withCandidates, turnAway, put, mark, gives, refuses, ends, settled, nextOf, badPeer, flyerOf, whomOf, reported, failureOf, known, enter, meet}
+use Rattle.lookup_candidates.specs.Candidates.{markOf, idFits}
+use Rattle.lookup_candidates.specs.declared.Candidate.{Candidate}
 use Rattle.lookup.specs.declared.Lookup.{Lookup}
 use Rattle.lookup.specs.declared.Step.{Step}
 use Rattle.lookup.specs.declared.Answer.{Answer}
@@ -125,24 +126,6 @@ module _ (l : Lookup) (b : Bool) (eb : b ≡ inForm l) (r : Step) where
             (ap (λ (j : ℕ). ltb j (l .count)) (sym nearest) ∙ le-ltb i (l .count) z))
 
 -- ---- ids and peers
-module _ (id : List ℕ) where
-  pub fits-none : length id < 1 → false ≡ idFits id
-  fits-none h = sym (and-off (leb 1 (length id)) _ (lt-leb 1 (length id) h))
-
-  pub fits-most : 1 ≤ length id → leb (length id) idMost ≡ idFits id
-  fits-most h = sym (and-on (leb 1 (length id)) _ (le-leb 1 (length id) h))
-
-pub fits-len : (id : List ℕ) (b : Bool) → b ≡ idFits id → not b ≡ false → length id ≤ 64
-fits-len id b e h = leb-true (length id) idMost (and-r (leb 1 (length id)) (leb (length id) idMost) (sym e ∙ not-false b h))
-
-pub flies-no : (p : List ℕ) (c : Candidate) → (c .mark ≡ flying → ⊥) → false ≡ flies p c
-unfolding flies
-flies-no p c h = sym (and-off (eqb (c .mark) flying) (same (c .place) p) (ne-eqb (c .mark) flying h))
-
-pub flies-same : (p : List ℕ) (c : Candidate) (b : Bool) → c .mark ≡ flying → b ≡ same (c .place) p → b ≡ flies p c
-unfolding flies
-flies-same p c b h e = e ∙ sym (and-on (eqb (c .mark) flying) (same (c .place) p) (eq-eqb (c .mark) flying h))
-
 module _ (own ours id : List ℕ) (a : Bool) (ea : a ≡ idFits own) where
   pub bad-own : not a ≡ true → badPeer own ours id ≡ true
   unfolding badPeer
@@ -238,10 +221,6 @@ module _ (l : Lookup) (own ours id : List ℕ) (w : Whom) (ew : w ≡ whomOf l o
   fail-at i k q ek e = e ∙ ap settled ek ∙ ap (λ (x : Whom). reported l x (λ i. mark i failed l)) (sym q ∙ ew)
 
 -- ---- hearing of a peer
-pub fresh-is : (id kept p : List ℕ) (n : ℕ) → kept ≡ sets (replicate idMost 0) 0 id → p ≡ sha256 id → n ≡ length id
-    → record { id = kept; place = p; mark = idle; len = n } ≡ fresh id
-fresh-is id kept p n ek ep en = rw (ek, ep, en)
-
 module _ (c : Candidate) (l : Lookup) (b : Bool) (eb : b ≡ known (c .place) (candidatesOf l)) where
   pub meet-known : b ≡ true → l ≡ meet c l
   unfolding meet

@@ -3,12 +3,9 @@ use Prim.Native.Nat.{ℕ, _+_}
 use mathlib.Core.Bool.{Bool, cond, not}
 use mathlib.Core.List.{List}
 use lib.Dec.{ltb}
-use Rattle.octets.specs.Octets.{same}
 use Rattle.place.specs.Place.{nearerTo}
-use Rattle.sha256.specs.Sha256.{sha256}
 use Rattle.lookup.specs.Lists.{firstIn}
-use Rattle.lookup.specs.Lookup.{idFits, fresh, nobody}
-use Rattle.lookup.specs.declared.Candidate.{Candidate}
+use Rattle.lookup_candidates.specs.declared.Candidate.{Candidate}
 
 -- not nearer to the target t than the place p
 abbrev pub beyond : List ℕ → List ℕ → Candidate → Bool
@@ -21,7 +18,3 @@ rankOf t p cs = firstIn (beyond t p) cs
 -- the same of one more, d of rank j, where r is that of those before it
 unfoldable pub rankOn : List ℕ → List ℕ → ℕ → ℕ → Candidate → ℕ
 rankOn t p r j d = cond (ltb r j) r (cond (nearerTo t (d .place) p) (j + 1) j)
-
--- who is heard of by an id; nobody, where the id is bad or ours
-unfoldable pub arrivalOf : List ℕ → List ℕ → Candidate
-arrivalOf ours id = cond (not (idFits id)) nobody (cond (same (sha256 id) ours) nobody (fresh id))

@@ -1,6 +1,6 @@
 -- Searches in a list. -- for octets
 use Prim.Native.Nat.{ℕ, suc}
-use mathlib.Core.Bool.{Bool, true, false, cond, _||_}
+use mathlib.Core.Bool.{Bool, false, cond, _||_}
 use mathlib.Core.List.{List, [], _∷_}
 
 -- the place of the first element that passes, or the length where none does

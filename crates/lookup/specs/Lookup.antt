@@ -3,7 +3,6 @@ use Prim.Native.Nat.{ℕ, zero, suc, _-_}
 use mathlib.Core.Bool.{Bool, true, false, cond, not, _&&_, _||_}
 use mathlib.Core.List.{List, [], _∷_, _++_, map}
 use lib.ListN.{length, take, drop, replicate}
-use lib.Seq.{sets}
 use lib.Dec.{leb, ltb, eqb}
 use Rattle.octets.specs.Octets.{same}
 use Rattle.octets.specs.Search.{allOf}
@@ -11,11 +10,9 @@ use Rattle.place.specs.Place.{nearerTo}
 use Rattle.sha256.specs.Sha256.{sha256}
 use Rattle.refusal.specs.declared.Refusal.{Refusal}
 use Rattle.refusal.specs.declared.Refusal.the-variants.{OutOfForm, BreaksRules, BadPeer, NotInFlight, LookupOver, BadConcurrency}
-use Rattle.lookup_marks.specs.Marks.{idle, flying, answered, failed, twentyOf, isOver, idleOf, flightsOf, sentOf, ranksOf}
-use Rattle.lookup_marks.specs.declared.Ranks.{Ranks}
-use Rattle.contacts.specs.Table.{slot, place}
+use Rattle.lookup_marks.specs.Marks.{flying, answered, failed, twentyOf, isOver, idleOf, flightsOf, sentOf, ranksOf}
+use Rattle.contacts.specs.Table.{place}
 use Rattle.contacts.specs.Form.{inForm as inFormTable}
-use Rattle.contacts.specs.Contact.{entryId}
 use Rattle.contacts.specs.Near.{nearestSlots}
 use Rattle.message.specs.Message.{Peer, messageOf}
 use Rattle.message.specs.View.{readingOf}
@@ -24,22 +21,20 @@ use Rattle.message.specs.declared.Reading.{Reading}
 use Rattle.message.specs.declared.Reading.the-variants.{Whole, Refused as Unread}
 use Rattle.lookup.specs.Lists.{firstIn, anyIn}
 use Rattle.lookup.specs.View.{sameFields}
-use Rattle.lookup.specs.declared.Candidate.{Candidate}
+use Rattle.lookup_candidates.specs.declared.Candidate.{Candidate}
 use Rattle.lookup.specs.declared.Lookup.{Lookup}
 use Rattle.lookup.specs.declared.Step.{Step}
 use Rattle.lookup.specs.declared.Answer.{Answer}
 use Rattle.lookup.specs.declared.Answer.the-variants.{Refused, Complete, CutShort, Wait, Ask, Going}
 use Rattle.lookup.specs.declared.Whom.{Whom}
 use Rattle.lookup.specs.declared.Whom.the-variants.{Nobody, At}
+pub use Rattle.lookup_candidates.specs.Candidates.{idMost, markOf, idFits, liesAt, padded, fresh, nobody, contactAt}
+unfoldable pub use Rattle.lookup_candidates.specs.Candidates.{wellMade, flies}
 
 -- ---- limits
 -- "Room for 256."
 abbrev pub room : ℕ
 room = 256
-
--- a peer id has 1 to 64 bytes
-abbrev pub idMost : ℕ
-idMost = 64
 
 -- a key has 1 to 128 bytes
 abbrev pub keyMost : ℕ
@@ -57,17 +52,11 @@ heardMost = 21
 abbrev pub candidatesOf : Lookup → List Candidate
 candidatesOf l = take (l .count) (l .candidates)
 
-abbrev pub markOf : Candidate → ℕ
-markOf c = c .mark
-
 abbrev pub marksOf : Lookup → List ℕ
 marksOf l = map markOf (candidatesOf l)
 
 -- ---- form: "a key of 1 to 128 bytes, a limit of 1 to 10, up to 256 candidates nearest first with ids of 1 to 64 bytes, no place twice".
 -- Each being nearer than the next, no place stands twice.
-unfoldable pub wellMade : Candidate → Bool
-wellMade c = allOf (leb (c .mark) failed ∷ leb 1 (c .len) ∷ leb (c .len) idMost ∷ [])
-
 -- each of cs is well made and farther from the target t than the one before it, the first than d
 unfoldable pub follow : List ℕ → Candidate → List Candidate → Bool
 follow t d [] = true
@@ -161,16 +150,9 @@ nextOf l =
     (gives l Wait))))
 
 -- ---- reply and failure: who it is about
-abbrev pub idFits : List ℕ → Bool
-idFits id = leb 1 (length id) && leb (length id) idMost
-
 -- "peer id not 1 to 64 bytes, or of our place"; a box whose own id is no peer id refuses the same way
 unfoldable pub badPeer : List ℕ → List ℕ → List ℕ → Bool
 badPeer own ours id = not (idFits own) || (not (idFits id) || same (sha256 id) ours)
-
--- the candidate at the place p is in flight
-unfoldable pub flies : List ℕ → Candidate → Bool
-flies p c = eqb (c .mark) flying && same (c .place) p
 
 -- its rank, or the number of candidates where there is none
 abbrev pub flyerOf : List ℕ → List Candidate → ℕ
@@ -195,18 +177,7 @@ unfoldable pub failureOf : Lookup → List ℕ → List ℕ → List ℕ → Ste
 failureOf l own ours id = reported l (whomOf l own ours id) (λ i. mark i failed l)
 
 -- ---- hearing of a peer
--- a byte string at the start of n bytes, zeros after it
-abbrev pub padded : ℕ → List ℕ → List ℕ
-padded n s = sets (replicate n 0) 0 s
-
--- a candidate as it comes in: idle
-abbrev pub fresh : List ℕ → Candidate
-fresh id = record { id = padded idMost id; place = sha256 id; mark = idle; len = length id }
-
 -- some candidate lies at p
-abbrev pub liesAt : List ℕ → Candidate → Bool
-liesAt p c = same (c .place) p
-
 abbrev pub known : List ℕ → List Candidate → Bool
 known p cs = anyIn (liesAt p) cs
 
@@ -257,10 +228,7 @@ replyOf l own ours id body v =
     cond (not (isView body v)) (refuses l OutOfForm) (reported l (whomOf l own ours id) (heardFrom ours body (v .kind) l))
 
 -- ---- start
--- no candidate, and no lookup: "A refused start hands back an empty one with limit 0, so later steps give 0."
-abbrev pub nobody : Candidate
-nobody = record { id = replicate idMost 0; place = replicate 32 0; mark = idle; len = 0 }
-
+-- "A refused start hands back an empty one with limit 0, so later steps give 0."
 abbrev pub noLookup : Lookup
 noLookup =
     record {
@@ -272,11 +240,6 @@ noLookup =
       limit = 0;
       turned = false;
     }
-
--- slot i of the table of contacts as an idle candidate
-abbrev pub contactAt : List ℕ → ℕ → Candidate
-contactAt t i =
-    record { id = padded idMost (entryId (slot t i)); place = padded 32 (place (slot t i)); mark = idle; len = length (entryId (slot t i)) }
 
 -- "the 20 nearest contacts as idle candidates"
 unfoldable pub firstOnes : List ℕ → List ℕ → List Candidate

@@ -1,5 +1,4 @@
 -- Two views compared, field by field. -- for message
-use Prim.Native.Nat.{ℕ}
 use mathlib.Core.Bool.{Bool, cond, not, _&&_}
 use lib.Dec.{eqb}
 use Rattle.wire.specs.declared.Span.{Span}

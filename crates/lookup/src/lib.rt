@@ -1,14 +1,13 @@
 // The closest-peer lookup: a value that each step takes in and hands back.
 ghost use mathlib.Core.Path.{_≡_};
-ghost use mathlib.Core.Bool.{_&&_, _||_};
-ghost use mathlib.Core.List.{map, _∷_, _++_};
+ghost use mathlib.Core.List.{map};
 ghost use Prim.Native.Nat.{_+_, _<_, _≤_};
-ghost use lib.ListN.{length, take, drop};
-ghost use Rattle.place.specs.Place.{nearerTo};
-ghost use Rattle.lookup_marks.specs.Marks.{failed};
+ghost use lib.ListN.{length, take};
 ghost use Rattle.lookup.specs.View.{sameSpan, sameBool, sameHeld, sameFields};
-ghost use Rattle.lookup.specs.Inner.{rankOn, arrivalOf};
-ghost use Rattle.lookup.specs.Lookup.{markOf, marksOf, wellMade, nearestFirst, inForm, withCandidates, turnAway, markAt, mark, gives, refuses, ends, settled, nextOf, idFits, flies, flyerOf, whomOf, failureOf, fresh, liesAt, known, meet, hear, hearAll, isView, heardIds, heardFrom, replyOf, nobody, noLookup, contactAt, begun, keyFits, limitFits, startOf};
+ghost use Rattle.lookup.specs.Inner.{rankOn};
+ghost use Rattle.lookup_candidates.specs.Candidates.{markOf};
+ghost use Rattle.lookup.specs.Lookup.{marksOf, nearestFirst, inForm, mark, gives, ends, settled, nextOf, flyerOf, whomOf, failureOf, known, hearAll, isView, heardIds, heardFrom, replyOf, noLookup, begun, keyFits, limitFits, startOf};
+pub use lookup_candidates::Candidate;
 use lookup_marks::Ranks;
 use message::Fields;
 use message::Held;
@@ -16,10 +15,8 @@ use message::Reading;
 use refusal::Refusal;
 use wire::Span;
 
-// Room for candidates, and the limits of a peer id, of a key and of the requests in flight.
+// Room for candidates, and the limits of a key and of the requests in flight.
 pub const ROOM: usize = 256;
-
-pub const ID_MOST: usize = 64;
 
 pub const KEY_MOST: usize = 128;
 
@@ -27,14 +24,6 @@ pub const LIMIT_MOST: usize = 10;
 
 // The type of the messages that a lookup asks with and hears.
 pub const FIND_NODE: u64 = 4;
-
-// A peer that was heard of: its mark is one of lookup_marks.
-pub struct Candidate {
-    pub id: [u8; 64],
-    pub place: [u8; 32],
-    pub mark: u8,
-    pub len: u8,
-}
 
 // A lookup: its candidates nearest first, the key with its size and place, how many may be in flight, and whether someone was turned away.
 pub struct Lookup {
@@ -70,30 +59,6 @@ pub struct Step {
     pub answer: Answer,
 }
 
-fn well_made(c: Candidate) -> bool
-    ensures { λ r. ⌜ r ≡ wellMade c ⌝ }
-{
-    if c.mark > lookup_marks::FAILED {
-        return false;
-    }
-    if c.len < 1 {
-        return false;
-    }
-    c.len as usize <= ID_MOST
-}
-
-// Whether c may stand right after d.
-fn follows(target: [u8; 32], d: Candidate, c: Candidate) -> bool
-    ensures { λ r. ⌜ r ≡ (wellMade c && nearerTo target (d .place) (c .place)) ⌝ }
-{
-    if !well_made(c) {
-        return false;
-    }
-    let near = d.place;
-    let far = c.place;
-    place::nearer(&target, &near, &far)
-}
-
 // Whether the first n candidates are well made and stand nearest first.
 fn in_order(l: Lookup, n: usize) -> bool
     requires { ⌜ n ≤ 256 ⌝ }
@@ -104,13 +69,13 @@ fn in_order(l: Lookup, n: usize) -> bool
     }
     let target = l.target;
     let mut last = l.candidates[0];
-    if !well_made(last) {
+    if !lookup_candidates::well_made(last) {
         return false;
     }
     let mut i: usize = 1;
     while i < n {
         let c = l.candidates[i];
-        if !follows(target, last, c) {
+        if !lookup_candidates::follows(target, last, c) {
             return false;
         }
         last = c;
@@ -218,16 +183,6 @@ fn settle(l: Lookup) -> Step
     give(l, Answer::Going)
 }
 
-// Whether a peer id has 1 to 64 bytes.
-fn id_fits(id: &[u8]) -> bool
-    ensures { λ r. ⌜ r ≡ idFits (now (id .entry)) ⌝ }
-{
-    if id.len() < 1 {
-        return false;
-    }
-    id.len() <= ID_MOST
-}
-
 // Whether a key has 1 to 128 bytes.
 fn key_fits(key: &[u8]) -> bool
     ensures { λ r. ⌜ r ≡ keyFits (now (key .entry)) ⌝ }
@@ -248,32 +203,6 @@ fn limit_fits(limit: usize) -> bool
     limit <= LIMIT_MOST
 }
 
-// Whether the candidate lies at this place.
-fn lies_at(c: Candidate, place: [u8; 32]) -> bool
-    ensures { λ r. ⌜ r ≡ liesAt place c ⌝ }
-{
-    let own = c.place;
-    octets::same_bytes(&own, &place)
-}
-
-// Whether the candidate is nearer to the target than this place.
-fn is_nearer(target: [u8; 32], c: Candidate, place: [u8; 32]) -> bool
-    ensures { λ r. ⌜ r ≡ nearerTo target (c .place) place ⌝ }
-{
-    let own = c.place;
-    place::nearer(&target, &own, &place)
-}
-
-// Whether the candidate lies at this place and is in flight.
-fn flies_at(c: Candidate, place: [u8; 32]) -> bool
-    ensures { λ r. ⌜ r ≡ flies place c ⌝ }
-{
-    if c.mark != lookup_marks::IN_FLIGHT {
-        return false;
-    }
-    lies_at(c, place)
-}
-
 // The rank of the candidate in flight at this place, or n.
 fn flyer(l: Lookup, n: usize, place: [u8; 32]) -> usize
     requires { ⌜ n ≤ 256 ⌝ }
@@ -282,7 +211,7 @@ fn flyer(l: Lookup, n: usize, place: [u8; 32]) -> usize
     let mut i: usize = 0;
     while i < n {
         let c = l.candidates[i];
-        if flies_at(c, place) {
+        if lookup_candidates::flies_at(c, place) {
             return i;
         }
         i += 1;
@@ -297,10 +226,10 @@ fn about(l: Lookup, own: &[u8], ours: [u8; 32], id: &[u8]) -> Whom
     if !in_form(l) {
         return Whom::Nobody(Refusal::OutOfForm);
     }
-    if !id_fits(own) {
+    if !lookup_candidates::id_fits(own) {
         return Whom::Nobody(Refusal::BadPeer);
     }
-    if !id_fits(id) {
+    if !lookup_candidates::id_fits(id) {
         return Whom::Nobody(Refusal::BadPeer);
     }
     let place = sha256::hash(id);
@@ -320,16 +249,6 @@ fn about(l: Lookup, own: &[u8], ours: [u8; 32], id: &[u8]) -> Whom
     Whom::At(i)
 }
 
-// Whether some candidate up to d lies at this place, where `before` says it of those before d.
-fn known_by(before: bool, d: Candidate, place: [u8; 32]) -> bool
-    ensures { λ r. ⌜ r ≡ (before || liesAt place d) ⌝ }
-{
-    if before {
-        return true;
-    }
-    lies_at(d, place)
-}
-
 // How many up to d, of rank j, are nearer than the place, up to the first that isn't; r says it of those before d.
 fn rank_by(r: usize, j: usize, target: [u8; 32], d: Candidate, place: [u8; 32]) -> usize
     requires { ⌜ (r ≤ j) × (j < 256) ⌝ }
@@ -338,56 +257,10 @@ fn rank_by(r: usize, j: usize, target: [u8; 32], d: Candidate, place: [u8; 32]) 
     if r < j {
         return r;
     }
-    if is_nearer(target, d, place) {
+    if lookup_candidates::is_nearer(target, d, place) {
         return j + 1;
     }
     j
-}
-
-// A candidate as it comes in: idle.
-fn newcomer(id: &[u8]) -> Candidate
-    requires { ⌜ length (now id) ≤ 64 ⌝ }
-    ensures { λ r. ⌜ r ≡ fresh (now (id .entry)) ⌝ }
-{
-    let place = sha256::hash(id);
-    let len = id.len() as u8;
-    let mut kept = [0u8; 64];
-    octets::copy(&mut kept, 0, id);
-    Candidate {
-        id: kept,
-        place,
-        mark: lookup_marks::IDLE,
-        len,
-    }
-}
-
-// No candidate.
-fn no_candidate() -> Candidate
-    ensures { λ r. ⌜ r ≡ nobody ⌝ }
-{
-    let id = [0u8; 64];
-    let place = [0u8; 32];
-    Candidate {
-        id,
-        place,
-        mark: lookup_marks::IDLE,
-        len: 0,
-    }
-}
-
-// The peer with this id as a candidate; a bad id and our own give nobody.
-fn arrival(ours: [u8; 32], id: &[u8]) -> Candidate
-    ensures { λ r. ⌜ r ≡ arrivalOf ours (now (id .entry)) ⌝ }
-{
-    if !id_fits(id) {
-        return no_candidate();
-    }
-    let c = newcomer(id);
-    let place = c.place;
-    if octets::same_bytes(&place, &ours) {
-        return no_candidate();
-    }
-    c
 }
 
 // Whether two spans are one.
@@ -471,7 +344,7 @@ fn hear_all(l: Lookup, ours: [u8; 32], body: &[u8]) -> Lookup
         let a = at[i];
         let e = end[i];
         i += 1;
-        let c = arrival(ours, &body[a..e]);
+        let c = lookup_candidates::arrival(ours, &body[a..e]);
         if c.len < 1 {
             continue;
         }
@@ -481,7 +354,7 @@ fn hear_all(l: Lookup, ours: [u8; 32], body: &[u8]) -> Lookup
         let mut j: usize = 0;
         while j < m {
             let d = k.candidates[j];
-            known = known_by(known, d, place);
+            known = lookup_candidates::known_by(known, d, place);
             j += 1;
         }
         if known {
@@ -526,7 +399,7 @@ fn hear_from(l: Lookup, i: usize, ours: [u8; 32], body: &[u8], kind: u64) -> Loo
 fn no_lookup() -> Lookup
     ensures { λ r. ⌜ r ≡ noLookup ⌝ }
 {
-    let none = no_candidate();
+    let none = lookup_candidates::no_candidate();
     let candidates = [none; 256];
     let key = [0u8; 128];
     let target = [0u8; 32];
@@ -541,25 +414,6 @@ fn no_lookup() -> Lookup
     }
 }
 
-// Slot i of the table of contacts as a candidate.
-fn contact(table: &[u8], i: usize) -> Candidate
-    ensures { λ r. ⌜ r ≡ contactAt (now (table .entry)) i ⌝ }
-{
-    let id = contacts::id_of(table, i);
-    let len = id.len() as u8;
-    let mut kept = [0u8; 64];
-    octets::copy(&mut kept, 0, id);
-    let mut place = [0u8; 32];
-    octets::copy(&mut place, 0, contacts::place_of(table, i));
-    let mark = lookup_marks::IDLE;
-    Candidate {
-        id: kept,
-        place,
-        mark,
-        len,
-    }
-}
-
 // A lookup with the nearest contacts as candidates.
 fn begin(table: &[u8], key: &[u8], limit: usize) -> Lookup
     requires { ⌜ length (now key) ≤ 128 ⌝ }
@@ -569,11 +423,11 @@ fn begin(table: &[u8], key: &[u8], limit: usize) -> Lookup
     let near = contacts::nearest(table, &target);
     let at = near.at;
     let n = near.n;
-    let none = no_candidate();
+    let none = lookup_candidates::no_candidate();
     let mut candidates = [none; 256];
     let mut i: usize = 0;
     while i < n {
-        let c = contact(table, at[i]);
+        let c = lookup_candidates::contact(table, at[i]);
         candidates[i] = c;
         i += 1;
     }
@@ -650,7 +504,7 @@ impl Lookup {
         if !key_fits(key) {
             return give(no_lookup(), Answer::Refused(Refusal::BreaksRules));
         }
-        if !id_fits(own) {
+        if !lookup_candidates::id_fits(own) {
             return give(no_lookup(), Answer::Refused(Refusal::BadPeer));
         }
         if !limit_fits(limit) {

@@ -21,7 +21,7 @@ use Rattle.message.specs.declared.Fields.{Fields}
 use Rattle.lookup_marks.specs.Marks.{idle, flying, answered, failed, marked, wanted, live, twentyOf, isOver, idleOf, flightsOf, sentOf, ranksOf}
 use Rattle.lookup.specs.Lists.{anyIn}
 use Rattle.lookup.specs.Lookup.{room, candidatesOf, markOf, marksOf, inForm, turnAway, put, withMark, mark, gives, refuses, ends, settled, nextOf, whomOf, reported, failureOf, idFits, fresh, liesAt, known, enter, meet, hear, hearAll, isView, findNode, heardIds, heardFrom, replyOf, nobody, noLookup, contactAt, firstOnes, begun, keyFits, limitFits, startOf}
-use Rattle.lookup.specs.declared.Candidate.{Candidate}
+use Rattle.lookup_candidates.specs.declared.Candidate.{Candidate}
 use Rattle.lookup.specs.declared.Lookup.{Lookup}
 use Rattle.lookup.specs.declared.Step.{Step}
 use Rattle.lookup.specs.declared.Answer.{Answer}

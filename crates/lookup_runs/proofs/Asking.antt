@@ -13,7 +13,7 @@ use Rattle.sha256.specs.Sha256.{sha256}
 use Rattle.contacts.specs.Near.{nearestSlots}
 use Rattle.lookup_marks.specs.Marks.{idle, flying, answered, failed, flightsOf}
 use Rattle.lookup.specs.Lookup.{room, candidatesOf, markOf, marksOf, turnAway, put, withMark, markAt, mark, idFits, fresh, known, enter, meet, hear, hearAll, heardIds, nobody, begun, contactAt, firstOnes}
-use Rattle.lookup.specs.declared.Candidate.{Candidate}
+use Rattle.lookup_candidates.specs.declared.Candidate.{Candidate}
 use Rattle.lookup.specs.declared.Lookup.{Lookup}
 use Rattle.lookup.specs.declared.Answer.{Answer}
 use Rattle.lookup.specs.declared.Answer.the-variants.{Refused, Complete, CutShort, Wait, Ask, Going}

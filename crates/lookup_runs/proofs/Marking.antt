@@ -16,7 +16,7 @@ use Rattle.place.specs.Place.{nearerTo}
 use Rattle.lookup_marks.specs.Marks.{idle, flying, answered, marked, twentyOf, pick, idleOf}
 use Rattle.lookup.specs.Lists.{firstIn, anyIn}
 use Rattle.lookup.specs.Lookup.{candidatesOf, markOf, marksOf, put, withMark, markAt, mark, flies, flyerOf, enter, nobody}
-use Rattle.lookup.specs.declared.Candidate.{Candidate}
+use Rattle.lookup_candidates.specs.declared.Candidate.{Candidate}
 use Rattle.lookup.specs.declared.Lookup.{Lookup}
 
 pub take-mark : (n i m : ℕ) (cs : List Candidate) → take n (markAt i m cs) ≡ markAt i m (take n cs)

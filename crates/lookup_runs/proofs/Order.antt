@@ -17,7 +17,7 @@ use Rattle.place.proofs.Distance.{nearer-out, nearer-is, nearer-total}
 use Rattle.lookup_marks.specs.Marks.{failed}
 use Rattle.lookup.specs.Lists.{anyIn}
 use Rattle.lookup.specs.Lookup.{idMost, wellMade, follow, nearestFirst, withMark, markAt, liesAt, known, enter}
-use Rattle.lookup.specs.declared.Candidate.{Candidate}
+use Rattle.lookup_candidates.specs.declared.Candidate.{Candidate}
 use Rattle.lookup_runs.specs.Runs.{one}
 use Rattle.lookup_runs.proofs.Sums.{sumOf, sum-nil, sum-cons}
 

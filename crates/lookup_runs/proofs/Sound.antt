@@ -24,7 +24,7 @@ use Rattle.contact_form.proofs.EntryFacts.{entry-id-most, form-entry}
 use Rattle.contacts.proofs.TwentyNearest.{nearest-are, nearest-strict}
 use Rattle.lookup_marks.specs.Marks.{idle, flying, answered, failed}
 use Rattle.lookup.specs.Lookup.{room, idMost, keyMost, limitMost, candidatesOf, wellMade, follow, nearestFirst, inForm, turnAway, put, mark, idFits, padded, fresh, known, enter, meet, hear, hearAll, nobody, contactAt, firstOnes, begun, keyFits, limitFits, startOf}
-use Rattle.lookup.specs.declared.Candidate.{Candidate}
+use Rattle.lookup_candidates.specs.declared.Candidate.{Candidate}
 use Rattle.lookup.specs.declared.Lookup.{Lookup}
 use Rattle.lookup.specs.declared.Step.{Step}
 use Rattle.lookup.proofs.Form.{Formed, formed, form-of}

@@ -11,7 +11,7 @@ use Rattle.octets.proofs.Bools.{cond-ind}
 use Rattle.place.specs.Place.{nearerTo}
 use Rattle.lookup_marks.specs.Marks.{idle, flying, marked, flightsOf, sentOf}
 use Rattle.lookup.specs.Lookup.{markOf, withMark, markAt, enter}
-use Rattle.lookup.specs.declared.Candidate.{Candidate}
+use Rattle.lookup_candidates.specs.declared.Candidate.{Candidate}
 
 unfoldable pub sumOf : (Candidate → ℕ) → List Candidate → ℕ
 sumOf w [] = 0

@@ -14,7 +14,7 @@ use Rattle.lookup_marks.specs.Marks.{answered, isOver, sentOf, twentyOf, ranksO
 use Rattle.lookup_marks.specs.declared.Ranks.{Ranks}
 use Rattle.lookup.specs.Lists.{anyIn}
 use Rattle.lookup.specs.Lookup.{room, candidatesOf, marksOf, liesAt, idFits, keyFits, limitFits, nobody, heardIds, nextOf, replyOf, failureOf}
-use Rattle.lookup.specs.declared.Candidate.{Candidate}
+use Rattle.lookup_candidates.specs.declared.Candidate.{Candidate}
 use Rattle.lookup.specs.declared.Lookup.{Lookup}
 use Rattle.lookup.specs.declared.Step.{Step}
 use Rattle.lookup.specs.declared.Answer.{Answer}

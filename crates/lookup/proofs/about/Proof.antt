@@ -4,7 +4,6 @@ use lib.ListN.{length, length-map}
 use native.Mathlib.Omega.{arith}
 use borrow.Author.Needs.{needs}
 use Rattle.lookup.proofs.Steps.{room-of, marks-part, marks-count, bad-own, bad-id, bad-place, good-peer, whom-form, whom-bad, whom-over, whom-none, whom-at}
-use borrow.Author.Needs.{needs}
 use Rattle.lookup.proofs.about.Statement.{statement}
 use Rattle.lookup.proofs.about.Tie as tie
 

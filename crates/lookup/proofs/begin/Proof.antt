@@ -3,7 +3,7 @@ use Prim.Native.Nat.{_-_}
 use native.Mathlib.Omega.{arith}
 use borrow.Author.Needs.{needs}
 use Rattle.contacts.specs.Near.{nearestSlots}
-use Rattle.lookup.specs.Lookup.{nobody, contactAt}
+use Rattle.lookup_candidates.specs.Candidates.{nobody, contactAt}
 use Rattle.lookup.proofs.Starting.{Placing, place-start, near-within, begin-one, begin-all, begun-fits}
 use Rattle.lookup.proofs.begin.Statement.{statement}
 use Rattle.lookup.proofs.begin.Tie as tie

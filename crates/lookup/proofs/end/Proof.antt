@@ -1,7 +1,6 @@
 -- `end`: the twenty and the count, of the marks that were handed in. Assumes nothing.
 use borrow.Author.Needs.{needs}
 use Rattle.lookup.proofs.Steps.{end-cut, end-whole}
-use borrow.Author.Needs.{needs}
 use Rattle.lookup.proofs.end.Statement.{statement}
 use Rattle.lookup.proofs.end.Tie as tie
 

@@ -5,7 +5,7 @@ use lib.ListN.{length, take, drop, length-map}
 use native.Mathlib.Omega.{arith}
 use borrow.Author.Needs.{needs}
 use Rattle.lookup.specs.Lists.{firstIn}
-use Rattle.lookup.specs.Lookup.{flies}
+use Rattle.lookup_candidates.specs.Candidates.{flies}
 use Rattle.lookup.proofs.Lists.{seek-hit, seek-miss, seek-end}
 use Rattle.lookup.proofs.flyer.Statement.{statement}
 use Rattle.lookup.proofs.flyer.Tie as tie

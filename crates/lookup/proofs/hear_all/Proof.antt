@@ -6,7 +6,8 @@ use native.Mathlib.Omega.{arith}
 use borrow.Author.Needs.{needs}
 use Rattle.lookup.specs.Lists.{firstIn, anyIn}
 use Rattle.lookup.specs.Inner.{beyond}
-use Rattle.lookup.specs.Lookup.{liesAt, withCandidates}
+use Rattle.lookup_candidates.specs.Candidates.{liesAt}
+use Rattle.lookup.specs.Lookup.{withCandidates}
 use Rattle.lookup.proofs.Scans.{gap, shift-start, shift-step, shift-end}
 use Rattle.lookup.proofs.Steps.{meet-known, meet-new, meet-full}
 use Rattle.lookup.proofs.Hearing.{Heard, heard-start, heard-one, heard-all, ids-within, cut-order, cut-end}

@@ -2,7 +2,6 @@
 use mathlib.Core.Path.{_∙_}
 use borrow.Author.Needs.{needs}
 use Rattle.lookup.proofs.Form.{form-size-low, form-size-high, form-limit-low, form-limit-high, form-count, form-rest}
-use borrow.Author.Needs.{needs}
 use Rattle.lookup.proofs.in_form.Statement.{statement}
 use Rattle.lookup.proofs.in_form.Tie as tie
 

@@ -4,7 +4,6 @@ use borrow.Author.Needs.{needs}
 use Rattle.message.specs.declared.Reading.{Reading}
 use Rattle.lookup.specs.Lookup.{isReading}
 use Rattle.lookup.proofs.Hearing.{view-is}
-use borrow.Author.Needs.{needs}
 use Rattle.lookup.proofs.is_view.Statement.{statement}
 use Rattle.lookup.proofs.is_view.Tie as tie
 

@@ -4,7 +4,7 @@ use mathlib.Core.Path.{_≡_, refl, sym, _∙_}
 use lib.ListN.{length, length-map, length-replicate}
 use native.Mathlib.Omega.{arith}
 use borrow.Author.Needs.{needs}
-use Rattle.lookup.specs.Lookup.{markOf}
+use Rattle.lookup_candidates.specs.Candidates.{markOf}
 use Rattle.lookup.proofs.Lists.{Mapping, map-one, map-all}
 use Rattle.lookup.proofs.marks_of.Statement.{statement}
 use Rattle.lookup.proofs.marks_of.Tie as tie

@@ -1,7 +1,6 @@
 -- `no_lookup`: zeros. Assumes nothing.
 use borrow.Author.Needs.{needs}
 use Rattle.lookup.proofs.Starting.{no-lookup-is}
-use borrow.Author.Needs.{needs}
 use Rattle.lookup.proofs.no_lookup.Statement.{statement}
 use Rattle.lookup.proofs.no_lookup.Tie as tie
 

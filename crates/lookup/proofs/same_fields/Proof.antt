@@ -1,8 +1,7 @@
 -- `same_fields`: field by field. Assumes nothing.
 use borrow.Author.Needs.{needs}
-use Rattle.lookup.proofs.Form.{both-no, both-yes}
+use Rattle.lookup_candidates.proofs.Candidates.{both-no, both-yes}
 use Rattle.lookup.proofs.Hearing.{kind-no, kind-yes}
-use borrow.Author.Needs.{needs}
 use Rattle.lookup.proofs.same_fields.Statement.{statement}
 use Rattle.lookup.proofs.same_fields.Tie as tie
 

@@ -1,8 +1,7 @@
 -- `same_held`: field by field. Assumes nothing.
 use borrow.Author.Needs.{needs}
-use Rattle.lookup.proofs.Form.{both-no, both-yes}
+use Rattle.lookup_candidates.proofs.Candidates.{both-no, both-yes}
 use Rattle.lookup.proofs.Hearing.{held-is}
-use borrow.Author.Needs.{needs}
 use Rattle.lookup.proofs.same_held.Statement.{statement}
 use Rattle.lookup.proofs.same_held.Tie as tie
 

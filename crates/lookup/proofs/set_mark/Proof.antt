@@ -3,9 +3,8 @@ use mathlib.Core.Path.{ap}
 use mathlib.Core.List.{List}
 use borrow.Author.Needs.{needs}
 use Rattle.lookup.specs.Lookup.{withCandidates}
-use Rattle.lookup.specs.declared.Candidate.{Candidate}
+use Rattle.lookup_candidates.specs.declared.Candidate.{Candidate}
 use Rattle.lookup.proofs.Scans.{set-marked}
-use borrow.Author.Needs.{needs}
 use Rattle.lookup.proofs.set_mark.Statement.{statement}
 use Rattle.lookup.proofs.set_mark.Tie as tie
 

@@ -4,7 +4,6 @@ use mathlib.Core.Bool.{not}
 use lib.ListN.{length, length-map}
 use borrow.Author.Needs.{needs}
 use Rattle.lookup.proofs.Steps.{marks-part, marks-count, settle-over, settle-going}
-use borrow.Author.Needs.{needs}
 use Rattle.lookup.proofs.settle.Statement.{statement}
 use Rattle.lookup.proofs.settle.Tie as tie
 

@@ -2,7 +2,6 @@
 use native.Mathlib.Omega.{arith}
 use borrow.Author.Needs.{needs}
 use Rattle.lookup.proofs.Steps.{found-within, marked-room, fail-refused, fail-at}
-use borrow.Author.Needs.{needs}
 use Rattle.lookup.proofs.Lookup.failure.Statement.{statement}
 use Rattle.lookup.proofs.Lookup.failure.Tie as tie
 

@@ -4,7 +4,6 @@ use lib.ListN.{length, length-map}
 use native.Mathlib.Omega.{arith}
 use borrow.Author.Needs.{needs}
 use Rattle.lookup.proofs.Steps.{room-of, marks-part, marks-count, next-bad, next-over, next-full, next-ask, next-wait}
-use borrow.Author.Needs.{needs}
 use Rattle.lookup.proofs.Lookup.next.Statement.{statement}
 use Rattle.lookup.proofs.Lookup.next.Tie as tie
 

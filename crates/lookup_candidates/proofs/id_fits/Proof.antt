@@ -1,7 +1,7 @@
 -- `id_fits`: test by test. Assumes nothing.
-use Rattle.lookup.proofs.Steps.{fits-none, fits-most}
-use Rattle.lookup.proofs.id_fits.Statement.{statement}
-use Rattle.lookup.proofs.id_fits.Tie as tie
+use Rattle.lookup_candidates.proofs.Candidates.{fits-none, fits-most}
+use Rattle.lookup_candidates.proofs.id_fits.Statement.{statement}
+use Rattle.lookup_candidates.proofs.id_fits.Tie as tie
 
 returns : tie.Need-returns
 returns c = fits-none (c .before .args .id .now) (c .if1 .taken)

@@ -1,9 +1,8 @@
 -- `well_made`: test by test. Assumes nothing.
 use borrow.Author.Needs.{needs}
-use Rattle.lookup.proofs.Form.{made-mark, made-empty, made-len}
-use borrow.Author.Needs.{needs}
-use Rattle.lookup.proofs.well_made.Statement.{statement}
-use Rattle.lookup.proofs.well_made.Tie as tie
+use Rattle.lookup_candidates.proofs.Candidates.{made-mark, made-empty, made-len}
+use Rattle.lookup_candidates.proofs.well_made.Statement.{statement}
+use Rattle.lookup_candidates.proofs.well_made.Tie as tie
 
 returns : tie.Need-returns
 returns c = made-mark (c .before .before .args .c) (c .if1 .taken)

@@ -1,9 +1,8 @@
 -- `flies_at`: the mark, then the place. Assumes nothing.
 use borrow.Author.Needs.{needs}
-use Rattle.lookup.proofs.Steps.{flies-no, flies-same}
-use borrow.Author.Needs.{needs}
-use Rattle.lookup.proofs.flies_at.Statement.{statement}
-use Rattle.lookup.proofs.flies_at.Tie as tie
+use Rattle.lookup_candidates.proofs.Candidates.{flies-no, flies-same}
+use Rattle.lookup_candidates.proofs.flies_at.Statement.{statement}
+use Rattle.lookup_candidates.proofs.flies_at.Tie as tie
 
 returns : tie.Need-returns
 returns c = flies-no (c .before .before .args .place) (c .before .before .args .c) (c .if1 .taken)

@@ -1,9 +1,8 @@
 -- `follows`: well made, then farther. Assumes nothing.
 use borrow.Author.Needs.{needs}
-use Rattle.lookup.proofs.Form.{both-no, both-yes}
-use borrow.Author.Needs.{needs}
-use Rattle.lookup.proofs.follows.Statement.{statement}
-use Rattle.lookup.proofs.follows.Tie as tie
+use Rattle.lookup_candidates.proofs.Candidates.{both-no, both-yes}
+use Rattle.lookup_candidates.proofs.follows.Statement.{statement}
+use Rattle.lookup_candidates.proofs.follows.Tie as tie
 
 well-made-requires : tie.Need-well-made-requires
 well-made-requires c κs = search needs

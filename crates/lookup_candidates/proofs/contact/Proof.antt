@@ -5,10 +5,9 @@ use native.Mathlib.Omega.{arith}
 use borrow.Author.Needs.{needs}
 use Rattle.contacts.specs.Table.{slot}
 use Rattle.contact_form.proofs.EntryFacts.{entry-id-most}
-use Rattle.lookup.proofs.Starting.{contact-is}
-use borrow.Author.Needs.{needs}
-use Rattle.lookup.proofs.contact.Statement.{statement}
-use Rattle.lookup.proofs.contact.Tie as tie
+use Rattle.lookup_candidates.proofs.Candidates.{contact-is}
+use Rattle.lookup_candidates.proofs.contact.Statement.{statement}
+use Rattle.lookup_candidates.proofs.contact.Tie as tie
 
 id-of-requires : tie.Need-id-of-requires
 id-of-requires c κs = search needs

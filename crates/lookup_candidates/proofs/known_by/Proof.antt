@@ -2,8 +2,8 @@
 use mathlib.Core.Path.{sym, _∙_}
 use Rattle.octets.proofs.Bools.{or-off}
 use borrow.Author.Needs.{needs}
-use Rattle.lookup.proofs.known_by.Statement.{statement}
-use Rattle.lookup.proofs.known_by.Tie as tie
+use Rattle.lookup_candidates.proofs.known_by.Statement.{statement}
+use Rattle.lookup_candidates.proofs.known_by.Tie as tie
 
 returns : tie.Need-returns
 returns c = search needs

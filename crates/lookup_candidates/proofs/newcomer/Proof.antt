@@ -1,10 +1,9 @@
 -- `newcomer`: hashed and copied. Assumes nothing.
 use mathlib.Core.Path.{refl}
 use borrow.Author.Needs.{needs}
-use Rattle.lookup.proofs.Steps.{fresh-is}
-use borrow.Author.Needs.{needs}
-use Rattle.lookup.proofs.newcomer.Statement.{statement}
-use Rattle.lookup.proofs.newcomer.Tie as tie
+use Rattle.lookup_candidates.proofs.Candidates.{fresh-is}
+use Rattle.lookup_candidates.proofs.newcomer.Statement.{statement}
+use Rattle.lookup_candidates.proofs.newcomer.Tie as tie
 
 hash-requires : tie.Need-hash-requires
 hash-requires c κs = search needs

@@ -1,9 +1,8 @@
 -- `arrival`: a bad id, ourselves, or a newcomer. Assumes nothing.
-use Rattle.lookup.proofs.Steps.{fits-len}
-use Rattle.lookup.proofs.Arriving.{arrival-bad, arrival-ours, arrival-new}
+use Rattle.lookup_candidates.proofs.Candidates.{fits-len, arrival-bad, arrival-ours, arrival-new}
 use borrow.Author.Needs.{needs}
-use Rattle.lookup.proofs.arrival.Statement.{statement}
-use Rattle.lookup.proofs.arrival.Tie as tie
+use Rattle.lookup_candidates.proofs.arrival.Statement.{statement}
+use Rattle.lookup_candidates.proofs.arrival.Tie as tie
 
 id-fits-requires : tie.Need-id-fits-requires
 id-fits-requires c κs = search needs
