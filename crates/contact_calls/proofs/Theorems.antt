@@ -14,7 +14,7 @@ use Rattle.place.proofs.Places.{length-placeOf, bytes-placeOf}
 use Rattle.refusal.specs.declared.Refusal.{Refusal}
 use Rattle.contacts.specs.Table.{slotsOf, slot, used}
 use Rattle.contacts.specs.Form.{inForm, goodOrFree, good}
-use Rattle.contact_slots.proofs.Cuts.{mark-cut, mark-free}
+use Rattle.contact_table.proofs.Cuts.{mark-cut, mark-free}
 use Rattle.peer.specs.Peers.{badPeer, peerOf}
 use Rattle.peer.proofs.Meaning.{place-is, fits-least, fits-most, not-bad-id, not-bad-place}
 use Rattle.sightings_kept.specs.Promises.{Fair}

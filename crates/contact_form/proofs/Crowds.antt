@@ -10,7 +10,7 @@ use lib.Dec.{eqb}
 use borrow.Author.Tests.{eqb-true, eqb-false, not-true}
 use Rattle.octets.specs.Search.{count}
 use Rattle.octets.proofs.Bools.{either, and-l, and-r, to-false}
-use Rattle.contact_slots.specs.Table.{bucketSize, slotsOf, slot, used}
+use Rattle.contact_table.specs.Table.{bucketSize, slotsOf, slot, used}
 use Rattle.contact_form.specs.Form.{rank, slotBucket, inForm}
 use Rattle.contact_form.proofs.FormFacts.{InForm, form-elim, form-rank}
 

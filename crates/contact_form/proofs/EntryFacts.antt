@@ -7,10 +7,10 @@ use native.Mathlib.Omega.{arith}
 use lib.ListN.{length, length-take}
 use lib.Seq.{take-all}
 use Rattle.octets.proofs.Parts.{part-size}
-use Rattle.contact_slots.specs.Table.{slotsOf, slot, used, idSize, addressCount, addressSize, id, address, addressesTo, addresses, longestId, longestAddress, addressRooms}
+use Rattle.contact_table.specs.Table.{slotsOf, slot, used, idSize, addressCount, addressSize, id, address, addressesTo, addresses, longestId, longestAddress, addressRooms}
 use Rattle.contact_form.specs.Form.{inForm}
-use Rattle.contact_slots.specs.Contact.{entryId, entryAddress, entryCount, entryAddressesTo, entryAddresses}
-use Rattle.contact_slots.proofs.Cuts.{slot-whole, slot-size}
+use Rattle.contact_table.specs.Contact.{entryId, entryAddress, entryCount, entryAddressesTo, entryAddresses}
+use Rattle.contact_table.proofs.Cuts.{slot-whole, slot-size}
 use Rattle.contact_form.proofs.FormFacts.{Fields, form-elim}
 
 -- what is never over its limit

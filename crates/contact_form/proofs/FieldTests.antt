@@ -6,7 +6,7 @@ use mathlib.Core.List.{List, [], _∷_}
 use borrow.Author.Tests.{le-leb, lt-leb, eq-eqb, ne-eqb}
 use Rattle.octets.specs.Search.{all, allOf}
 use Rattle.octets.proofs.Bools.{all-on, all-off}
-use Rattle.contact_slots.specs.Table.{bucketSize, mark, spare, idSize, addressCount, longestId, addressRooms}
+use Rattle.contact_table.specs.Table.{bucketSize, mark, spare, idSize, addressCount, longestId, addressRooms}
 use Rattle.contact_form.specs.Form.{addressFits, fieldsFit}
 
 -- for octets

@@ -15,9 +15,9 @@ use Rattle.octets.proofs.Searching.{all-at, all-intro, some-at, some-intro}
 use Rattle.octets.proofs.Strings.{same-eq, same-yes}
 use Rattle.place.specs.Place.{bucketOf}
 use Rattle.place.proofs.Buckets.{bucket-self, bucket-lt}
-use Rattle.contact_slots.specs.Table.{bucketSize, slotsOf, slot, mark, used, spare, idSize, addressCount, addressSize, place, longestId, longestAddress, addressRooms}
+use Rattle.contact_table.specs.Table.{bucketSize, slotsOf, slot, mark, used, spare, idSize, addressCount, addressSize, place, longestId, longestAddress, addressRooms}
 use Rattle.contact_form.specs.Form.{buckets, rank, slotBucket, addressFits, fieldsFit, tied, justBelow, apart, leads, good, goodOrFree, inForm}
-use Rattle.contact_slots.proofs.Cuts.{slot-whole, place-size, bytes-place, used-mark}
+use Rattle.contact_table.proofs.Cuts.{slot-whole, place-size, bytes-place, used-mark}
 
 -- ---- the fields of a slot
 pub record Fields (s : List ℕ) : Type 0 where

@@ -17,10 +17,10 @@ use Rattle.octets.proofs.Bools.{either, and-l, and-r, and-i, or-l, or-off, or-s
 use Rattle.octets.proofs.Searching.{all-at, all-intro}
 use Rattle.octets.proofs.Strings.{same-eq, same-yes, three}
 use Rattle.place.specs.Place.{bucketOf}
-use Rattle.contact_slots.specs.Table.{bucketSize, slotsOf, slot, mark, used, place}
+use Rattle.contact_table.specs.Table.{bucketSize, slotsOf, slot, mark, used, place}
 use Rattle.contact_form.specs.Form.{buckets, rank, slotBucket, fieldsFit, inForm}
 use Rattle.contact_form.specs.Inner.{indexSize, fine, keyOf, keyOr, Indexed, otherPlace, otherBefore, entryFits}
-use Rattle.contact_slots.proofs.Cuts.{used-mark, mark-used, mark-free}
+use Rattle.contact_table.proofs.Cuts.{used-mark, mark-used, mark-free}
 use Rattle.contact_form.proofs.FormFacts.{Fields, fields-elim, fields-intro, InForm, form-elim, form-intro}
 
 -- ---- a slot by itself, and its key

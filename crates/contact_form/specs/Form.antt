@@ -7,7 +7,7 @@ use lib.Dec.{ltb, leb, eqb}
 use Rattle.octets.specs.Octets.{same}
 use Rattle.octets.specs.Search.{all, some, allOf}
 use Rattle.place.specs.Place.{bucketOf}
-use Rattle.contact_slots.specs.Table.{bucketSize, longestId, longestAddress, addressRooms, slotsOf, slot, mark, used, spare, idSize, addressCount, addressSize, place}
+use Rattle.contact_table.specs.Table.{bucketSize, longestId, longestAddress, addressRooms, slotsOf, slot, mark, used, spare, idSize, addressCount, addressSize, place}
 
 -- buckets 0 to 255
 abbrev pub buckets : ℕ

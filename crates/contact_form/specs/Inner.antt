@@ -7,7 +7,7 @@ use lib.Dec.{ltb, eqb}
 use lib.ListN.{length, getD}
 use Rattle.octets.specs.Octets.{part, number, same}
 use Rattle.octets.specs.Search.{all}
-use Rattle.contact_slots.specs.Table.{bucketSize, slot, used, place}
+use Rattle.contact_table.specs.Table.{bucketSize, slot, used, place}
 use Rattle.contact_form.specs.declared.Words.{Words}
 use Rattle.contact_form.specs.Form.{buckets, rank, slotBucket, fieldsFit}
 

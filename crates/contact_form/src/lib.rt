@@ -1,18 +1,18 @@
 // The form test of the contact table, for a table of any bytes.
-use contact_slots::ADDRESS;
-use contact_slots::ADDRESSES;
-use contact_slots::ID;
-use contact_slots::ID_AT;
-use contact_slots::PLACE;
-use contact_slots::PLACE_AT;
-use contact_slots::SLOT;
+use contact_table::ADDRESS;
+use contact_table::ADDRESSES;
+use contact_table::ID;
+use contact_table::ID_AT;
+use contact_table::PLACE;
+use contact_table::PLACE_AT;
+use contact_table::SLOT;
 ghost use mathlib.Core.Path.{_≡_};
 ghost use mathlib.Core.Bool.{true, false};
 ghost use Prim.Native.Nat.{ℕ, _+_, _*_, _-_, _<_, _≤_};
 ghost use lib.ListN.{length, getD};
 ghost use Rattle.octets.specs.Octets.{same};
 ghost use Rattle.octets.specs.Search.{all};
-ghost use Rattle.contact_slots.specs.Table.{slotSize, addressRooms, slotsOf, slot, place};
+ghost use Rattle.contact_table.specs.Table.{slotSize, addressRooms, slotsOf, slot, place};
 ghost use Rattle.contact_form.specs.Form.{addressFits, fieldsFit, inForm};
 ghost use Rattle.contact_form.specs.Inner.{indexSize, keyOr, Indexed, wordsOf, otherPlace, otherBefore, entryFits};
 
@@ -237,7 +237,7 @@ fn entries_fit(table: &[u8], at: &[u16]) -> bool
 pub fn in_form(table: &[u8], ours: &[u8]) -> bool
     ensures { λ r. ⌜ r ≡ inForm (now (table .entry)) (now (ours .entry)) ⌝ }
 {
-    let n = contact_slots::slots(table);
+    let n = contact_table::slots(table);
     let mut at = [0u16; INDEX];
     if !collect(table, ours, n, &mut at) {
         return false;

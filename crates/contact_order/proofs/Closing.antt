@@ -12,7 +12,7 @@ use lib.ListN.{length, set, length-set}
 use borrow.Author.Tests.{lt-ltb, le-ltb}
 use Rattle.octets.proofs.Bools.{and-i, and-off, and-fails, either, cond-yes, cond-no}
 use Rattle.place.specs.Place.{bucketOf}
-use Rattle.contact_slots.proofs.Cuts.{mark-used}
+use Rattle.contact_table.proofs.Cuts.{mark-used}
 use Rattle.contacts.specs.Table.{slotsOf, slot, putSlot, mark, place}
 use Rattle.contact_order.specs.Order.{ofBucket, withMark, lowered, each, closeUp, leave}
 use Rattle.contact_order.proofs.Slots.{slot-long, length-put, slot-put, slot-other, put-self, put-set}

@@ -15,7 +15,7 @@ use Rattle.octets.proofs.Bools.{either, to-false, and-l, and-r, and-on, and-off
 use Rattle.place.specs.Place.{bits, bucketOf}
 use Rattle.place.proofs.Buckets.{bucket-places, word-same, word-other}
 use Rattle.contacts.specs.Table.{slotsOf, slot, place}
-use Rattle.contact_slots.proofs.Cuts.{place-size, slot-whole, bytes-place}
+use Rattle.contact_table.proofs.Cuts.{place-size, slot-whole, bytes-place}
 use Rattle.contact_order.specs.Order.{isAt}
 use Rattle.contact_order.specs.Inner.{Sieves, siftedOut}
 use Rattle.contact_order.specs.declared.Sieve.{Sieve}

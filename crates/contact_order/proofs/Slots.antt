@@ -14,7 +14,7 @@ use Rattle.octets.proofs.Bools.{either}
 use Rattle.octets.proofs.Parts.{part-is, part-at, part-part}
 use Rattle.octets.proofs.Stores.{take-sets, drop-sets}
 use Rattle.peer.proofs.Runs.{set-append-add}
-use Rattle.contact_slots.proofs.Cuts.{slot-whole, slot-size}
+use Rattle.contact_table.proofs.Cuts.{slot-whole, slot-size}
 use Rattle.contacts.specs.Table.{slotsOf, slot, putSlot}
 
 pub sides : (j i : ℕ) → (j ≡ i → ⊥) → (j < i) ⊎ (i < j)

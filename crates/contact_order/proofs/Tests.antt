@@ -14,7 +14,7 @@ use Rattle.octets.proofs.Bools.{and-l, and-r, and-i, and-on, and-off, not-both,
 use Rattle.octets.proofs.Searching.{first-is, first-hit, first-miss, first-lt, largest-le, largest-most, largest-at}
 use Rattle.octets.proofs.Strings.{same-eq, same-yes}
 use Rattle.place.specs.Place.{bucketOf}
-use Rattle.contact_slots.proofs.Cuts.{used-mark, mark-used, mark-free}
+use Rattle.contact_table.proofs.Cuts.{used-mark, mark-used, mark-free}
 use Rattle.contacts.specs.Table.{slotsOf, slot, mark, used, place}
 use Rattle.contact_order.specs.Order.{ofBucket, isAt, isHead, markIn, heldAt, freeAt, tailOf, held}
 

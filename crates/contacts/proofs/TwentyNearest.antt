@@ -18,7 +18,7 @@ use Rattle.place.proofs.Distance.{distance-inj}
 use Rattle.contacts.specs.Table.{slotsOf, slot, used, place}
 use Rattle.contacts.specs.Near.{nearestCount, far, insert, sortOnto, usedBelow, sorted, nearestSlots}
 use Rattle.contacts.specs.Inner.{kept}
-use Rattle.contact_slots.proofs.Cuts.{slot-whole, place-size, bytes-place}
+use Rattle.contact_table.proofs.Cuts.{slot-whole, place-size, bytes-place}
 use Rattle.contact_form.proofs.FormFacts.{InForm}
 use Rattle.contacts.proofs.Sorting.{All, none, more, all-at, all-map, all-take, all-insert, asc-at, sorted-asc, sorted-suc, length-insert, nearest-kept}
 

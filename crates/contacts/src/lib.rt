@@ -1,16 +1,16 @@
 // The contact table on flat bytes, read: the twenty nearest; its form and the parts of a contact are passed on. Every public function takes any bytes.
 pub use contact_form::in_form;
-pub use contact_slots::MOST;
-use contact_slots::PLACE;
-use contact_slots::PLACE_AT;
-pub use contact_slots::SLOT;
-pub use contact_slots::address_count;
-pub use contact_slots::address_of;
-pub use contact_slots::id_of;
-pub use contact_slots::mark_of;
-pub use contact_slots::place_of;
-pub use contact_slots::slot_of;
-pub use contact_slots::slots;
+pub use contact_table::MOST;
+use contact_table::PLACE;
+use contact_table::PLACE_AT;
+pub use contact_table::SLOT;
+pub use contact_table::address_count;
+pub use contact_table::address_of;
+pub use contact_table::id_of;
+pub use contact_table::mark_of;
+pub use contact_table::place_of;
+pub use contact_table::slot_of;
+pub use contact_table::slots;
 ghost use mathlib.Core.Path.{_≡_};
 ghost use mathlib.Core.Bool.{true, false};
 ghost use mathlib.Core.List.{List, _∷_, _++_};

@@ -16,7 +16,7 @@ use Rattle.peer.specs.Peers.{idFits, peerOf}
 use Rattle.peer.proofs.Meaning.{place-is, size-is, id-length, fits-least, fits-most}
 use Rattle.contacts.specs.Table.{slot, used}
 use Rattle.contacts.specs.Form.{inForm as contactsForm}
-use Rattle.contact_slots.proofs.Cuts.{mark-cut, mark-free}
+use Rattle.contact_table.proofs.Cuts.{mark-cut, mark-free}
 use Rattle.sightings_kept.specs.Promises.{Hashed}
 use Rattle.contact_calls.proofs.Theorems.{cleared-in-form}
 use Rattle.records.specs.Store.{inForm as recordsForm}

@@ -9,7 +9,7 @@ use lib.ListN.{length, take}
 use lib.Seq.{drop-set-lt, getD-set-same}
 use Rattle.octets.proofs.Bools.{not-both}
 use Rattle.place.specs.Place.{bucketOf}
-use Rattle.contact_slots.proofs.Cuts.{mark-used, used-mark}
+use Rattle.contact_table.proofs.Cuts.{mark-used, used-mark}
 use Rattle.contacts.specs.Table.{slotsOf, slot, mark, used, place}
 use Rattle.contact_order.specs.Order.{ofBucket, freeAt, tailOf, withMark, lowered, leave}
 use Rattle.sightings.specs.Order.{freeBytes, dropped}

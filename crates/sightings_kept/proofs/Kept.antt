@@ -10,7 +10,7 @@ use lib.ListN.{length}
 use borrow.Author.Tests.{ltb-true, ltb-false}
 use Rattle.octets.proofs.Bools.{not-both, to-false, either, eq-or-ne}
 use Rattle.place.specs.Place.{bucketOf}
-use Rattle.contact_slots.proofs.Cuts.{mark-used}
+use Rattle.contact_table.proofs.Cuts.{mark-used}
 use Rattle.contacts.specs.Table.{slotsOf, slot, putSlot, mark, used, place}
 use Rattle.contact_form.proofs.FormFacts.{Fields}
 use Rattle.sightings.specs.Order.{ofBucket, tailOf, withMark, lowered, dropped}

@@ -12,7 +12,7 @@ use Rattle.octets.proofs.Bools.{not-both, to-false, either, eq-or-ne, cond-yes,
 use Rattle.place.specs.Place.{bucketOf}
 use Rattle.contacts.specs.Table.{slotsOf, slot, putSlot, mark, used, idSize, place, id, addresses}
 use Rattle.contacts.specs.Form.{inForm}
-use Rattle.contact_slots.proofs.Cuts.{mark-used, used-mark}
+use Rattle.contact_table.proofs.Cuts.{mark-used, used-mark}
 use Rattle.contact_form.proofs.FormFacts.{form-elim}
 use Rattle.peer.specs.declared.Peer.{Peer}
 use Rattle.peer.specs.Peers.{idIn, addressesIn}

@@ -2,7 +2,7 @@
 use native.Mathlib.Omega.{arith}
 use Prim.Native.Nat.{_+_}
 use borrow.Author.Tests.{le-leb, lt-leb}
-use Rattle.contact_slots.specs.Table.{addressSize}
+use Rattle.contact_table.specs.Table.{addressSize}
 use Rattle.contact_form.specs.Form.{addressFits}
 use borrow.Author.Needs.{needs}
 use Rattle.contact_form.proofs.address_fits.Statement.{statement}

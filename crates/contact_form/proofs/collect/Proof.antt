@@ -4,7 +4,7 @@ use Prim.Native.Nat.{ℕ, _-_, _≤_}
 use mathlib.Core.Path.{_≡_, sym, _∙_, subst}
 use mathlib.Core.Bool.{true≢false, false≢true}
 use Rattle.contact_form.specs.Inner.{Indexed}
-use Rattle.contact_slots.proofs.Cuts.{slots-most, slot-whole}
+use Rattle.contact_table.proofs.Cuts.{slots-most, slot-whole}
 use Rattle.contact_form.proofs.Index.{index-none, read-free, read-bad, read-taken, read-put}
 use Rattle.contact_form.proofs.collect.Statement.{statement}
 use Rattle.contact_form.proofs.collect.Tie as tie

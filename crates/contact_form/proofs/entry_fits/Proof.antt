@@ -2,7 +2,7 @@
 use Prim.Native.Nat.{_-_}
 use lib.ListN.{getD}
 use native.Mathlib.Omega.{arith}
-use Rattle.contact_slots.proofs.Cuts.{slots-most, slot-whole}
+use Rattle.contact_table.proofs.Cuts.{slots-most, slot-whole}
 use Rattle.contact_form.proofs.Index.{entry-none, entry-first, entry-gap, entry-alone}
 use borrow.Author.Needs.{needs}
 use Rattle.contact_form.proofs.entry_fits.Statement.{statement}

@@ -1,7 +1,7 @@
 -- `fields_fit` tests one field after the other.
 use mathlib.Core.Path.{_∙_}
 use native.Mathlib.Omega.{arith}
-use Rattle.contact_slots.specs.Table.{mark, spare, idSize, addressCount}
+use Rattle.contact_table.specs.Table.{mark, spare, idSize, addressCount}
 use Rattle.contact_form.proofs.FieldTests.{rank-over, spare-set, id-empty, id-long, many-addresses, addresses-left}
 use borrow.Author.Needs.{needs}
 use Rattle.contact_form.proofs.fields_fit.Statement.{statement}

@@ -1,7 +1,7 @@
 -- `other_place` compares two places; an empty entry has none.
 use Prim.Native.Nat.{_-_}
 use native.Mathlib.Omega.{arith}
-use Rattle.contact_slots.proofs.Cuts.{slot-whole}
+use Rattle.contact_table.proofs.Cuts.{slot-whole}
 use Rattle.contact_form.proofs.Index.{other-none, other-said}
 use borrow.Author.Needs.{needs}
 use Rattle.contact_form.proofs.other_place.Statement.{statement}

@@ -1,7 +1,7 @@
 -- `contact_order::mark_at` meets its contract. Assumes nothing.
 use native.Mathlib.Omega.{arith}
 use Rattle.contacts.specs.Table.{slotsOf}
-use Rattle.contact_slots.proofs.Cuts.{mark-cut}
+use Rattle.contact_table.proofs.Cuts.{mark-cut}
 use Rattle.contact_order.proofs.mark_at.Statement.{statement}
 use Rattle.contact_order.proofs.mark_at.Tie as tie
 

@@ -3,7 +3,7 @@ use native.Mathlib.Omega.{arith}
 use mathlib.Core.Path.{_∙_, ap}
 use lib.ListN.{length}
 use Rattle.contacts.specs.Table.{slotsOf}
-use Rattle.contact_slots.proofs.Cuts.{place-cut, place-size, slot-whole}
+use Rattle.contact_table.proofs.Cuts.{place-cut, place-size, slot-whole}
 use borrow.Author.Needs.{needs}
 use Rattle.contact_order.proofs.place_at.Statement.{statement}
 use Rattle.contact_order.proofs.place_at.Tie as tie

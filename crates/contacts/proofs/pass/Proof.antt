@@ -8,7 +8,7 @@ use lib.ListN.{length}
 use Rattle.contacts.specs.Table.{slotsOf, slot}
 use Rattle.contacts.specs.Near.{sortOnto, usedBelow, sorted, filled}
 use Rattle.contacts.specs.Inner.{kept}
-use Rattle.contact_slots.proofs.Cuts.{slots-most, slot-whole, mark-cut, mark-used, mark-free}
+use Rattle.contact_table.proofs.Cuts.{slots-most, slot-whole, mark-cut, mark-used, mark-free}
 use Rattle.contacts.proofs.Sorting.{kept-free, nearest-kept, nearest-as}
 use Rattle.contacts.proofs.pass.Statement.{statement}
 use Rattle.contacts.proofs.pass.Tie as tie

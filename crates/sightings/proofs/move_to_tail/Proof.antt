@@ -2,7 +2,7 @@
 use native.Mathlib.Omega.{arith}
 use mathlib.Core.Path.{ap, _∙_}
 use lib.ListN.{length}
-use Rattle.contact_slots.proofs.Cuts.{slot-whole}
+use Rattle.contact_table.proofs.Cuts.{slot-whole}
 use Rattle.contact_order.proofs.Slots.{few}
 use Rattle.contact_order.proofs.Closing.{leave-length}
 use Rattle.sightings.proofs.Moves.{move-done}

@@ -3,7 +3,7 @@
 use Prim.Native.Nat.{ℕ, zero, suc, min}
 use mathlib.Core.List.{List, [], _∷_, _++_}
 use lib.ListN.{take}
-use Rattle.contact_slots.specs.Table.{longestId, longestAddress, addressRooms, id, address, addressCount}
+use Rattle.contact_table.specs.Table.{longestId, longestAddress, addressRooms, id, address, addressCount}
 
 unfoldable pub entryId : List ℕ → List ℕ
 entryId s = take longestId (id s)

@@ -12,8 +12,8 @@ use borrow.Author.Tests.{eq-eqb, ne-eqb, eqb-false, not-true, ltb-true, ltb-fals
 use Rattle.octets.specs.Octets.{Bytes, part}
 use Rattle.octets.proofs.Bools.{either}
 use Rattle.octets.proofs.Parts.{part-part, part-at, part-size, bytes-part}
-use Rattle.contact_slots.specs.Table.{slotsOf, slot, mark, used, idSize, addressSize, place, id, address, longestId, longestAddress}
-use Rattle.contact_slots.specs.Contact.{entryId, entryAddress}
+use Rattle.contact_table.specs.Table.{slotsOf, slot, mark, used, idSize, addressSize, place, id, address, longestId, longestAddress}
+use Rattle.contact_table.specs.Contact.{entryId, entryAddress}
 
 -- ---- whole slots
 pub slots-most : (t : List ℕ) → slotsOf t ≤ 5120

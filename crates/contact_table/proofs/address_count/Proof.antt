@@ -3,11 +3,11 @@ use mathlib.Core.Path.{_∙_, ap}
 use Prim.Native.Nat.{ℕ, min}
 use mathlib.Core.List.{List}
 use lib.ListN.{getD}
-use Rattle.contact_slots.specs.Table.{addressCount}
-use Rattle.contact_slots.specs.Contact.{entryCount}
+use Rattle.contact_table.specs.Table.{addressCount}
+use Rattle.contact_table.specs.Contact.{entryCount}
 use borrow.Author.Needs.{needs}
-use Rattle.contact_slots.proofs.address_count.Statement.{statement}
-use Rattle.contact_slots.proofs.address_count.Tie as tie
+use Rattle.contact_table.proofs.address_count.Statement.{statement}
+use Rattle.contact_table.proofs.address_count.Tie as tie
 
 slot-of-requires : tie.Need-slot-of-requires
 slot-of-requires c κs = search needs

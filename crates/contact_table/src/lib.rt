@@ -2,8 +2,8 @@
 ghost use mathlib.Core.Path.{_≡_};
 ghost use Prim.Native.Nat.{_+_, _*_, _<_, _≤_, min};
 ghost use lib.ListN.{length, getD, take, drop};
-ghost use Rattle.contact_slots.specs.Table.{slotSize, slotsOf, slot, mark, place};
-ghost use Rattle.contact_slots.specs.Contact.{entryId, entryAddress, entryCount};
+ghost use Rattle.contact_table.specs.Table.{slotSize, slotsOf, slot, mark, place};
+ghost use Rattle.contact_table.specs.Contact.{entryId, entryAddress, entryCount};
 
 // Bytes of a slot, and the most slots of a table. specs/Table.antt has what stands where.
 pub const SLOT: usize = 616;

@@ -1,12 +1,12 @@
 -- `id_of` cuts the id at its length, or at 64.
 use mathlib.Core.Path.{_∙_, ap}
 use native.Mathlib.Omega.{arith}
-use Rattle.contact_slots.specs.Table.{idSize}
-use Rattle.contact_slots.specs.Contact.{entryId}
-use Rattle.contact_slots.proofs.Cuts.{entry-id}
+use Rattle.contact_table.specs.Table.{idSize}
+use Rattle.contact_table.specs.Contact.{entryId}
+use Rattle.contact_table.proofs.Cuts.{entry-id}
 use borrow.Author.Needs.{needs}
-use Rattle.contact_slots.proofs.id_of.Statement.{statement}
-use Rattle.contact_slots.proofs.id_of.Tie as tie
+use Rattle.contact_table.proofs.id_of.Statement.{statement}
+use Rattle.contact_table.proofs.id_of.Tie as tie
 
 slot-of-requires : tie.Need-slot-of-requires
 slot-of-requires c κs = search needs

@@ -1,8 +1,8 @@
 -- `slots` divides the length, and caps it.
-use Rattle.contact_slots.specs.Table.{slotsOf}
+use Rattle.contact_table.specs.Table.{slotsOf}
 use native.Mathlib.Omega.{arith}
-use Rattle.contact_slots.proofs.slots.Statement.{statement}
-use Rattle.contact_slots.proofs.slots.Tie as tie
+use Rattle.contact_table.proofs.slots.Statement.{statement}
+use Rattle.contact_table.proofs.slots.Tie as tie
 
 returns : tie.Need-returns
 unfolding slotsOf

@@ -3,10 +3,10 @@ use mathlib.Core.Path.{_∙_, ap}
 use Prim.Native.Nat.{ℕ}
 use mathlib.Core.List.{List}
 use lib.ListN.{take, drop}
-use Rattle.contact_slots.specs.Table.{place}
+use Rattle.contact_table.specs.Table.{place}
 use borrow.Author.Needs.{needs}
-use Rattle.contact_slots.proofs.place_of.Statement.{statement}
-use Rattle.contact_slots.proofs.place_of.Tie as tie
+use Rattle.contact_table.proofs.place_of.Statement.{statement}
+use Rattle.contact_table.proofs.place_of.Tie as tie
 
 slot-of-requires : tie.Need-slot-of-requires
 slot-of-requires c κs = search needs

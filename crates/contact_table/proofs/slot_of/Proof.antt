@@ -3,10 +3,10 @@ use mathlib.Core.Path.{_∙_}
 use lib.ListN.{length}
 use Prim.Native.Nat.{_*_}
 use native.Mathlib.Omega.{arith}
-use Rattle.contact_slots.proofs.Cuts.{slot-none, slot-short, cut-end}
+use Rattle.contact_table.proofs.Cuts.{slot-none, slot-short, cut-end}
 use borrow.Author.Needs.{needs}
-use Rattle.contact_slots.proofs.slot_of.Statement.{statement}
-use Rattle.contact_slots.proofs.slot_of.Tie as tie
+use Rattle.contact_table.proofs.slot_of.Statement.{statement}
+use Rattle.contact_table.proofs.slot_of.Tie as tie
 
 slot-at-requires : tie.Need-slot-at-requires
 slot-at-requires c κs = search needs

@@ -3,8 +3,8 @@ use mathlib.Core.Path.{refl, sym}
 use native.Mathlib.Omega.{arith}
 use lib.ListN.{List·getD-eq-default}
 use borrow.Author.Needs.{needs}
-use Rattle.contact_slots.proofs.byte.Statement.{statement}
-use Rattle.contact_slots.proofs.byte.Tie as tie
+use Rattle.contact_table.proofs.byte.Statement.{statement}
+use Rattle.contact_table.proofs.byte.Tie as tie
 
 shared-slice-read-result : tie.Need-shared-slice-read-result
 shared-slice-read-result c = search needs

@@ -1,10 +1,10 @@
 -- `slot_at` cuts a slot out.
 use mathlib.Core.Path.{refl}
-use Rattle.contact_slots.specs.Table.{slot}
-use Rattle.contact_slots.proofs.Cuts.{slot-size}
+use Rattle.contact_table.specs.Table.{slot}
+use Rattle.contact_table.proofs.Cuts.{slot-size}
 use borrow.Author.Needs.{needs}
-use Rattle.contact_slots.proofs.slot_at.Statement.{statement}
-use Rattle.contact_slots.proofs.slot_at.Tie as tie
+use Rattle.contact_table.proofs.slot_at.Statement.{statement}
+use Rattle.contact_table.proofs.slot_at.Tie as tie
 
 mul-a : tie.Need-mul-a
 mul-a c = search needs

@@ -4,12 +4,12 @@ use Prim.Native.Nat.{ℕ, _+_, _*_, _≤_}
 use mathlib.Core.List.{List}
 use lib.ListN.{length}
 use native.Mathlib.Omega.{arith}
-use Rattle.contact_slots.specs.Table.{addressSize}
-use Rattle.contact_slots.specs.Contact.{entryAddress}
-use Rattle.contact_slots.proofs.Cuts.{cut-end, entry-address, entry-no-address, slot-most}
+use Rattle.contact_table.specs.Table.{addressSize}
+use Rattle.contact_table.specs.Contact.{entryAddress}
+use Rattle.contact_table.proofs.Cuts.{cut-end, entry-address, entry-no-address, slot-most}
 use borrow.Author.Needs.{needs}
-use Rattle.contact_slots.proofs.address_of.Statement.{statement}
-use Rattle.contact_slots.proofs.address_of.Tie as tie
+use Rattle.contact_table.proofs.address_of.Statement.{statement}
+use Rattle.contact_table.proofs.address_of.Tie as tie
 
 slot-of-requires : tie.Need-slot-of-requires
 slot-of-requires c κs = search needs
