@@ -23,7 +23,7 @@ use Rattle.replies.specs.declared.Answered.{Answered}
 use Rattle.replies.specs.declared.Answered.the-variants as told
 use Rattle.replies.specs.Verdicts.{Dealt}
 use Rattle.answer.specs.Answers.{dealOf}
-use Rattle.answer.specs.Answers as answers
+use Rattle.replies.specs.Verdicts as answers
 use Rattle.node.specs.declared.Conn.{Conn}
 use Rattle.node.specs.declared.Answer.{Answer}
 use Rattle.node.specs.declared.Answer.the-variants.{Reply, Heard, Refused, More}
