@@ -21,7 +21,7 @@ use Rattle.contacts.specs.Table.{slotsOf, slot, putSlot, mark, place}
 use Rattle.sightings.specs.Order.{ofBucket, heldAt, freeAt, tailOf, withMark, contactBytes, freeBytes, withAddresses, renewed, lowered, each, closeUp, leave, tailed, moveToTail, moveAndRenew, dropped, joinAt, join}
 use Rattle.place.proofs.Places.{length-placeOf}
 use Rattle.peer.proofs.Meaning.{id-length, addrs-length, lens-length, place-is}
-use Rattle.sightings.proofs.Slots.{slot-byte}
+use Rattle.contact_order.proofs.Slots.{slot-byte}
 use Rattle.sightings.proofs.Moves.{free-long}
 use Rattle.flat.specs.Flat.{field, peerIn}
 use Rattle.flat.specs.Promises.{Whole}
