@@ -33,9 +33,24 @@ pub fn message(rng: &mut Rng) -> Message {
     }
 }
 
+/// A message within the limits of its parts whose body has about the limit's length: as many of the largest peers as fit, and one that fills up.
+fn just_as_long(length: usize) -> Message {
+    let peer = |last: usize| Peer { id: vec![1; 64], addresses: vec![vec![2; 128], vec![3; last]], connection: 3 };
+    let largest = Peer { id: vec![1; 64], addresses: vec![vec![2; 128]; 4], connection: 3 };
+    let mut m = Message { kind: 4, closer: vec![largest; 27], ..Message::default() };
+    m.closer.push(peer(100));
+    let rest = length - encode(&m).len();
+    m.closer.pop();
+    m.closer.push(peer(100 + rest));
+    m
+}
+
 /// A message to be written that is mostly within the limits: one thing may be at or just over its limit.
 pub fn message_to_write(rng: &mut Rng) -> Message {
     let mut m = message(rng);
+    if rng.one_in(20) {
+        return just_as_long(rng.between(limits::BODY - 2, limits::BODY + 2));
+    }
     match rng.below(12) {
         0 => m.kind = *rng.pick(&[6, 7, 255, 256, u64::MAX]),
         1 => m.key = vec![7; rng.between(127, 130)],

@@ -3,6 +3,7 @@
 use super::Rng;
 use crate::limits;
 use crate::recipe::{self, Recipe, Setpoint};
+use crate::wire::minimal;
 use std::collections::BTreeSet;
 
 /// A recipe that keeps the rules, with turns and trims at their limits now and then.
@@ -48,14 +49,32 @@ pub fn largest_recipe(rng: &mut Rng) -> Vec<u8> {
     recipe::write(&made)
 }
 
-/// Setpoints of a recipe with one rule broken.
+/// A varint that isn't minimal, with a value that a minimal one could have.
+fn padded(rng: &mut Rng, value: u64) -> Vec<u8> {
+    let mut bytes = minimal(value);
+    let length = rng.between(bytes.len() + 1, 10);
+    *bytes.last_mut().expect("a byte") |= 0x80;
+    bytes.resize(length - 1, 0x80);
+    bytes.push(0);
+    bytes
+}
+
+/// Setpoints of which one has a turn or a trim that isn't minimal.
+fn padded_setpoints(rng: &mut Rng, list: &[Setpoint], i: usize) -> Vec<u8> {
+    let (turn, trim) = (list[i].turn, recipe::zigzag(list[i].trim));
+    let one = if rng.one_in(2) { [padded(rng, turn), minimal(trim)] } else { [minimal(turn), padded(rng, trim)] };
+    [recipe::write_setpoints(&list[..i]), one.concat(), recipe::write_setpoints(&list[i + 1..])].concat()
+}
+
+/// Setpoints of a recipe with one rule broken, and how many there are.
 fn broken_setpoints(rng: &mut Rng, mut list: Vec<Setpoint>) -> (Vec<u8>, usize) {
     if list.is_empty() {
         list.push(Setpoint { turn: 5, trim: 0 });
     }
     let i = rng.below(list.len());
     let mut extra = Vec::new();
-    match rng.below(6) {
+    match rng.below(7) {
+        6 => return (padded_setpoints(rng, &list, i), list.len()),
         0 => list[i].trim = *rng.pick(&[20_001, -20_001, 1 << 40]),
         1 => list.last_mut().expect("one").turn = *rng.pick(&[limits::TURN + 1, 1 << 21, u64::MAX]),
         2 => list.push(list[list.len() - 1]),

@@ -271,7 +271,11 @@ impl Source {
         let (number, contacts) = *self.rng.pick(&full);
         let head = if self.rng.one_in(8) { self.rng.pick(contacts) } else { &contacts[0] };
         let fits = |id: &Vec<u8>, place: &Place| bucket(place, &world.me.place) == *number && contacts.iter().all(|c| c.place != *place && c.id != *id);
-        let newcomer = if self.rng.one_in(8) { None } else { self.network.some(&mut self.rng, fits) };
+        let newcomer = match self.rng.below(8) {
+            0 => None,
+            1 => Some(self.rng.pick(contacts).id.clone()),
+            _ => self.network.some(&mut self.rng, fits),
+        };
         Some((head.id.clone(), newcomer.unwrap_or_else(|| self.id(world))))
     }
 
