@@ -9,9 +9,9 @@ const MOST: usize = 5120;
 
 unsafe extern "C" {
     fn starterbell_in_form(table: *const u8, length: usize, ours: *const u8) -> bool;
-    fn starterbell_nearest(table: *const u8, length: usize, target: *const u8, out: *mut usize) -> usize;
+    fn starterbell_contacts_nearest(table: *const u8, length: usize, target: *const u8, out: *mut usize) -> usize;
     fn starterbell_place(id: *const u8, length: usize, out: *mut u8);
-    fn starterbell_seen(
+    fn starterbell_contacts_seen(
         table: *mut u8, length: usize, ours: *const u8, id: *const u8, id_length: usize, client: bool,
         addresses: *const u8, addresses_length: usize, slot: *mut usize,
     ) -> u8;
@@ -26,7 +26,7 @@ fn ours_in_form(table: &[u8], ours: &[u8; 32]) -> bool {
 }
 
 fn ours_nearest(table: &[u8], target: &[u8; 32], out: &mut [usize; 20]) -> usize {
-    unsafe { starterbell_nearest(table.as_ptr(), table.len(), target.as_ptr(), out.as_mut_ptr()) }
+    unsafe { starterbell_contacts_nearest(table.as_ptr(), table.len(), target.as_ptr(), out.as_mut_ptr()) }
 }
 
 fn ours_place(id: &[u8]) -> [u8; 32] {
@@ -38,7 +38,7 @@ fn ours_place(id: &[u8]) -> [u8; 32] {
 fn ours_seen(table: &mut [u8], ours: &[u8; 32], id: &[u8], client: bool, addresses: &[u8]) -> (u8, usize) {
     let mut slot = 0;
     let code = unsafe {
-        starterbell_seen(
+        starterbell_contacts_seen(
             table.as_mut_ptr(), table.len(), ours.as_ptr(), id.as_ptr(), id.len(), client, addresses.as_ptr(), addresses.len(), &mut slot,
         )
     };

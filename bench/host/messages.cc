@@ -13,11 +13,11 @@
 
 extern "C" {
 uint8_t starterbell_message_read(const uint8_t *body, size_t length, size_t out[8]);
-bool starterbell_closer_peer(const uint8_t *body, size_t length, size_t from, size_t out[2]);
-bool starterbell_provider_peer(const uint8_t *body, size_t length, size_t from, size_t out[2]);
-void starterbell_peer_id(const uint8_t *body, size_t length, size_t at, size_t end, size_t out[2]);
-bool starterbell_peer_address(const uint8_t *body, size_t length, size_t at, size_t end, size_t from, size_t out[2]);
-uint64_t starterbell_peer_connection(const uint8_t *body, size_t length, size_t at, size_t end);
+bool starterbell_message_closer_peer(const uint8_t *body, size_t length, size_t from, size_t out[2]);
+bool starterbell_message_provider_peer(const uint8_t *body, size_t length, size_t from, size_t out[2]);
+void starterbell_message_peer_id(const uint8_t *body, size_t length, size_t at, size_t end, size_t out[2]);
+bool starterbell_message_peer_address(const uint8_t *body, size_t length, size_t at, size_t end, size_t from, size_t out[2]);
+uint64_t starterbell_message_peer_connection(const uint8_t *body, size_t length, size_t at, size_t end);
 }
 
 using std::string;
@@ -40,10 +40,10 @@ typedef bool (*Walk)(const uint8_t *, size_t, size_t, size_t[2]);
 static uint64_t ours_peers(const uint8_t *s, size_t n, uint64_t sum, Walk next) {
     size_t peer[2], p[2];
     for (size_t from = 0; next(s, n, from, peer); from = peer[1]) {
-        starterbell_peer_id(s, n, peer[0], peer[1], p);
+        starterbell_message_peer_id(s, n, peer[0], peer[1], p);
         sum = part(sum, s + p[0], p[1] - p[0]);
-        for (size_t at = peer[0]; starterbell_peer_address(s, n, peer[0], peer[1], at, p); at = p[1]) sum = part(sum, s + p[0], p[1] - p[0]);
-        sum = number(sum, starterbell_peer_connection(s, n, peer[0], peer[1]));
+        for (size_t at = peer[0]; starterbell_message_peer_address(s, n, peer[0], peer[1], at, p); at = p[1]) sum = part(sum, s + p[0], p[1] - p[0]);
+        sum = number(sum, starterbell_message_peer_connection(s, n, peer[0], peer[1]));
     }
     return sum;
 }
@@ -53,7 +53,7 @@ static uint64_t by_ours(const uint8_t *s, size_t n) {
     if (starterbell_message_read(s, n, m) != 255) exit(1);
     uint64_t sum = part(number(0, m[0]), s + m[1], m[2] - m[1]);
     if (m[3]) sum = part(part(sum, s + m[4], m[5] - m[4]), s + m[6], m[7] - m[6]);
-    return ours_peers(s, n, ours_peers(s, n, sum, starterbell_closer_peer), starterbell_provider_peer);
+    return ours_peers(s, n, ours_peers(s, n, sum, starterbell_message_closer_peer), starterbell_message_provider_peer);
 }
 
 /* ---- plain: the same steps, with the same tests of bounds */

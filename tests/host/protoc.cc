@@ -16,11 +16,11 @@
 
 extern "C" {
 uint8_t starterbell_message_read(const uint8_t *body, size_t length, size_t out[8]);
-bool starterbell_closer_peer(const uint8_t *body, size_t length, size_t from, size_t out[2]);
-bool starterbell_provider_peer(const uint8_t *body, size_t length, size_t from, size_t out[2]);
-void starterbell_peer_id(const uint8_t *body, size_t length, size_t at, size_t end, size_t out[2]);
-bool starterbell_peer_address(const uint8_t *body, size_t length, size_t at, size_t end, size_t from, size_t out[2]);
-uint64_t starterbell_peer_connection(const uint8_t *body, size_t length, size_t at, size_t end);
+bool starterbell_message_closer_peer(const uint8_t *body, size_t length, size_t from, size_t out[2]);
+bool starterbell_message_provider_peer(const uint8_t *body, size_t length, size_t from, size_t out[2]);
+void starterbell_message_peer_id(const uint8_t *body, size_t length, size_t at, size_t end, size_t out[2]);
+bool starterbell_message_peer_address(const uint8_t *body, size_t length, size_t at, size_t end, size_t from, size_t out[2]);
+uint64_t starterbell_message_peer_connection(const uint8_t *body, size_t length, size_t at, size_t end);
 size_t starterbell_message_write(uint8_t *out, size_t room, uint64_t kind, const uint8_t *key, size_t key_length, bool held,
     const uint8_t *record_key, size_t record_key_length, const uint8_t *value, size_t value_length, const uint8_t *closer, size_t closer_length,
     const uint8_t *providers, size_t providers_length);
@@ -103,13 +103,13 @@ static string part(const string &body, const size_t ends[2]) {
 static PeerSaid ours_peer(const string &body, const size_t peer[2]) {
     PeerSaid p;
     size_t ends[2], from = peer[0];
-    starterbell_peer_id(bytes_of(body), body.size(), peer[0], peer[1], ends);
+    starterbell_message_peer_id(bytes_of(body), body.size(), peer[0], peer[1], ends);
     p.id = part(body, ends);
-    while (starterbell_peer_address(bytes_of(body), body.size(), peer[0], peer[1], from, ends)) {
+    while (starterbell_message_peer_address(bytes_of(body), body.size(), peer[0], peer[1], from, ends)) {
         p.addrs.push_back(part(body, ends));
         from = ends[1];
     }
-    p.connection = static_cast<int64_t>(starterbell_peer_connection(bytes_of(body), body.size(), peer[0], peer[1]));
+    p.connection = static_cast<int64_t>(starterbell_message_peer_connection(bytes_of(body), body.size(), peer[0], peer[1]));
     return p;
 }
 
@@ -140,8 +140,8 @@ static Outcome ours(const string &body) {
     if (out[3] > 1) fail("ours says neither that there is a record nor that there is none", body);
     o.said.record_key = part(body, out + 4);
     o.said.value = part(body, out + 6);
-    o.said.closer = ours_peers(body, starterbell_closer_peer);
-    o.said.providers = ours_peers(body, starterbell_provider_peer);
+    o.said.closer = ours_peers(body, starterbell_message_closer_peer);
+    o.said.providers = ours_peers(body, starterbell_message_provider_peer);
     return o;
 }
 

@@ -22,9 +22,9 @@ pub extern "C" fn starterbell_in_form(table: &[u8], ours: &[u8; 32]) -> bool
 
 // Stores the numbers of the slots nearest to `target` in `out`, nearest first, and returns how many there are. A C program declares it so:
 //
-//     size_t starterbell_nearest(const uint8_t *table, size_t length, const uint8_t target[32], size_t out[20]);
+//     size_t starterbell_contacts_nearest(const uint8_t *table, size_t length, const uint8_t target[32], size_t out[20]);
 #[no_mangle]
-pub extern "C" fn starterbell_nearest(
+pub extern "C" fn starterbell_contacts_nearest(
     table: &[u8],
     target: &[u8; 32],
     out: &mut [usize; 20],
@@ -71,10 +71,10 @@ fn answer_of(o: SeenOutcome) -> Answer
 // A peer is seen, as a host calls it. Returns 255 where it moved, 254 where it joined, else the number of the refusal, and stores the slot
 // that the answer names. A C program declares it so:
 //
-//     uint8_t starterbell_seen(uint8_t *table, size_t length, const uint8_t ours[32], const uint8_t *id, size_t id_length, bool client,
+//     uint8_t starterbell_contacts_seen(uint8_t *table, size_t length, const uint8_t ours[32], const uint8_t *id, size_t id_length, bool client,
 //                              const uint8_t *addresses, size_t addresses_length, size_t slot[1]);
 #[no_mangle]
-pub extern "C" fn starterbell_seen(
+pub extern "C" fn starterbell_contacts_seen(
     table: &mut [u8],
     ours: &[u8; 32],
     id: &[u8],

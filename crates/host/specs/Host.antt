@@ -29,6 +29,7 @@ lent n s short enough = cond (ltb (length s) n) short enough
 abbrev pub lentBoth : {A : Type 0} → List ℕ → List ℕ → A → A → A
 lentBoth me conn short enough = lent peerSize me short (lent connSize conn short enough)
 
+-- ---- start and open
 abbrev pub startCode : List ℕ → List ℕ → List ℕ → ℕ
 startCode me id addresses = lent peerSize me 0 (toldCode (startOf id addresses .told))
 
@@ -46,12 +47,14 @@ abbrev pub openMemory : List ℕ → List ℕ → List ℕ → ℕ → ℕ → L
 openMemory me conn id server asking addresses =
     lentBoth me conn conn (sets conn 0 (connBytes (openFor me id server asking addresses .conn)))
 
+-- ---- the end of a connection's bytes
 abbrev pub endCode : List ℕ → List ℕ → ℕ
 endCode me conn = lentBoth me conn 0 (endingCode (endConn (peerIn me) (connIn conn) .answer))
 
 abbrev pub endMemory : List ℕ → List ℕ → List ℕ
 endMemory me conn = lentBoth me conn conn (endedMemory conn (endConn (peerIn me) (connIn conn)))
 
+-- ---- contacts
 abbrev pub seenCode : List ℕ → List ℕ → List ℕ → ℕ → ℕ
 seenCode me t id client = lent peerSize me 0 (seenNumber (seenOf (peerIn me) t id (saysYes client)))
 
@@ -80,6 +83,7 @@ nearestCode me t key = lent peerSize me 0 (toldCode (nearestTo (peerIn me) t key
 abbrev pub nearestOut : List ℕ → List ℕ → List ℕ → List ℕ → List ℕ
 nearestOut me t key out = lent peerSize me out (nearestNumbers out (nearestTo (peerIn me) t key))
 
+-- ---- receiving
 abbrev pub receiveFor : List ℕ → List ℕ → List ℕ → List ℕ → List ℕ → List ℕ → List ℕ → Out
 receiveFor me conn m bs t k y = receiveOf (peerIn me) (connIn conn) m bs t k y
 
@@ -93,6 +97,7 @@ pub record Receives (me conn m bs t k y out : List ℕ) (r : ℕ) (conn′ m′ 
   pub reply : y′ ≡ lentBoth me conn y (receiveFor me conn m bs t k y .reply)
   pub numbers : out′ ≡ lentBoth me conn (nothingTaken out) (receivedNumbers out (receiveFor me conn m bs t k y .got))
 
+-- ---- lookups
 -- the memory of a box or of a lookup has too few bytes
 unfoldable pub tooShort : List ℕ → List ℕ → Bool
 tooShort me m = ltb (length me) peerSize || ltb (length m) flatSize

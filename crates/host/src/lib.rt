@@ -11,6 +11,8 @@ ghost use Rattle.host_answers.specs.Answers.{writeNumber, writeNumbers};
 ghost use Rattle.host.specs.Host.{startCode, startMemory, openCode, openMemory, endCode, endMemory, seenCode, seenContacts, seenOut, settleCode, settleContacts};
 ghost use Rattle.host.specs.Host.{removeCode, removeContacts, nearestCode, nearestOut, Receives, Begins, Nexts, Replies, Fails};
 
+// ---- the box and its connections
+
 // Starts the box with its id and its addresses, each address with its length before it in two bytes, the lower first. 64, or a refusal. In C:
 //
 //     uint32_t starterbell_start(uint8_t *me, size_t me_length, const uint8_t *id, size_t id_length, const uint8_t *addresses, size_t addresses_length);
@@ -74,6 +76,8 @@ pub extern "C" fn starterbell_end(me: &[u8], conn: &mut [u8]) -> u32
     let c = flat::conn_in(conn);
     host_state::keep_end(conn, node::end(flat::peer_in(me), c))
 }
+
+// ---- contacts
 
 // A peer was seen. 64 where it moved, 65 where it joined, 13 where its bucket is full, or another refusal. Its slot, or that of the bucket's head for 13,
 // goes to out. In C:
@@ -172,6 +176,8 @@ pub extern "C" fn starterbell_nearest(
     host_answers::nearest_answer(out, n)
 }
 
+// ---- records
+
 // Puts a record into the store. 64, or a refusal. In C:
 //
 //     uint32_t starterbell_put(uint8_t *records, size_t records_length, const uint8_t *key, size_t key_length, const uint8_t *value, size_t value_length);
@@ -193,6 +199,8 @@ pub extern "C" fn starterbell_find(records: &[u8], key: &[u8], out: &mut [u64]) 
     let f = host_calls::find(records, key);
     host_answers::find_answer(out, f)
 }
+
+// ---- messages
 
 // The message that a body is. 64, or a refusal. Its view goes to out, as eight numbers: its type, where its key starts and ends, 1 if it has a record and
 // else 0, and where the record's key and value start and end. In C:
@@ -271,6 +279,8 @@ pub extern "C" fn starterbell_write(
     host_answers::write_answer(out, w)
 }
 
+// ---- receiving
+
 // Takes bytes of a piece up to the first event. 64 where more bytes are wanted, 65 where a request was answered in the reply buffer, 66 where a message for a
 // lookup stands in the receive buffer, or a refusal. Four numbers always go to out: the bytes taken; the length of the reply or of the message, else 0; what
 // came of the sender's sighting, 0 none, 1 moved, 2 joined, 3 the bucket is full, 4 no slot; and its slot, else 0. For 66 the eight numbers of the message's
@@ -303,6 +313,8 @@ pub extern "C" fn starterbell_receive(
     let got = node::receive(p, c, buffer, piece, contacts, records, reply);
     host_state::keep_received(conn, out, got)
 }
+
+// ---- lookups
 
 // Starts a lookup of a key from the contacts, with up to `limit` peers asked at a time. 64 where it is going, 67 where it is complete, or a refusal and an
 // empty lookup. As for the calls below, three things go to out unless the call is refused: the rank to ask for 66, the number of requests sent for 67 and 68,

@@ -73,6 +73,7 @@ findNumbers out (found.Held start end) = sets out 0 (start ∷ end ∷ [])
 findNumbers out found.NotHeld = out
 findNumbers out (found.Refused r) = out
 
+-- ---- messages
 abbrev pub readNumber : Reading → ℕ
 readNumber (reading.Whole m) = 64
 readNumber (reading.Refused r) = numberOf r

@@ -13,6 +13,9 @@ ghost use Rattle.host_numbers.specs.Numbers.{toldCode};
 ghost use Rattle.host_answers.specs.Answers.{seenNumber, seenNumbers, settleNumber, removeNumber, nearestNumbers, putNumber, findNumber, findNumbers, readNumber};
 ghost use Rattle.host_answers.specs.Answers.{readNumbers, entryFrom, laterOf, addressFrom, partNumber, peerNumbers, addressNumbers, writeNumber, writeNumbers};
 
+// ---- contacts
+
+// 64 moved, 65 joined, 13 with the head of the bucket, or another refusal; the slot goes to out.
 pub fn seen_answer(out: &mut [u64], o: SeenOutcome) -> u32
     ensures { λ r. ⌜ (r ≡ seenNumber o) × (now (out .exit) ≡ seenNumbers (now (out .entry)) o) ⌝ }
 {
@@ -33,6 +36,7 @@ pub fn seen_answer(out: &mut [u64], o: SeenOutcome) -> u32
     }
 }
 
+// 64 the head is kept, 65 the two are swapped, or a refusal.
 pub fn settle_answer(o: SettleOutcome) -> u32
     ensures { λ r. ⌜ r ≡ settleNumber o ⌝ }
 {
@@ -43,6 +47,7 @@ pub fn settle_answer(o: SettleOutcome) -> u32
     }
 }
 
+// 64 gone, or a refusal.
 pub fn remove_answer(o: RemoveOutcome) -> u32
     ensures { λ r. ⌜ r ≡ removeNumber o ⌝ }
 {
@@ -52,6 +57,7 @@ pub fn remove_answer(o: RemoveOutcome) -> u32
     }
 }
 
+// 64, or a refusal; how many there are and their slots go to out.
 pub fn nearest_answer(out: &mut [u64], n: Nearby) -> u32
     ensures { λ r. ⌜ (r ≡ toldCode (n .told)) × (now (out .exit) ≡ nearestNumbers (now (out .entry)) n) ⌝ }
 {
@@ -68,6 +74,9 @@ pub fn nearest_answer(out: &mut [u64], n: Nearby) -> u32
     }
 }
 
+// ---- records
+
+// 64 taken, or a refusal.
 pub fn put_answer(a: records::Answer) -> u32
     ensures { λ r. ⌜ r ≡ putNumber a ⌝ }
 {
@@ -77,6 +86,7 @@ pub fn put_answer(a: records::Answer) -> u32
     }
 }
 
+// 64 held, and where it starts and ends goes to out; 65 not held; or a refusal.
 pub fn find_answer(out: &mut [u64], f: Found) -> u32
     ensures { λ r. ⌜ (r ≡ findNumber f) × (now (out .exit) ≡ findNumbers (now (out .entry)) f) ⌝ }
 {
@@ -91,6 +101,9 @@ pub fn find_answer(out: &mut [u64], f: Found) -> u32
     }
 }
 
+// ---- messages
+
+// 64, and the view goes to out; or a refusal.
 pub fn read_answer(out: &mut [u64], r: Reading) -> u32
     ensures { λ n. ⌜ (n ≡ readNumber r) × (now (out .exit) ≡ readNumbers (now (out .entry)) r) ⌝ }
 {
@@ -113,6 +126,7 @@ pub fn next_entry(body: &[u8], list: u32, from: usize) -> wire::Found
     message::closer_peer(body, from)
 }
 
+// 64, and where the entry and its id are and its connection go to out; 65 where there is none.
 pub fn peer_answer(body: &[u8], out: &mut [u64], f: wire::Found) -> u32
     ensures { λ r. ⌜ (r ≡ partNumber f) × (now (out .exit) ≡ peerNumbers (now (out .entry)) (now (body .entry)) f) ⌝ }
 {
@@ -128,6 +142,7 @@ pub fn peer_answer(body: &[u8], out: &mut [u64], f: wire::Found) -> u32
     }
 }
 
+// The later of two positions.
 fn later(a: usize, b: usize) -> usize
     ensures { λ r. ⌜ r ≡ laterOf a b ⌝ }
 {
@@ -145,6 +160,7 @@ pub fn next_address(body: &[u8], start: usize, end: usize, from: usize) -> wire:
     message::peer_address(body, Span { at: start, end }, at)
 }
 
+// 64, and where it starts and ends goes to out; 65 where there is none.
 pub fn address_answer(out: &mut [u64], f: wire::Found) -> u32
     ensures { λ r. ⌜ (r ≡ partNumber f) × (now (out .exit) ≡ addressNumbers (now (out .entry)) f) ⌝ }
 {
@@ -158,6 +174,7 @@ pub fn address_answer(out: &mut [u64], f: wire::Found) -> u32
     }
 }
 
+// 64, and the length goes to out; or a refusal.
 pub fn write_answer(out: &mut [u64], w: Written) -> u32
     ensures { λ r. ⌜ (r ≡ writeNumber w) × (now (out .exit) ≡ writeNumbers (now (out .entry)) w) ⌝ }
 {

@@ -9,7 +9,7 @@ use Rattle.node.specs.declared.Told.{Told}
 use Rattle.node.specs.declared.Told.the-variants as told
 use Rattle.flat.specs.Flat.{saysYes}
 
--- ---- start and open
+-- ---- what a call was told
 -- a refusal's number, or 64
 abbrev pub toldCode : Told → ℕ
 toldCode told.Fine = 64
@@ -20,7 +20,7 @@ abbrev pub unlessRefused : {A : Type 0} → Told → A → A → A
 unlessRefused told.Fine x y = x
 unlessRefused (told.Refused r) x y = y
 
--- ---- messages
+-- ---- a message's view
 -- a message's type, where its key is, whether it has a record, and where the record's key and value are
 abbrev pub viewNumbers : Fields → List ℕ
 viewNumbers m =

@@ -71,6 +71,7 @@ pub fn put_number(out: &mut [u64], number: usize)
     put_numbers(out, 0, &numbers);
 }
 
+// 64 for fine, or a refusal.
 pub fn told_code(t: Told) -> u32
     ensures { λ r. ⌜ r ≡ toldCode t ⌝ }
 {

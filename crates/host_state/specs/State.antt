@@ -21,6 +21,7 @@ use Rattle.node.specs.declared.Received.{Received}
 use Rattle.flat.specs.Flat.{peerBytes, withFraming}
 use Rattle.host_numbers.specs.Numbers.{unlessRefused, viewNumbers}
 
+-- ---- start
 -- a refused start leaves the box memory as it was
 abbrev pub boxAfter : List ℕ → Started → List ℕ
 boxAfter me s = unlessRefused (s .told) (sets me 0 (peerBytes (s .me))) me

@@ -3,6 +3,7 @@ use lookup::Step;
 ghost use mathlib.Core.Path.{_≡_};
 ghost use Rattle.host_steps.specs.Steps.{stepNumber, stepFirst, isRefused, stepNumbers, stepMemory, startedMemory};
 
+// 64 going, 65 wait, 66 ask, 67 complete, 68 cut short, or a refusal.
 fn step_code(a: lookup::Answer) -> u32
     ensures { λ r. ⌜ r ≡ stepNumber a ⌝ }
 {
@@ -85,8 +86,8 @@ pub fn keep_start(memory: &mut [u8], out: &mut [u64], s: Step) -> u32
     ensures { λ r. ⌜ (r ≡ stepNumber (s .answer)) × (now (memory .exit) ≡ startedMemory (now (memory .entry)) s) × (now (out .exit) ≡ stepNumbers (now (out .entry)) s) ⌝ }
 {
     let a = s.answer;
-    let l = s.lookup;
-    flat_lookup::put_lookup(memory, l);
+    let begun = s.lookup;
+    flat_lookup::put_lookup(memory, begun);
     put_step(out, s);
     step_code(a)
 }

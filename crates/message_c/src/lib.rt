@@ -68,9 +68,13 @@ pub extern "C" fn starterbell_message_read(body: &[u8], out: &mut [usize; 8]) ->
 
 // The first entry of closerPeers from a position on: from 0, and then from each end, these are all of them. A C program declares it so:
 //
-//     bool starterbell_closer_peer(const uint8_t *body, size_t length, size_t from, size_t out[2]);
+//     bool starterbell_message_closer_peer(const uint8_t *body, size_t length, size_t from, size_t out[2]);
 #[no_mangle]
-pub extern "C" fn starterbell_closer_peer(body: &[u8], from: usize, out: &mut [usize; 2]) -> bool
+pub extern "C" fn starterbell_message_closer_peer(
+    body: &[u8],
+    from: usize,
+    out: &mut [usize; 2],
+) -> bool
     ensures { λ r. ⌜ (r ≡ isFound (firstOf (spans 8 (fieldsAt (now (body .entry)) from)))) × (now (out .exit) ≡ endsAfter (now (out .entry)) (firstOf (spans 8 (fieldsAt (now (body .entry)) from)))) ⌝ }
 {
     found(message::closer_peer(body, from), out)
@@ -78,7 +82,11 @@ pub extern "C" fn starterbell_closer_peer(body: &[u8], from: usize, out: &mut [u
 
 // The same for providerPeers.
 #[no_mangle]
-pub extern "C" fn starterbell_provider_peer(body: &[u8], from: usize, out: &mut [usize; 2]) -> bool
+pub extern "C" fn starterbell_message_provider_peer(
+    body: &[u8],
+    from: usize,
+    out: &mut [usize; 2],
+) -> bool
     ensures { λ r. ⌜ (r ≡ isFound (firstOf (spans 9 (fieldsAt (now (body .entry)) from)))) × (now (out .exit) ≡ endsAfter (now (out .entry)) (firstOf (spans 9 (fieldsAt (now (body .entry)) from)))) ⌝ }
 {
     found(message::provider_peer(body, from), out)
@@ -86,9 +94,14 @@ pub extern "C" fn starterbell_provider_peer(body: &[u8], from: usize, out: &mut 
 
 // Where the id of the peer is whose bytes start at `at` and end at `end`. A C program declares it so:
 //
-//     void starterbell_peer_id(const uint8_t *body, size_t length, size_t at, size_t end, size_t out[2]);
+//     void starterbell_message_peer_id(const uint8_t *body, size_t length, size_t at, size_t end, size_t out[2]);
 #[no_mangle]
-pub extern "C" fn starterbell_peer_id(body: &[u8], at: usize, end: usize, out: &mut [usize; 2])
+pub extern "C" fn starterbell_message_peer_id(
+    body: &[u8],
+    at: usize,
+    end: usize,
+    out: &mut [usize; 2],
+)
     ensures { λ r. ⌜ now (out .exit) ≡ endsOf (idAt (now (body .entry)) (spanOf at end)) ⌝ }
 {
     *out = ends(message::peer_id(body, Span { at, end }));
@@ -96,9 +109,9 @@ pub extern "C" fn starterbell_peer_id(body: &[u8], at: usize, end: usize, out: &
 
 // The first address of that peer from a position on: from its start, and then from each end, these are all of them. A C program declares it so:
 //
-//     bool starterbell_peer_address(const uint8_t *body, size_t length, size_t at, size_t end, size_t from, size_t out[2]);
+//     bool starterbell_message_peer_address(const uint8_t *body, size_t length, size_t at, size_t end, size_t from, size_t out[2]);
 #[no_mangle]
-pub extern "C" fn starterbell_peer_address(
+pub extern "C" fn starterbell_message_peer_address(
     body: &[u8],
     at: usize,
     end: usize,
@@ -112,9 +125,9 @@ pub extern "C" fn starterbell_peer_address(
 
 // The connection of that peer. A C program declares it so:
 //
-//     uint64_t starterbell_peer_connection(const uint8_t *body, size_t length, size_t at, size_t end);
+//     uint64_t starterbell_message_peer_connection(const uint8_t *body, size_t length, size_t at, size_t end);
 #[no_mangle]
-pub extern "C" fn starterbell_peer_connection(body: &[u8], at: usize, end: usize) -> u64
+pub extern "C" fn starterbell_message_peer_connection(body: &[u8], at: usize, end: usize) -> u64
     ensures { λ r. ⌜ r ≡ connectionAt (now (body .entry)) (spanOf at end) ⌝ }
 {
     message::peer_connection(body, Span { at, end })

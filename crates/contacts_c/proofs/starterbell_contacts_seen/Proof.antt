@@ -1,11 +1,11 @@
--- `starterbell_seen` hands over what `seen` answers.
+-- `starterbell_contacts_seen` hands over what `seen` answers.
 use Prim.Native.Nat.{ℕ}
 use mathlib.Core.Path.{ap, _∙_}
 use mathlib.Core.List.{[], _∷_}
 use Rattle.contacts_c.specs.Codes.{codeOf, namedBy}
 use borrow.Author.Needs.{needs}
-use Rattle.contacts_c.proofs.starterbell_seen.Statement.{statement}
-use Rattle.contacts_c.proofs.starterbell_seen.Tie as tie
+use Rattle.contacts_c.proofs.starterbell_contacts_seen.Statement.{statement}
+use Rattle.contacts_c.proofs.starterbell_contacts_seen.Tie as tie
 
 seen-requires : tie.Need-seen-requires
 seen-requires c κs = search needs
@@ -19,5 +19,5 @@ same-length c = search needs
 returns : tie.Need-returns
 returns c = (c .answer-of .ensures .0 ∙ ap codeOf (c .before .before .before .seen .ensures .0), c .before .before .before .seen .ensures .1, ap (λ (i : ℕ). i ∷ []) (c .answer-of .ensures .1 ∙ ap namedBy (c .before .before .before .seen .ensures .0)))
 
-pub starterbell-seen-spec : {M : Type 1} → statement M
-starterbell-seen-spec = tie.close (tie.spec seen-requires answer-of-requires same-length returns)
+pub starterbell-contacts-seen-spec : {M : Type 1} → statement M
+starterbell-contacts-seen-spec = tie.close (tie.spec seen-requires answer-of-requires same-length returns)
