@@ -9,7 +9,7 @@ use starterbell::{Connection, Contact, Event, Node, Peer, Probed, Seen, Settled}
 use std::collections::{BTreeMap, VecDeque};
 
 /// So many connections without a request on them are kept for the next one.
-const IDLE_LINKS: usize = 4;
+const IDLE_LINKS: usize = 2;
 
 pub enum Role {
     Honest,

@@ -1,5 +1,7 @@
 //! Random numbers that are the same for the same seed: splitmix64.
 
+pub const LARGEST_PIECE: usize = 4_096;
+
 pub struct Rng(pub u64);
 
 impl Rng {
@@ -20,9 +22,9 @@ impl Rng {
         std::array::from_fn(|_| self.number() as u8)
     }
 
-    /// The size of a piece, 1 to 4,096. Of every second one each power of two is as likely as any other, so that there are many of a few bytes.
+    /// The size of a piece. Of every second one each power of two is as likely as any other, so that there are many of a few bytes.
     pub fn piece(&mut self) -> usize {
-        let power = if self.below(2) == 0 { 12 } else { self.below(13) };
+        let power = if self.below(2) == 0 { LARGEST_PIECE.ilog2() } else { self.below(13) as u32 };
         1 + self.below(1 << power)
     }
 

@@ -1,7 +1,7 @@
 //! A net over TCP on this machine: sockets that don't block, read into buffers of random size. A tick is a millisecond of its own clock.
 
 use crate::net::{ip_and_port, multiaddr, Link, Net, News, Traffic, What};
-use crate::rng::Rng;
+use crate::rng::{Rng, LARGEST_PIECE};
 use std::collections::{BTreeMap, VecDeque};
 use std::io::{self, ErrorKind, Read, Write};
 use std::net::{Ipv4Addr, TcpListener, TcpStream};
@@ -75,14 +75,10 @@ impl End {
         true
     }
 
-    fn read(&mut self, size: usize) -> Option<What> {
-        let mut piece = vec![0; size];
-        match self.stream.read(&mut piece) {
+    fn read(&mut self, piece: &mut [u8]) -> Option<What> {
+        match self.stream.read(piece) {
             Ok(0) => Some(What::Closed),
-            Ok(n) => {
-                piece.truncate(n);
-                Some(What::Bytes(piece))
-            }
+            Ok(n) => Some(What::Bytes(piece[..n].to_vec())),
             Err(why) if why.kind() == ErrorKind::WouldBlock => None,
             Err(_) => Some(What::Closed),
         }
@@ -125,12 +121,13 @@ impl Net for Tcp {
         let mut news = Vec::new();
         self.accept(&mut news);
         let (rng, traffic) = (&mut self.rng, &mut self.traffic);
+        let mut buffer = [0; LARGEST_PIECE];
         self.ends.retain(|&link, end| {
             let sound = end.flush();
             if end.closing {
                 return sound && !end.going.is_empty();
             }
-            let what = end.read(rng.piece());
+            let what = end.read(&mut buffer[..rng.piece()]);
             if let Some(What::Bytes(bytes)) = &what {
                 traffic.pieces += 1;
                 traffic.bytes += bytes.len() as u64;
