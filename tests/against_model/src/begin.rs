@@ -71,7 +71,7 @@ fn world(rng: &mut Rng, source: &mut Source, size: &Size) -> World {
 
 /// A world twice, what the host does with it, and for how many calls.
 pub fn begin(seed: u64) -> (Twin, Script, u64) {
-    let mut rng = Rng::new(seed ^ 0x5eed_0f_a_b0c5);
+    let mut rng = Rng::new(seed ^ 0x05ee_d0fa_b0c5);
     let size = size(&mut rng);
     let mut source = Source::new(seed, size.peers);
     source.poke_one_in = *rng.pick(&[0, 20, 40]);
