@@ -23,8 +23,8 @@ fn size(rng: &mut Rng) -> Size {
     let usual = Size { contacts, records, peers, steps: 1_000, largest: false };
     match rng.below(150) {
         0 => Size { contacts: rng.between(CONTACT_SLOTS - 2, CONTACT_SLOTS + 3), steps: 60, largest: rng.one_in(4), ..usual },
-        1..=2 => Size { records: rng.between(RECORD_SLOTS - 2, RECORD_SLOTS + 3), steps: 150, largest: rng.one_in(2), ..usual },
-        3..=9 => Size { contacts: rng.between(60, 300), records: rng.between(9, 30), peers: 400, steps: 400, ..usual },
+        1..=3 => Size { records: RECORD_SLOTS + rng.between(1, 5) - 2, steps: 150, largest: rng.one_in(2), ..usual },
+        4..=9 => Size { contacts: rng.between(60, 300), records: rng.between(9, 30), peers: 400, steps: 400, ..usual },
         10..=25 => Size { contacts: rng.between(19, 40), records: rng.between(1, 12), largest: true, ..usual },
         _ => usual,
     }
@@ -71,7 +71,7 @@ fn world(rng: &mut Rng, source: &mut Source, size: &Size) -> World {
 
 /// A world twice, what the host does with it, and for how many calls.
 pub fn begin(seed: u64) -> (Twin, Script, u64) {
-    let mut rng = Rng::new(seed ^ 0x5eed_0f_a_b0c5);
+    let mut rng = Rng::new(seed ^ 0x05ee_d0fa_b0c5);
     let size = size(&mut rng);
     let mut source = Source::new(seed, size.peers);
     source.poke_one_in = *rng.pick(&[0, 20, 40]);

@@ -214,7 +214,7 @@ impl Script {
                 let line = self.rng.below(lines);
                 Action::Call(self.call(Step::End { line }))
             }
-            0..=1 => self.poke_box(),
+            0..=1 => self.poke_box(twin),
             2 => self.restart(twin),
             3..=5 if lines > 0 => {
                 let region = Region::Connection(self.rng.below(lines));
@@ -257,7 +257,7 @@ impl Script {
     }
 
     /// A byte of the box is written over, and set back some calls later.
-    fn poke_box(&mut self) -> Action {
+    fn poke_box(&mut self, twin: &Twin) -> Action {
         let rng = &mut self.rng;
         let (at, byte, calls) = match rng.below(8) {
             0..=1 => (2, *rng.pick(&[0, 1, 64, 65, 255]), 3),
@@ -269,6 +269,11 @@ impl Script {
             _ => (rng.below(2), rng.byte(), 20),
         };
         self.home_after(calls);
+        if at == 2 && !twin.world.lookups.is_empty() {
+            let step = Step::Start { lookup: 0, key: gen::key(&mut self.rng), concurrency: 3 };
+            let call = self.call(step);
+            self.later.push((0, Action::Call(call)));
+        }
         Action::Write { region: Region::Box, at, bytes: vec![byte] }
     }
 

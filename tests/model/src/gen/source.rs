@@ -114,7 +114,7 @@ impl Source {
         let end = value.len();
         match self.rng.below(6) {
             0 => {}
-            1 => value.extend([&16u32.to_le_bytes()[..], &[0, 0, 1, 0], &value[end - 8..].to_vec()].concat()),
+            1 => value.extend([&16u32.to_le_bytes()[..], &[0, 0, 1, 0], &value[end - 8..]].concat()),
             2 if end >= 32 => value.truncate(end - 16),
             3 => value[end - 8] = value[end - 8].wrapping_add(*self.rng.pick(&[1, 255])),
             4 => value[0] = value[0].wrapping_add(*self.rng.pick(&[1, 255])),
