@@ -80,7 +80,16 @@ pub enum Event<'n, 'c> {
     More,
     /// A request was answered: send these bytes.
     Reply(&'n [u8]),
-    /// A message came on a connection on which we ask. It lies in the connection's receive buffer until that takes another byte.
+    /// A message came on a connection on which we ask. It lies in the connection's receive buffer until that takes another byte, so this isn't compiled:
+    ///
+    /// ```compile_fail,E0499
+    /// # use starterbell::{Connection, Event, Node};
+    /// fn keeps(node: &mut Node, connection: &mut Connection, piece: &[u8]) {
+    ///     let Event::Heard(message) = node.receive(connection, piece).event else { return };
+    ///     let _ = node.receive(connection, piece);
+    ///     println!("{:?}", message.key());
+    /// }
+    /// ```
     Heard(Message<'c>),
     /// A message was refused, and the connection is shut; or it was shut before.
     Refused(Refusal),

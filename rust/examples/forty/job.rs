@@ -135,6 +135,7 @@ impl Job {
 
     /// A message that answers no request goes to the lookup too, which refuses it.
     pub fn heard_of(&mut self, node: &Node, sender: &[u8], message: &Message, around: &mut Around) {
+        self.waits = false;
         let told = self.lookup.reply(node, sender, message);
         if around.told(told).is_none() {
             return;

@@ -90,7 +90,7 @@ impl World {
         self.benches.iter().filter(|bench| bench.is_honest()).count()
     }
 
-    /// How many times a recipe was looked for and something was found, or nothing.
+    /// How many searches for a recipe are over.
     pub fn found(&self) -> usize {
         self.benches.iter().map(|bench| bench.got.len()).sum()
     }
