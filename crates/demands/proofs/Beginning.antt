@@ -24,9 +24,9 @@ use Rattle.records_history.specs.History.{cleared}
 use Rattle.records_history.proofs.Stays.{cleared-form}
 use Rattle.stream.specs.Stream.{isShut, inForm}
 use Rattle.cutting.specs.World.{World, Ready}
-use Rattle.node.specs.declared.Started.{Started}
-use Rattle.node.specs.declared.Told.the-variants as nodeTold
-use Rattle.node.specs.Box.{ownFits, nobody, startOf}
+use Rattle.connections.specs.declared.Started.{Started}
+use Rattle.connections.specs.declared.Told.the-variants as nodeTold
+use Rattle.connections.specs.Box.{ownFits, nobody, startOf}
 use Rattle.demands.specs.Box.{Box, Who, Ask, Own, Allowed, Good}
 use Rattle.demands.specs.Demands.{Begun, Beginnings}
 use Rattle.demands.proofs.Hashing.{Known, Placed}

@@ -12,9 +12,9 @@ use Rattle.stream.specs.Stream.{isShut, fresh}
 use Rattle.cutting.specs.World.{Line, Fine}
 use Rattle.cutting.specs.Plain.{Wire, standing, Blunt}
 use Rattle.cutting.proofs.Kept.{end-shuts}
-use Rattle.node.specs.declared.Opened.{Opened}
-use Rattle.node.specs.declared.Ended.{Ended}
-use Rattle.node.specs.Box.{ownFits, openOf, endConn}
+use Rattle.connections.specs.declared.Opened.{Opened}
+use Rattle.connections.specs.declared.Ended.{Ended}
+use Rattle.connections.specs.Box.{ownFits, openOf, endConn}
 use Rattle.demands.specs.Box as box
 use Rattle.demands.specs.Box.{Box, Who, Turn, Fits, turning, Allowed}
 use Rattle.demands.proofs.Connections.{conn-form}

@@ -20,9 +20,9 @@ use Rattle.sightings_kept.specs.Promises.{Fair}
 use Rattle.message.specs.Limits.{mostBody, leastReply}
 use Rattle.stream.specs.Stream.{isShut, inForm}
 use Rattle.cutting.specs.World.{Line, Fine}
-use Rattle.node.specs.declared.Conn.{Conn}
+use Rattle.connections.specs.declared.Conn.{Conn}
 use Rattle.node.specs.declared.Gate.the-variants.{Open, Closed}
-use Rattle.node.specs.Box.{ownFits, sizeFits, peerForm, connForm}
+use Rattle.connections.specs.Box.{ownFits, sizeFits, peerForm, connForm}
 use Rattle.node.specs.Node.{gateOf}
 use Rattle.demands.specs.Box.{Box, Who, connOf, Own, Allowed, Good}
 

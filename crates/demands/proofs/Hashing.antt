@@ -34,9 +34,9 @@ use Rattle.answer.specs.Answers.{dealOf}
 use Rattle.node.specs.declared.Sight.{Sight}
 use Rattle.node.specs.declared.Answer.{Answer}
 use Rattle.node.specs.declared.Answer.the-variants.{Reply, Heard, Refused, More}
-use Rattle.node.specs.declared.Opened.{Opened}
-use Rattle.node.specs.declared.Ended.{Ended}
-use Rattle.node.specs.Box.{ownFits, openOf, connForm, endConn}
+use Rattle.connections.specs.declared.Opened.{Opened}
+use Rattle.connections.specs.declared.Ended.{Ended}
+use Rattle.connections.specs.Box.{ownFits, openOf, connForm, endConn}
 use Rattle.node.specs.Node.{Dealing, contactsAfter, byAnswer, served, heard, dealingOf}
 use Rattle.host_calls.specs.Hosts.{seenAfter, settleAfter, removeAfter}
 use Rattle.records_history.specs.History.{Offer}

@@ -25,11 +25,11 @@ use Rattle.replies.specs.declared.Answered.{Answered}
 use Rattle.replies.specs.declared.Answered.the-variants as told
 use Rattle.replies.specs.Verdicts.{Dealt}
 use Rattle.answer.specs.Answers.{dealOf}
-use Rattle.node.specs.declared.Conn.{Conn}
+use Rattle.connections.specs.declared.Conn.{Conn}
 use Rattle.node.specs.declared.Sight.{Sight}
 use Rattle.node.specs.declared.Answer.{Answer}
 use Rattle.node.specs.declared.Answer.the-variants.{Reply, Heard, Refused, More}
-use Rattle.node.specs.Box.{ownFits}
+use Rattle.connections.specs.Box.{ownFits}
 use Rattle.node.specs.Node.{Dealing, contactsAfter, byAnswer, served, heard, dealingOf}
 use Rattle.host_calls.specs.Hosts.{seenAfter, settleAfter, removeAfter}
 use Rattle.demands.specs.Box as box

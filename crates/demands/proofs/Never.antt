@@ -45,12 +45,12 @@ use Rattle.stream.proofs.Steps.{call-runs}
 use Rattle.cutting.specs.World.{Line, Fine}
 use Rattle.replies.specs.Verdicts.{keyFits}
 use Rattle.node.specs.declared.Answer.the-variants.{Refused}
-use Rattle.node.specs.declared.Ended.{Ended}
+use Rattle.connections.specs.declared.Ended.{Ended}
 use Rattle.node.specs.declared.Gate.{Gate}
 use Rattle.host_calls.specs.declared.Nearby.{Nearby}
-use Rattle.node.specs.declared.Told.{Told}
-use Rattle.node.specs.declared.Told.the-variants as nodeTold
-use Rattle.node.specs.Box.{ownFits, endConn}
+use Rattle.connections.specs.declared.Told.{Told}
+use Rattle.connections.specs.declared.Told.the-variants as nodeTold
+use Rattle.connections.specs.Box.{ownFits, endConn}
 use Rattle.node.specs.Node.{Out, takenOf, unless, receiveOf}
 use Rattle.host_calls.specs.Hosts.{seenOf, settleOf, removeOf, nearestTo, ownId, lookupStart}
 use Rattle.demands.specs.Box as box

@@ -37,7 +37,7 @@ use Rattle.replies.specs.declared.Answered.{Answered}
 use Rattle.replies.specs.declared.Answered.the-variants as told
 use Rattle.replies.specs.Verdicts.{Verdict, replies, refuses, keyFits, keyed, echoed, putVerdict, Dealt, byVerdict}
 use Rattle.answer.specs.Answers.{verdictOf, byReading, dealOf}
-use Rattle.node.specs.declared.Conn.{Conn}
+use Rattle.connections.specs.declared.Conn.{Conn}
 use Rattle.node.specs.declared.Answer.{Answer}
 use Rattle.node.specs.declared.Answer.the-variants.{Reply, Heard, Refused, More}
 use Rattle.node.specs.Node.{Dealing, byAnswer, served, heardAs, heard, dealingOf, byEvent}

@@ -11,10 +11,10 @@ use Rattle.records_history.specs.History.{Offer}
 use Rattle.stream.specs.Stream.{isShut, inForm}
 use Rattle.cutting.specs.World.{Line, Fine, Sound}
 use Rattle.cutting.proofs.Kept.{end-shuts, end-form}
-use Rattle.node.specs.declared.Conn.{Conn}
-use Rattle.node.specs.declared.Opened.{Opened}
-use Rattle.node.specs.declared.Ended.{Ended}
-use Rattle.node.specs.Box.{ownFits, openOf, connForm, endConn}
+use Rattle.connections.specs.declared.Conn.{Conn}
+use Rattle.connections.specs.declared.Opened.{Opened}
+use Rattle.connections.specs.declared.Ended.{Ended}
+use Rattle.connections.specs.Box.{ownFits, openOf, connForm, endConn}
 use Rattle.demands.specs.Box as box
 use Rattle.demands.specs.Box.{Box, Who, connOf, whoIn, Turn, Fits, turning, Own, Allowed, Good}
 use Rattle.demands.proofs.Receives.{receives}

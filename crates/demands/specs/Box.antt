@@ -37,13 +37,13 @@ use Rattle.cutting.specs.Frames.{Event, message, refused as broken}
 use Rattle.cutting.specs.World.{Did, Line, Called, Layer, setAt}
 use Rattle.replies.specs.Replies.{putValue}
 use Rattle.answer_promises.specs.Promises.{Roomed}
-use Rattle.node.specs.declared.Conn.{Conn}
-use Rattle.node.specs.declared.Told.{Told}
+use Rattle.connections.specs.declared.Conn.{Conn}
+use Rattle.connections.specs.declared.Told.{Told}
 use Rattle.host_calls.specs.declared.Nearby.{Nearby}
 use Rattle.node.specs.declared.Sight.{Sight}
 use Rattle.node.specs.declared.Answer.{Answer}
 use Rattle.node.specs.declared.Answer.the-variants.{Reply, Heard, Refused, More}
-use Rattle.node.specs.Box.{ownFits, openOf, endConn}
+use Rattle.connections.specs.Box.{ownFits, openOf, endConn}
 use Rattle.node.specs.Node.{Dealing, dealingOf, receiveOf}
 use Rattle.host_calls.specs.Hosts.{seenOf, seenAfter, settleOf, settleAfter, removeOf, removeAfter, nearestTo, lookupStart, lookupReply, lookupFailure}
 

@@ -41,10 +41,10 @@ use Rattle.cutting.specs.Plain.{ReadOut, plainly, unread}
 use Rattle.replies.specs.declared.Answered.the-variants as told
 use Rattle.answer.specs.Answers.{verdictOf, dealOf}
 use Rattle.answer_promises.specs.Promises.{Roomed, ReadsBack}
-use Rattle.node.specs.declared.Conn.{Conn}
+use Rattle.connections.specs.declared.Conn.{Conn}
 use Rattle.node.specs.declared.Answer.the-variants.{Refused}
-use Rattle.node.specs.declared.Told.the-variants as nodeTold
-use Rattle.node.specs.Box.{startOf, endConn}
+use Rattle.connections.specs.declared.Told.the-variants as nodeTold
+use Rattle.connections.specs.Box.{startOf, endConn}
 use Rattle.node.specs.Node.{receiveOf}
 use Rattle.host_calls.specs.Hosts.{seenOf, settleOf, removeOf, nearestTo, lookupStart}
 use Rattle.node_promises.specs.Promises.{Refuses, CallsRefused, ValuesRefused}

@@ -16,8 +16,8 @@ use Rattle.stream.specs.declared.Framing.{Framing}
 use Rattle.stream.specs.declared.Framing.the-variants.{Shut, Prefix, Body}
 use Rattle.stream.specs.Stream.{inForm}
 use Rattle.stream.proofs.Steps.{body-short, body-small}
-use Rattle.node.specs.declared.Conn.{Conn}
-use Rattle.node.specs.Box as box
+use Rattle.connections.specs.declared.Conn.{Conn}
+use Rattle.connections.specs.Box as box
 use Rattle.flat.specs.Flat.{field, peerIn, unread, prefixOf, framingOf, pairAt, framingIn, saysYes, connIn, peerBytes, framingBytes, bit, connBytes, withFraming}
 use Rattle.flat.specs.Promises.{Whole, Sizes, ReadsBack, ReadsBackLent, LooksNoFurther, NoFraming}
 use Rattle.flat.proofs.Reading.{peer-read, too-many-held, kind-prefix, kind-other, conn-read}

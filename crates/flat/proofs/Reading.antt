@@ -16,7 +16,7 @@ use Rattle.peer.proofs.Rooms.{sets-zeros}
 use Rattle.stream.specs.declared.Held.the-variants.{Nothing, One, Two}
 use Rattle.stream.specs.declared.Framing.{Framing}
 use Rattle.stream.specs.declared.Framing.the-variants.{Shut, Prefix, Body}
-use Rattle.node.specs.declared.Conn.{Conn}
+use Rattle.connections.specs.declared.Conn.{Conn}
 use Rattle.flat.specs.Flat.{field, peerIn, unread, prefixOf, framingOf, pairAt, framingIn, saysYes, connIn}
 
 -- ---- bytes

@@ -14,7 +14,7 @@ use Rattle.stream.specs.declared.Held.{Held}
 use Rattle.stream.specs.declared.Held.the-variants.{Nothing, One, Two}
 use Rattle.stream.specs.declared.Framing.{Framing}
 use Rattle.stream.specs.declared.Framing.the-variants.{Shut, Prefix, Body}
-use Rattle.node.specs.declared.Conn.{Conn}
+use Rattle.connections.specs.declared.Conn.{Conn}
 use Rattle.flat.specs.Flat.{peerBytes, eightBytes, prefixBytes, framingBytes, bit, connBytes, withFraming}
 use Rattle.flat.specs.Promises.{Whole}
 

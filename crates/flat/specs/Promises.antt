@@ -8,8 +8,8 @@ use lib.Seq.{sets}
 use Rattle.peer.specs.declared.Peer.{Peer}
 use Rattle.stream.specs.declared.Framing.{Framing}
 use Rattle.stream.specs.Stream.{inForm}
-use Rattle.node.specs.declared.Conn.{Conn}
-use Rattle.node.specs.Box as box
+use Rattle.connections.specs.declared.Conn.{Conn}
+use Rattle.connections.specs.Box as box
 use Rattle.flat.specs.Flat.{peerSize, connSize, peerIn, framingIn, connIn, peerBytes, framingBytes, connBytes, withFraming}
 
 -- a peer's arrays have their lengths, as every value of the type does

@@ -1,6 +1,6 @@
 // The box and a connection as plain bytes that a host lends, and back. Every function takes any bytes; what lies past the end of a byte string reads as zeros,
 // and what would be written past the end of a buffer is left out.
-use node::Conn;
+use connections::Conn;
 use peer::Peer;
 use stream::Framing;
 use stream::Held;

@@ -16,8 +16,8 @@ use Rattle.contacts.specs.declared.Closest.{Closest}
 use Rattle.contacts.specs.Near.{nearestOf}
 use Rattle.replies.specs.Verdicts.{keyFits}
 use Rattle.host_calls.specs.declared.Nearby.{Nearby}
-use Rattle.node.specs.declared.Told.the-variants.{Fine}
-use Rattle.node.specs.Box.{ownFits}
+use Rattle.connections.specs.declared.Told.the-variants.{Fine}
+use Rattle.connections.specs.Box.{ownFits}
 use Rattle.host_calls.specs.Hosts.{noneNear, nearestTo}
 
 key-none : (key : List ℕ) → length key ≡ 0 → keyFits key ≡ false

@@ -10,8 +10,8 @@ use Rattle.place.specs.Place.{placeOf}
 use Rattle.contacts.specs.Form.{inForm}
 use Rattle.contacts.specs.Near.{nearestCount, nearestOf}
 use Rattle.replies.specs.Verdicts.{keyFits}
-use Rattle.node.specs.Box.{ownFits}
-use Rattle.node.specs.declared.Told.the-variants.{Fine, Refused}
+use Rattle.connections.specs.Box.{ownFits}
+use Rattle.connections.specs.declared.Told.the-variants.{Fine, Refused}
 use Rattle.host_calls.specs.declared.Nearby.{Nearby}
 unfoldable pub use Rattle.host_contacts.specs.Contacts.{seenOf, seenAfter, settleOf, settleAfter, removeOf, removeAfter}
 unfoldable pub use Rattle.host_lookups.specs.Lookups.{ownId, lookupStart, lookupReply, lookupFailure}

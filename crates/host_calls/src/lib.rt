@@ -1,5 +1,6 @@
 // The host's other calls, for a box: contacts, lookups, records and messages. All but `nearest` stand in the crates that they are passed on from.
 // Every function takes any numbers and any buffers, and refuses by number.
+use connections::Told;
 use contacts::Closest;
 pub use host_contacts::remove;
 pub use host_contacts::seen;
@@ -9,7 +10,6 @@ pub use host_lookups::lookup_next;
 pub use host_lookups::lookup_reply;
 pub use host_lookups::lookup_start;
 pub use message::read;
-use node::Told;
 use peer::Peer;
 pub use records::find;
 pub use records::put;
@@ -48,7 +48,7 @@ pub fn nearest(me: Peer, contacts: &[u8], key: &[u8]) -> Nearby
     if message::MOST_KEY < key.len() {
         return none_near(Refusal::BreaksRules);
     }
-    if !node::own_fits(me) {
+    if !connections::own_fits(me) {
         return none_near(Refusal::BadPeer);
     }
     let target = place::place_of(key);

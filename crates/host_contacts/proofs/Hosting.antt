@@ -16,7 +16,7 @@ use Rattle.contact_calls.specs.declared.SettleOutcome.the-variants as settle
 use Rattle.contact_calls.specs.declared.RemoveOutcome.{RemoveOutcome}
 use Rattle.contact_calls.specs.declared.RemoveOutcome.the-variants as remove
 use Rattle.contact_calls.specs.Calls.{seenCall, seenCallTable, settleCall, settleCallTable, removeCall, removeCallTable}
-use Rattle.node.specs.Box.{ownFits}
+use Rattle.connections.specs.Box.{ownFits}
 use Rattle.host_contacts.specs.Contacts.{gated, seenOf, seenAfter, settleOf, settleAfter, removeOf, removeAfter}
 use Rattle.host_contacts.specs.Inner.{refusalOfBox}
 

@@ -13,7 +13,7 @@ use Rattle.contact_calls.specs.declared.SettleOutcome.the-variants as settle
 use Rattle.contact_calls.specs.declared.RemoveOutcome.{RemoveOutcome}
 use Rattle.contact_calls.specs.declared.RemoveOutcome.the-variants as remove
 use Rattle.contact_calls.specs.Calls.{seenCall, seenCallTable, settleCall, settleCallTable, removeCall, removeCallTable}
-use Rattle.node.specs.Box.{ownFits}
+use Rattle.connections.specs.Box.{ownFits}
 
 -- 0, then 12
 abbrev pub gated : {A : Type 0} → Peer → List ℕ → A → A → A → A

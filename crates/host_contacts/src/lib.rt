@@ -24,7 +24,7 @@ pub fn seen(me: Peer, contacts: &mut [u8], id: &[u8], client: bool, addresses: &
     ensures { λ r. ⌜ (r ≡ seenOf me (now (contacts .entry)) (now (id .entry)) client) × (now (contacts .exit) ≡ seenAfter me (now (contacts .entry)) (now (id .entry)) client (now (addresses .entry))) ⌝ }
 {
     let ours = me.place;
-    if !node::own_fits(me) {
+    if !connections::own_fits(me) {
         return SeenOutcome::Refused(refusal_of_box(contacts, &ours));
     }
     contact_calls::seen(contacts, &ours, id, client, addresses)
@@ -43,7 +43,7 @@ pub fn settle(
     ensures { λ r. ⌜ (r ≡ settleOf me (now (contacts .entry)) (now (head .entry)) (now (id .entry)) client answered) × (now (contacts .exit) ≡ settleAfter me (now (contacts .entry)) (now (head .entry)) (now (id .entry)) client (now (addresses .entry)) answered) ⌝ }
 {
     let ours = me.place;
-    if !node::own_fits(me) {
+    if !connections::own_fits(me) {
         return SettleOutcome::Refused(refusal_of_box(contacts, &ours));
     }
     contact_calls::settle(contacts, &ours, head, id, client, addresses, answered)
@@ -54,7 +54,7 @@ pub fn remove(me: Peer, contacts: &mut [u8], id: &[u8]) -> RemoveOutcome
     ensures { λ r. ⌜ (r ≡ removeOf me (now (contacts .entry)) (now (id .entry))) × (now (contacts .exit) ≡ removeAfter me (now (contacts .entry)) (now (id .entry))) ⌝ }
 {
     let ours = me.place;
-    if !node::own_fits(me) {
+    if !connections::own_fits(me) {
         return RemoveOutcome::Refused(refusal_of_box(contacts, &ours));
     }
     contact_calls::remove(contacts, &ours, id)

@@ -15,7 +15,7 @@ use Rattle.message.specs.declared.Fields.{Fields}
 use Rattle.lookup.specs.declared.Lookup.{Lookup}
 use Rattle.lookup.specs.declared.Step.{Step}
 use Rattle.lookup.specs.Lookup as lookup
-use Rattle.node.specs.Box.{ownFits}
+use Rattle.connections.specs.Box.{ownFits}
 use Rattle.host_lookups.specs.Lookups.{ownId, lookupStart, lookupReply, lookupFailure}
 use Rattle.host_lookups.specs.Inner.{ownSize}
 

@@ -2,7 +2,7 @@
 use Prim.Native.Nat.{ℕ}
 use mathlib.Core.Bool.{cond}
 use Rattle.peer.specs.declared.Peer.{Peer}
-use Rattle.node.specs.Box.{ownFits}
+use Rattle.connections.specs.Box.{ownFits}
 
 -- the length of the id that a box goes by
 abbrev pub ownSize : Peer → ℕ

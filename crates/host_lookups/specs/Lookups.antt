@@ -8,7 +8,7 @@ use Rattle.message.specs.declared.Fields.{Fields}
 use Rattle.lookup.specs.declared.Lookup.{Lookup}
 use Rattle.lookup.specs.declared.Step.{Step}
 use Rattle.lookup.specs.Lookup as lookup
-use Rattle.node.specs.Box.{ownFits}
+use Rattle.connections.specs.Box.{ownFits}
 
 -- the id that a box goes by, none where no start gives it (then 12)
 unfoldable pub ownId : Peer → List ℕ

@@ -14,7 +14,7 @@ ghost use Rattle.host_lookups.specs.Inner.{ownSize};
 fn own_size(me: Peer) -> usize
     ensures { λ r. ⌜ (r ≡ ownSize me) × (r ≤ 64) ⌝ }
 {
-    if node::own_fits(me) {
+    if connections::own_fits(me) {
         return me.size as usize;
     }
     0

@@ -1,4 +1,2 @@
-pub mod Forms
-pub mod Opening
-pub mod Bounds
+mod Gates
 pub mod Receiving

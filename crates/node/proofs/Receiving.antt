@@ -2,7 +2,7 @@
 use Prim.Native.Nat.{ℕ}
 use mathlib.Core.Path.{_≡_, refl, sym, ap, _∙_}
 use mathlib.Core.List.{List}
-use mathlib.Core.Bool.{Bool, true, false, cond}
+use mathlib.Core.Bool.{true, false}
 use lib.ListN.{length, take}
 use Rattle.octets.proofs.Bools.{cond-yes, cond-no}
 use Rattle.refusal.specs.declared.Refusal.{Refusal}
@@ -24,7 +24,7 @@ use Rattle.replies.specs.declared.Answered.the-variants as told
 use Rattle.replies.specs.Verdicts.{Dealt}
 use Rattle.answer.specs.Answers.{dealOf}
 use Rattle.replies.specs.Verdicts as answers
-use Rattle.node.specs.declared.Conn.{Conn}
+use Rattle.connections.specs.declared.Conn.{Conn}
 use Rattle.node.specs.declared.Answer.{Answer}
 use Rattle.node.specs.declared.Answer.the-variants.{Reply, Heard, Refused, More}
 use Rattle.node.specs.declared.Sight.{Sight}
@@ -32,8 +32,8 @@ use Rattle.node.specs.declared.Sight.the-variants.{NotSeen, Seen}
 use Rattle.node.specs.declared.Gate.{Gate}
 use Rattle.node.specs.declared.Gate.the-variants.{Open, Closed}
 use Rattle.node.specs.declared.Received.{Received}
-use Rattle.node.specs.Box.{withFraming}
-use Rattle.node.specs.Node.{Dealing, untouched, sightOf, contactsAfter, byAnswer, served, heardAs, heard, dealingOf, gateOf, Out, received, done, byEvent, takenOf, unless, receiveOf, Gives}
+use Rattle.connections.specs.Box.{withFraming}
+use Rattle.node.specs.Node.{Dealing, sightOf, contactsAfter, byAnswer, served, heardAs, heard, dealingOf, gateOf, Out, received, byEvent, takenOf, unless, receiveOf, Gives}
 use Rattle.node.specs.Inner.{unseen, Deals}
 
 -- ---- a sender that is seen

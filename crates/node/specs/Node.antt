@@ -2,10 +2,9 @@
 use Prim.Native.Nat.{ℕ}
 use mathlib.Core.Path.{_≡_}
 use mathlib.Core.List.{List}
-use mathlib.Core.Bool.{Bool, true, false, cond, not}
+use mathlib.Core.Bool.{cond, not}
 use lib.ListN.{length, take}
 use lib.Dec.{ltb}
-use Rattle.refusal.specs.declared.Refusal.{Refusal}
 use Rattle.refusal.specs.declared.Refusal.the-variants.{OutOfForm, SmallBuffer, Shut, BadPeer}
 use Rattle.peer.specs.declared.Peer.{Peer}
 use Rattle.contacts.specs.Form.{inForm as contactsForm}
@@ -23,8 +22,8 @@ use Rattle.replies.specs.declared.Answered.{Answered}
 use Rattle.replies.specs.declared.Answered.the-variants as told
 use Rattle.replies.specs.Verdicts.{Dealt}
 use Rattle.answer.specs.Answers.{dealOf}
-use Rattle.node.specs.Box.{ownFits, connForm, withFraming}
-use Rattle.node.specs.declared.Conn.{Conn}
+use Rattle.connections.specs.Box.{ownFits, connForm, withFraming}
+use Rattle.connections.specs.declared.Conn.{Conn}
 use Rattle.node.specs.declared.Answer.{Answer}
 use Rattle.node.specs.declared.Answer.the-variants.{Reply, Heard, Refused, More}
 use Rattle.node.specs.declared.Sight.{Sight}

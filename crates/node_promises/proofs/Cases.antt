@@ -14,12 +14,12 @@ use Rattle.replies.specs.declared.Answered.{Answered}
 use Rattle.replies.specs.declared.Answered.the-variants as told
 use Rattle.replies.specs.Verdicts.{Dealt}
 use Rattle.answer.specs.Answers.{dealOf}
-use Rattle.node.specs.declared.Conn.{Conn}
+use Rattle.connections.specs.declared.Conn.{Conn}
 use Rattle.node.specs.declared.Answer.the-variants.{Reply, Refused, More}
 use Rattle.node.specs.declared.Sight.the-variants.{NotSeen}
 use Rattle.node.specs.declared.Gate.{Gate}
 use Rattle.node.specs.declared.Gate.the-variants.{Open, Closed}
-use Rattle.node.specs.Box.{withFraming}
+use Rattle.connections.specs.Box.{withFraming}
 use Rattle.node.specs.Node.{Dealing, untouched, sightOf, contactsAfter, byAnswer, served, heard, dealingOf, gateOf, Out, received, done, byEvent, takenOf, unless, receiveOf}
 
 -- ---- a message

@@ -29,14 +29,14 @@ use Rattle.stream.specs.declared.Framing.{Framing}
 use Rattle.stream.specs.declared.Framing.the-variants.{Shut, Prefix, Body}
 use Rattle.stream.specs.Stream as frames
 use Rattle.stream.specs.Stream.{isShut, inForm}
-use Rattle.node.specs.declared.Conn.{Conn}
-use Rattle.node.specs.declared.Opened.{Opened}
-use Rattle.node.specs.declared.Ended.{Ended}
+use Rattle.connections.specs.declared.Conn.{Conn}
+use Rattle.connections.specs.declared.Opened.{Opened}
+use Rattle.connections.specs.declared.Ended.{Ended}
 use Rattle.node.specs.declared.Answer.{Answer}
 use Rattle.node.specs.declared.Answer.the-variants.{Reply, Heard, Refused, More}
-use Rattle.node.specs.Box.{ownFits, sizeFits, peerForm, withFraming, openOf, connForm, endConn}
+use Rattle.connections.specs.Box.{ownFits, sizeFits, peerForm, withFraming, openOf, connForm, endConn}
 use Rattle.node.specs.Node.{Dealing, Out, shutIf, done, dealingOf, heard, contactsAfter, receiveOf}
-use Rattle.node.proofs.Bounds.{framing-kept, end-shuts}
+use Rattle.connections.proofs.Bounds.{framing-kept, end-shuts}
 use Rattle.answer_promises.proofs.Promised.{records-stay-in-form}
 use Rattle.node_promises.specs.Promises.{Made, FormKept}
 use Rattle.node_promises.proofs.Cases.{deal-cases, afterwards, cases}

@@ -24,18 +24,18 @@ use Rattle.contact_calls.proofs.Theorems.{seen-refused, seen-probe, settle-refu
 use Rattle.stream.specs.declared.Framing.the-variants as framing
 use Rattle.stream.specs.declared.Ending.the-variants as ends
 use Rattle.stream.specs.Stream.{isShut}
-use Rattle.node.specs.declared.Conn.{Conn}
-use Rattle.node.specs.declared.Ended.{Ended}
-use Rattle.node.specs.declared.Started.{Started}
-use Rattle.node.specs.declared.Opened.{Opened}
+use Rattle.connections.specs.declared.Conn.{Conn}
+use Rattle.connections.specs.declared.Ended.{Ended}
+use Rattle.connections.specs.declared.Started.{Started}
+use Rattle.connections.specs.declared.Opened.{Opened}
 use Rattle.host_calls.specs.declared.Nearby.{Nearby}
-use Rattle.node.specs.declared.Told.the-variants as tells
+use Rattle.connections.specs.declared.Told.the-variants as tells
 use Rattle.node.specs.declared.Answer.{Answer}
 use Rattle.node.specs.declared.Answer.the-variants.{Reply, Refused, More}
 use Rattle.node.specs.declared.Sight.the-variants.{NotSeen}
 use Rattle.node.specs.declared.Gate.{Gate}
 use Rattle.node.specs.declared.Gate.the-variants.{Open, Closed}
-use Rattle.node.specs.Box.{ownFits, nobody, startOf, withFraming, openOf, connForm, endConn}
+use Rattle.connections.specs.Box.{ownFits, nobody, startOf, withFraming, openOf, connForm, endConn}
 use Rattle.node.specs.Node.{Dealing, Out, gateOf, done, shutIf, dealingOf, heard, receiveOf}
 use Rattle.host_calls.specs.Hosts.{seenOf, seenAfter, settleOf, settleAfter, removeOf, removeAfter, nearestTo}
 use Rattle.host_contacts.proofs.Hosting.{seen-on, seen-off, settle-on, settle-off, remove-on, remove-off}

@@ -17,12 +17,12 @@ use Rattle.contact_calls.specs.declared.RemoveOutcome.the-variants as remove
 use Rattle.stream.specs.declared.Framing.the-variants as framing
 use Rattle.stream.specs.declared.Ending.the-variants as ends
 use Rattle.stream.specs.Stream.{isShut}
-use Rattle.node.specs.declared.Conn.{Conn}
-use Rattle.node.specs.declared.Told.the-variants as tells
+use Rattle.connections.specs.declared.Conn.{Conn}
+use Rattle.connections.specs.declared.Told.the-variants as tells
 use Rattle.node.specs.declared.Answer.the-variants.{Refused}
 use Rattle.node.specs.declared.Sight.the-variants.{NotSeen}
 use Rattle.node.specs.declared.Gate.the-variants.{Open, Closed}
-use Rattle.node.specs.Box.{nobody, startOf, withFraming, openOf, connForm, endConn}
+use Rattle.connections.specs.Box.{nobody, startOf, withFraming, openOf, connForm, endConn}
 use Rattle.node.specs.Node.{Out, gateOf, receiveOf}
 use Rattle.host_calls.specs.Hosts.{seenOf, seenAfter, settleOf, settleAfter, removeOf, removeAfter, nearestTo}
 

@@ -1,7 +1,7 @@
 -- `node::gate_of` meets its contract. Assumes nothing.
 use mathlib.Core.Path.{sym, _∙_}
 use borrow.Author.Tests.{not-true, not-false}
-use Rattle.node.proofs.Forms.{gate-contacts, gate-records, gate-conn, gate-buffer, gate-reply, gate-shut, gate-own, gate-open}
+use Rattle.node.proofs.Gates.{gate-contacts, gate-records, gate-conn, gate-buffer, gate-reply, gate-shut, gate-own, gate-open}
 use borrow.Author.Needs.{needs}
 use Rattle.node.proofs.gate_of.Statement.{statement}
 use Rattle.node.proofs.gate_of.Tie as tie

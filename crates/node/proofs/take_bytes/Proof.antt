@@ -1,6 +1,6 @@
 -- `node::take_bytes` meets its contract. Assumes nothing.
 use native.Mathlib.Omega.{arith}
-use Rattle.node.proofs.Bounds.{message-there, prefix-length}
+use Rattle.connections.proofs.Bounds.{message-there, prefix-length}
 use Rattle.node.proofs.Receiving.{take-message, take-refused, take-more}
 use borrow.Author.Needs.{needs}
 use Rattle.node.proofs.take_bytes.Statement.{statement}

@@ -1,10 +1,10 @@
--- `node::conn_form` meets its contract. Assumes nothing.
+-- `connections::conn_form` meets its contract. Assumes nothing.
 use mathlib.Core.Path.{sym, _∙_}
 use borrow.Author.Tests.{not-true, not-false}
-use Rattle.node.proofs.Forms.{conn-shut, conn-peer, conn-ours, conn-rest}
+use Rattle.connections.proofs.Forms.{conn-shut, conn-peer, conn-ours, conn-rest}
 use borrow.Author.Needs.{needs}
-use Rattle.node.proofs.conn_form.Statement.{statement}
-use Rattle.node.proofs.conn_form.Tie as tie
+use Rattle.connections.proofs.conn_form.Statement.{statement}
+use Rattle.connections.proofs.conn_form.Tie as tie
 
 is-shut-requires : tie.Need-is-shut-requires
 is-shut-requires c κs = search needs

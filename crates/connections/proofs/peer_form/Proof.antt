@@ -1,10 +1,10 @@
--- `node::peer_form` meets its contract. Assumes nothing.
+-- `connections::peer_form` meets its contract. Assumes nothing.
 use mathlib.Core.Path.{sym, _∙_}
 use borrow.Author.Tests.{not-true, not-false}
-use Rattle.node.proofs.Forms.{peer-id, peer-many, peer-rest}
+use Rattle.connections.proofs.Forms.{peer-id, peer-many, peer-rest}
 use borrow.Author.Needs.{needs}
-use Rattle.node.proofs.peer_form.Statement.{statement}
-use Rattle.node.proofs.peer_form.Tie as tie
+use Rattle.connections.proofs.peer_form.Statement.{statement}
+use Rattle.connections.proofs.peer_form.Tie as tie
 
 own-fits-requires : tie.Need-own-fits-requires
 own-fits-requires c κs = search needs

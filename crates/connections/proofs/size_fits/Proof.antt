@@ -1,7 +1,7 @@
--- `node::size_fits` meets its contract. Assumes nothing.
+-- `connections::size_fits` meets its contract. Assumes nothing.
 use Rattle.peer.proofs.Lists.{size-none, size-some}
-use Rattle.node.proofs.size_fits.Statement.{statement}
-use Rattle.node.proofs.size_fits.Tie as tie
+use Rattle.connections.proofs.size_fits.Statement.{statement}
+use Rattle.connections.proofs.size_fits.Tie as tie
 
 returns : tie.Need-returns
 returns c = size-none _ (c .if1 .taken)

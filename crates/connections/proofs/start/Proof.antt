@@ -1,9 +1,9 @@
--- `node::start` meets its contract. Assumes nothing.
+-- `connections::start` meets its contract. Assumes nothing.
 use mathlib.Core.Path.{sym, _∙_}
-use Rattle.node.proofs.Opening.{start-fine, start-refused}
+use Rattle.connections.proofs.Opening.{start-fine, start-refused}
 use borrow.Author.Needs.{needs}
-use Rattle.node.proofs.start.Statement.{statement}
-use Rattle.node.proofs.start.Tie as tie
+use Rattle.connections.proofs.start.Statement.{statement}
+use Rattle.connections.proofs.start.Tie as tie
 
 id-fits-requires : tie.Need-id-fits-requires
 id-fits-requires c κs = search needs

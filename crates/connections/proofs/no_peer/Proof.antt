@@ -1,8 +1,8 @@
--- `node::no_peer` meets its contract. Assumes nothing.
-use Rattle.node.specs.Box.{nobody}
+-- `connections::no_peer` meets its contract. Assumes nothing.
+use Rattle.connections.specs.Box.{nobody}
 use borrow.Author.Needs.{needs}
-use Rattle.node.proofs.no_peer.Statement.{statement}
-use Rattle.node.proofs.no_peer.Tie as tie
+use Rattle.connections.proofs.no_peer.Statement.{statement}
+use Rattle.connections.proofs.no_peer.Tie as tie
 
 slice-aggregate-peer-of : tie.Need-slice-aggregate-peer-of
 slice-aggregate-peer-of c = search needs

@@ -1,4 +1,4 @@
--- `node::sizes_fit` meets its contract. Assumes nothing.
+-- `connections::sizes_fit` meets its contract. Assumes nothing.
 use native.Mathlib.Omega.{arith}
 use Prim.Native.Nat.{ℕ, _-_, _≤_}
 use mathlib.Core.Path.{_≡_, sym, _∙_, subst}
@@ -8,9 +8,9 @@ use lib.ListN.{getD}
 use Rattle.octets.proofs.Searching.{all-zero, all-more, all-fails}
 use Rattle.peer.specs.Addresses.{usableSize}
 use borrow.Author.Needs.{needs}
-use Rattle.node.specs.Inner.{usableSizes}
-use Rattle.node.proofs.sizes_fit.Statement.{statement}
-use Rattle.node.proofs.sizes_fit.Tie as tie
+use Rattle.connections.specs.Inner.{usableSizes}
+use Rattle.connections.proofs.sizes_fit.Statement.{statement}
+use Rattle.connections.proofs.sizes_fit.Tie as tie
 
 abbrev Inv-loop : tie.InvT-loop
 Inv-loop count lens k₀ k = (k ≤ count) × (usableSizes lens k ≡ true)

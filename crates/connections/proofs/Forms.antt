@@ -1,26 +1,20 @@
--- The form of a box, a peer and a connection, as the code finds it out, and the gate. Assumes nothing.
-use Prim.Native.Nat.{ℕ, _<_, _≤_}
+-- The form of a box, a peer and a connection, as the code finds it out. Assumes nothing.
+use Prim.Native.Nat.{_<_, _≤_}
 use mathlib.Core.Path.{_≡_, refl, sym, ap, _∙_}
-use mathlib.Core.Bool.{Bool, true, false, cond, not, _&&_, _||_}
+use mathlib.Core.Bool.{Bool, true, false, not}
 use mathlib.Core.List.{List, [], _∷_}
 use native.Mathlib.Omega.{arith}
-use lib.ListN.{length, getD}
-use lib.Dec.{ltb, leb}
-use borrow.Author.Tests.{le-leb, lt-leb, lt-ltb, le-ltb}
+use lib.Dec.{leb}
+use borrow.Author.Tests.{le-leb, lt-leb}
 use Rattle.octets.specs.Octets.{same}
 use Rattle.octets.specs.Search.{all, allOf}
 use Rattle.octets.proofs.Bools.{and-i, and-l, and-r, and-on, and-off, not-both, to-false, or-l, or-off, all-head, all-rest, all-off, all-on}
-use Rattle.refusal.specs.declared.Refusal.the-variants.{OutOfForm, SmallBuffer, Shut, BadPeer}
 use Rattle.peer.specs.declared.Peer.{Peer}
 use Rattle.peer.specs.Addresses.{usableSize}
-use Rattle.contacts.specs.Form.{inForm as contactsForm}
-use Rattle.records.specs.Store.{inForm as recordsForm}
 use Rattle.stream.specs.Stream.{isShut, inForm}
-use Rattle.node.specs.declared.Conn.{Conn}
-use Rattle.node.specs.declared.Gate.the-variants.{Open, Closed}
-use Rattle.node.specs.Box.{ownFits, sizeFits, peerForm, connForm}
-use Rattle.node.specs.Node.{gateOf}
-use Rattle.node.specs.Inner.{usableSizes}
+use Rattle.connections.specs.declared.Conn.{Conn}
+use Rattle.connections.specs.Box.{ownFits, sizeFits, peerForm, connForm}
+use Rattle.connections.specs.Inner.{usableSizes}
 
 -- ---- the last of a list of tests
 all-last : (b : Bool) → allOf (b ∷ []) ≡ b
@@ -93,43 +87,3 @@ module _ (me : Peer) (c : Conn) where
 
   pub conn-rest : (r : Bool) → isShut (c .framing) ≡ false → peerForm (c .peer) ≡ true → same (c .peer .place) (me .place) ≡ false → r ≡ inForm (c .framing) → r ≡ connForm me c
   conn-rest r h g e q = q ∙ sym (conn-fair h g ∙ all-on away _ (ap not e) ∙ all-last (inForm (c .framing)))
-
--- ---- the gate
-module _ (me : Peer) (c : Conn) (m t k y : List ℕ) where
-  pub gate-contacts : contactsForm t (me .place) ≡ false → Closed OutOfForm ≡ gateOf me c m t k y
-  unfolding gateOf
-  gate-contacts a = rw a
-
-  module _ (a : contactsForm t (me .place) ≡ true) where
-    pub gate-records : recordsForm k ≡ false → Closed OutOfForm ≡ gateOf me c m t k y
-    unfolding gateOf
-    gate-records b = rw (a, b)
-
-    module _ (b : recordsForm k ≡ true) where
-      pub gate-conn : connForm me c ≡ false → Closed OutOfForm ≡ gateOf me c m t k y
-      unfolding gateOf
-      gate-conn d = rw (a, b, d)
-
-      module _ (d : connForm me c ≡ true) where
-        pub gate-buffer : length m < 16384 → Closed SmallBuffer ≡ gateOf me c m t k y
-        unfolding gateOf
-        gate-buffer l = rw (a, b, d, lt-ltb (length m) 16384 l)
-
-        module _ (l : 16384 ≤ length m) where
-          pub gate-reply : length y < 16387 → Closed SmallBuffer ≡ gateOf me c m t k y
-          unfolding gateOf
-          gate-reply n = rw (a, b, d, le-ltb (length m) 16384 l, lt-ltb (length y) 16387 n)
-
-          module _ (n : 16387 ≤ length y) where
-            pub gate-shut : isShut (c .framing) ≡ true → Closed Shut ≡ gateOf me c m t k y
-            unfolding gateOf
-            gate-shut s = rw (a, b, d, le-ltb (length m) 16384 l, le-ltb (length y) 16387 n, s)
-
-            module _ (s : isShut (c .framing) ≡ false) where
-              pub gate-own : ownFits me ≡ false → Closed BadPeer ≡ gateOf me c m t k y
-              unfolding gateOf
-              gate-own o = rw (a, b, d, le-ltb (length m) 16384 l, le-ltb (length y) 16387 n, s, o)
-
-              pub gate-open : ownFits me ≡ true → Open ≡ gateOf me c m t k y
-              unfolding gateOf
-              gate-open o = rw (a, b, d, le-ltb (length m) 16384 l, le-ltb (length y) 16387 n, s, o)

@@ -1,10 +1,10 @@
--- `node::end` meets its contract. Assumes nothing.
+-- `connections::end` meets its contract. Assumes nothing.
 use mathlib.Core.Path.{sym, _∙_}
 use borrow.Author.Tests.{not-true, not-false}
-use Rattle.node.proofs.Opening.{end-refused, end-done}
+use Rattle.connections.proofs.Opening.{end-refused, end-done}
 use borrow.Author.Needs.{needs}
-use Rattle.node.proofs.end.Statement.{statement}
-use Rattle.node.proofs.end.Tie as tie
+use Rattle.connections.proofs.end.Statement.{statement}
+use Rattle.connections.proofs.end.Tie as tie
 
 conn-form-requires : tie.Need-conn-form-requires
 conn-form-requires c κs = search needs

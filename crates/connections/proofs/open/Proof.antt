@@ -1,10 +1,10 @@
--- `node::open` meets its contract. Assumes nothing.
+-- `connections::open` meets its contract. Assumes nothing.
 use mathlib.Core.Path.{sym, _∙_}
 use borrow.Author.Tests.{not-true, not-false}
-use Rattle.node.proofs.Opening.{open-own, open-id, open-ours, open-fine}
+use Rattle.connections.proofs.Opening.{open-own, open-id, open-ours, open-fine}
 use borrow.Author.Needs.{needs}
-use Rattle.node.proofs.open.Statement.{statement}
-use Rattle.node.proofs.open.Tie as tie
+use Rattle.connections.proofs.open.Statement.{statement}
+use Rattle.connections.proofs.open.Tie as tie
 
 own-fits-requires : tie.Need-own-fits-requires
 own-fits-requires c κs = search needs

@@ -1,8 +1,8 @@
--- `node::refuse_open` meets its contract. Assumes nothing.
-use Rattle.node.proofs.Opening.{shut-peer}
+-- `connections::refuse_open` meets its contract. Assumes nothing.
+use Rattle.connections.proofs.Opening.{shut-peer}
 use borrow.Author.Needs.{needs}
-use Rattle.node.proofs.refuse_open.Statement.{statement}
-use Rattle.node.proofs.refuse_open.Tie as tie
+use Rattle.connections.proofs.refuse_open.Statement.{statement}
+use Rattle.connections.proofs.refuse_open.Tie as tie
 
 no-peer-requires : tie.Need-no-peer-requires
 no-peer-requires c κs = search needs

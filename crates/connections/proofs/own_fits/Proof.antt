@@ -1,8 +1,8 @@
--- `node::own_fits` meets its contract. Assumes nothing.
-use Rattle.node.proofs.Forms.{own-none, own-some}
+-- `connections::own_fits` meets its contract. Assumes nothing.
+use Rattle.connections.proofs.Forms.{own-none, own-some}
 use borrow.Author.Needs.{needs}
-use Rattle.node.proofs.own_fits.Statement.{statement}
-use Rattle.node.proofs.own_fits.Tie as tie
+use Rattle.connections.proofs.own_fits.Statement.{statement}
+use Rattle.connections.proofs.own_fits.Tie as tie
 
 cast-n : tie.Need-cast-n
 cast-n c = search needs

@@ -1,8 +1,8 @@
 -- A box that starts, and a connection that opens or ends. Assumes nothing.
 use Prim.Native.Nat.{ℕ}
-use mathlib.Core.Path.{_≡_, refl, sym, ap, _∙_}
-use mathlib.Core.Bool.{Bool, true, false, cond, not, _||_}
-use mathlib.Core.List.{List, []}
+use mathlib.Core.Path.{_≡_, sym, ap, _∙_}
+use mathlib.Core.Bool.{Bool, true, false, not, _||_}
+use mathlib.Core.List.{List}
 use Rattle.octets.specs.Octets.{same}
 use Rattle.octets.proofs.Bools.{cond-yes, cond-no, or-l, or-r, or-fails}
 use Rattle.refusal.specs.declared.Refusal.the-variants.{OutOfForm, BadPeer}
@@ -15,13 +15,13 @@ use Rattle.stream.specs.declared.Framing.the-variants.{Shut}
 use Rattle.stream.specs.declared.Ended as stream
 use Rattle.stream.specs.declared.Ending.the-variants as ends
 use Rattle.stream.specs.Stream.{fresh, endOf}
-use Rattle.node.specs.declared.Conn.{Conn}
-use Rattle.node.specs.declared.Started.{Started}
-use Rattle.node.specs.declared.Opened.{Opened}
-use Rattle.node.specs.declared.Ended.{Ended}
-use Rattle.node.specs.declared.Told.the-variants.{Fine, Refused}
-use Rattle.node.specs.Box.{ownFits, nobody, startOf, withFraming, openOf, connForm, endConn}
-use Rattle.node.specs.Inner.{startsShut}
+use Rattle.connections.specs.declared.Conn.{Conn}
+use Rattle.connections.specs.declared.Started.{Started}
+use Rattle.connections.specs.declared.Opened.{Opened}
+use Rattle.connections.specs.declared.Ended.{Ended}
+use Rattle.connections.specs.declared.Told.the-variants.{Fine, Refused}
+use Rattle.connections.specs.Box.{ownFits, nobody, startOf, withFraming, openOf, connForm, endConn}
+use Rattle.connections.specs.Inner.{startsShut}
 
 -- ---- start
 module _ (id addresses : List ℕ) where
