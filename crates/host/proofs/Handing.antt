@@ -13,10 +13,10 @@ use Rattle.contact_calls.specs.declared.SettleOutcome.{SettleOutcome}
 use Rattle.contact_calls.specs.declared.RemoveOutcome.{RemoveOutcome}
 use Rattle.writer.specs.declared.Written.{Written}
 use Rattle.writer.specs.Writer.{messageWith, answerOf, outAfter}
-use Rattle.node.specs.declared.Conn.{Conn}
-use Rattle.node.specs.declared.Started.{Started}
-use Rattle.node.specs.declared.Opened.{Opened}
-use Rattle.node.specs.declared.Ended.{Ended}
+use Rattle.connections.specs.declared.Conn.{Conn}
+use Rattle.connections.specs.declared.Started.{Started}
+use Rattle.connections.specs.declared.Opened.{Opened}
+use Rattle.connections.specs.declared.Ended.{Ended}
 use Rattle.node.specs.Box.{startOf, openOf, endConn}
 use Rattle.host_calls.specs.declared.Nearby.{Nearby}
 use Rattle.host_calls.specs.Hosts.{seenOf, seenAfter, settleOf, settleAfter, removeOf, removeAfter, nearestTo}

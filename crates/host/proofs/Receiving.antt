@@ -4,7 +4,7 @@ use mathlib.Core.Path.{_≡_, ap, _∙_}
 use mathlib.Core.List.{List}
 use lib.ListN.{length}
 use Rattle.peer.specs.declared.Peer.{Peer}
-use Rattle.node.specs.declared.Conn.{Conn}
+use Rattle.connections.specs.declared.Conn.{Conn}
 use Rattle.flat.specs.Flat.{peerIn, connIn}
 use Rattle.node.specs.declared.Received.{Received}
 use Rattle.node.specs.Node.{Out, Gives, receiveOf}

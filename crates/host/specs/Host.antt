@@ -7,7 +7,7 @@ use mathlib.Core.List.{List}
 use lib.ListN.{length}
 use lib.Seq.{sets}
 use lib.Dec.{ltb}
-use Rattle.node.specs.declared.Opened.{Opened}
+use Rattle.connections.specs.declared.Opened.{Opened}
 use Rattle.node.specs.Box.{startOf, openOf, endConn}
 use Rattle.node.specs.Node.{Out, receiveOf}
 use Rattle.lookup.specs.declared.Step.{Step}

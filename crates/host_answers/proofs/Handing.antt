@@ -9,8 +9,8 @@ use Rattle.octets.proofs.Bools.{cond-yes, cond-no}
 use Rattle.octets.proofs.Stores.{sets-append}
 use Rattle.refusal.specs.declared.Refusal.{Refusal}
 use Rattle.refusal.specs.Refusal.{numberOf}
-use Rattle.node.specs.declared.Told.{Told}
-use Rattle.node.specs.declared.Told.the-variants as told
+use Rattle.connections.specs.declared.Told.{Told}
+use Rattle.connections.specs.declared.Told.the-variants as told
 use Rattle.host_calls.specs.declared.Nearby.{Nearby}
 use Rattle.flat.specs.Flat.{saysYes}
 use lib.Dec.{ltb}

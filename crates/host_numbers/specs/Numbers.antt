@@ -5,8 +5,8 @@ use mathlib.Core.List.{List, [], _∷_}
 use lib.ListN.{getD}
 use Rattle.refusal.specs.Refusal.{numberOf}
 use Rattle.message.specs.declared.Fields.{Fields}
-use Rattle.node.specs.declared.Told.{Told}
-use Rattle.node.specs.declared.Told.the-variants as told
+use Rattle.connections.specs.declared.Told.{Told}
+use Rattle.connections.specs.declared.Told.the-variants as told
 use Rattle.flat.specs.Flat.{saysYes}
 
 -- ---- what a call was told

@@ -12,10 +12,10 @@ use Rattle.refusal.specs.declared.Refusal.{Refusal}
 use Rattle.refusal.specs.Refusal.{numberOf}
 use Rattle.stream.specs.declared.Framing.{Framing}
 use Rattle.stream.specs.declared.Ending.the-variants as ending
-use Rattle.node.specs.declared.Told.{Told}
-use Rattle.node.specs.declared.Told.the-variants as told
-use Rattle.node.specs.declared.Started.{Started}
-use Rattle.node.specs.declared.Ended.{Ended}
+use Rattle.connections.specs.declared.Told.{Told}
+use Rattle.connections.specs.declared.Told.the-variants as told
+use Rattle.connections.specs.declared.Started.{Started}
+use Rattle.connections.specs.declared.Ended.{Ended}
 use Rattle.flat.specs.Flat.{peerBytes, withFraming}
 use Rattle.node.specs.declared.Received.{Received}
 use Rattle.host_numbers.specs.Numbers.{toldCode, unlessRefused}

@@ -11,8 +11,8 @@ use Rattle.stream.specs.declared.Ending.{Ending}
 use Rattle.stream.specs.declared.Ending.the-variants as ending
 use Rattle.sightings.specs.declared.Sighting.{Sighting}
 use Rattle.sightings.specs.declared.Sighting.the-variants as sighting
-use Rattle.node.specs.declared.Started.{Started}
-use Rattle.node.specs.declared.Ended.{Ended}
+use Rattle.connections.specs.declared.Started.{Started}
+use Rattle.connections.specs.declared.Ended.{Ended}
 use Rattle.node.specs.declared.Answer as node
 use Rattle.node.specs.declared.Answer.the-variants as answer
 use Rattle.node.specs.declared.Sight.{Sight}
