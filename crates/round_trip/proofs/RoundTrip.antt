@@ -16,6 +16,7 @@ use Rattle.wire_put.proofs.RoundTrip.{AllGood, read-back, good-append, good-wel
 use Rattle.message.specs.Limits.{mostBody, mostKind, mostConnection}
 use Rattle.message.specs.Message.{Peer, Record, Message, recordOf, connectionOf, peerOf, messageOf, wellFormed, wellMessage, decode, peerItems, encodePeer, recordItems, encodeRecord, heldItems, messageItems, encode}
 use Rattle.pieces.specs.Writable.{peerFits, writable}
+use Rattle.round_trip.specs.Claims.{RoundTrip}
 
 -- ---- a record
 module _ (r : Record) where
@@ -239,8 +240,7 @@ fitting m e =
     let e₅ = all-rest _ _ e₄ in
     record { kind = leb-true _ _ (all-head _ _ e); body = leb-true _ _ (all-head _ _ e₅); closer = all-head _ _ e₃; providers = all-head _ _ e₄ }
 
--- every message within the limits is read back as the same
-pub round-trip : (m : Message) → writable m ≡ true → decode (encode m) ≡ some m
+pub round-trip : RoundTrip
 round-trip m e =
     let f = fitting m e in
     decode-encode m (omega (arith, f .kind)) (connected (m .closer) (f .closer)) (connected (m .providers) (f .providers)) (omega (arith, f .body))

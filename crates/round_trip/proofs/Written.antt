@@ -12,6 +12,7 @@ use Rattle.message.specs.View.{fieldsOf, readingOf, meant}
 use Rattle.pieces.specs.Writable.{writable}
 use Rattle.message.specs.declared.Reading.the-variants.{Whole}
 use Rattle.message.proofs.Meaning.{all-meant, kind-meant}
+use Rattle.round_trip.specs.Claims.{WrittenIsRead}
 use Rattle.round_trip.proofs.RoundTrip.{fitting, round-trip}
 
 module _ (m : Message) (w : writable m ≡ true) where
@@ -23,7 +24,6 @@ module _ (m : Message) (w : writable m ≡ true) where
       go true q e = (q, let z : some (messageOf (encode m)) ≡ some m = rw q at e in cc)
       go false q e = absurd (let z : none ≡ some m = rw q at e in let y : _≡_ {A = ℕ} 0 1 = cc in omega arith)
 
-  -- it is read whole
   pub read-written : readingOf (encode m) ≡ Whole (fieldsOf (encode m))
   unfolding readingOf
   read-written =
@@ -31,6 +31,8 @@ module _ (m : Message) (w : writable m ≡ true) where
       let k : fieldsOf (encode m) .kind ≤ mostKind = omega (arith, kind-meant (encode m), ap (λ (x : Message). x .kind) (both .1), f .kind) in
       rw (le-ltb mostBody (length (encode m)) (f .body), both .0, le-ltb mostKind (fieldsOf (encode m) .kind) k)
 
-  -- and the parts at those positions are the message's
   pub meant-written : meant (encode m) (fieldsOf (encode m)) ≡ m
   meant-written = all-meant (encode m) ∙ both .1
+
+pub written-is-read : WrittenIsRead
+written-is-read m w = record { whole = read-written m w; says = meant-written m w }
