@@ -113,7 +113,8 @@ impl<'a> Message<'a> {
         &self.body[span(&self.view[1..])]
     }
 
-    /// Its record, if it has one.
+    /// Its record, if it has one. A sender may give it in several fields, its key in one and its value in another: it is read as though these stood one after
+    /// another, so the last key of all counts, and the last value of all.
     pub fn record(&self) -> Option<Record<'a>> {
         (self.view[3] != 0).then(|| Record { key: &self.body[span(&self.view[4..])], value: &self.body[span(&self.view[6..])] })
     }

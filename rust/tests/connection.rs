@@ -146,6 +146,84 @@ fn the_added_entry_has_its_addresses() {
     assert_eq!((last.id(), last.addresses().collect::<Vec<_>>()), (&b"bench"[..], vec![&b"/bench"[..]]));
 }
 
+const KEY: &[u8] = b"/wind/d";
+
+/// A field of fewer than 128 bytes.
+fn field(number: u8, bytes: &[u8]) -> Vec<u8> {
+    [&[number << 3 | 2, bytes.len() as u8], bytes].concat()
+}
+
+/// A PUT_VALUE whose record comes in several fields, with its length before it.
+fn split_put(occurrences: &[&[u8]]) -> Vec<u8> {
+    let mut body = field(2, KEY);
+    occurrences.iter().for_each(|occurrence| body.extend(field(3, occurrence)));
+    [vec![body.len() as u8], body].concat()
+}
+
+/// What a box sends back to bytes that come in some pieces, how its connection ends, and the value that it then holds under the key.
+fn told<'a>(pieces: impl IntoIterator<Item = &'a [u8]>) -> (Vec<u8>, Result<(), Refusal>, Option<Vec<u8>>) {
+    let mut node = bench();
+    let mut connection = node.accept(Peer::client(b"partner", &[])).expect("a good id");
+    let mut sent = Vec::new();
+    let mut end = Ok(());
+    for piece in pieces {
+        end = end.and(node.feed(&mut connection, piece, |_, received| match received.event {
+            Event::Reply(reply) => sent.extend_from_slice(reply),
+            other => panic!("{other:?} on the serving side"),
+        }));
+    }
+    let end = end.and_then(|()| node.end(&mut connection));
+    (sent, end, node.find(KEY).expect("in form").map(<[u8]>::to_vec))
+}
+
+#[test]
+fn a_record_in_two_fields_is_stored_echoed_and_found() {
+    let value = Recipe { sequence: 4, ..Recipe::default() }.to_value().expect("a recipe");
+    let other = Recipe { sequence: 9, ..Recipe::default() }.to_value().expect("a recipe");
+    let (key_field, value_field) = (field(1, KEY), field(2, &value));
+    let puts: [&[&[u8]]; 5] = [
+        &[&key_field, &value_field],
+        &[&value_field, &key_field],
+        &[&[], &key_field, &[], &value_field, &[]],
+        &[&field(1, b"/wind/e"), &[field(2, &other), key_field.clone()].concat(), &value_field],
+        &[&[field(7, b"?"), key_field.clone()].concat(), &[field(5, b"today"), value_field.clone()].concat()],
+    ];
+    // what a box tells of the same put with its record in one field
+    let request = Draft::put_value(KEY, &value).to_vec().expect("within the limits");
+    let echo = (request.clone(), Ok(()), Some(value));
+    assert_eq!(told([&request[..]]), echo);
+    for put in puts {
+        let bytes = split_put(put);
+        assert_eq!(told(bytes.chunks(1)), echo, "{put:?} byte by byte");
+        for cut in 0..=bytes.len() {
+            assert_eq!(told([&bytes[..cut], &bytes[cut..]]), echo, "{put:?} cut at {cut}");
+        }
+        let asked = [bytes, Draft::get_value(KEY).to_vec().expect("short")].concat();
+        let (sent, end, _) = told([&asked[..]]);
+        let reply = Message::read(&sent[request.len() + 2..]).expect("a reply to GET_VALUE, with a length of two bytes");
+        assert_eq!((end, reply.record().map(|record| record.value)), (Ok(()), echo.2.as_deref()));
+    }
+}
+
+#[test]
+fn a_record_in_two_fields_is_judged_by_the_last_of_each() {
+    let value = Recipe { sequence: 4, ..Recipe::default() }.to_value().expect("a recipe");
+    let whole = [field(1, KEY), field(2, &value)].concat();
+    let puts: [(&[&[u8]], Refusal); 5] = [
+        (&[&whole, &field(1, b"")], Refusal::BreaksRules),
+        (&[&whole, &field(1, b"/wind/e")], Refusal::BreaksRules),
+        (&[&whole, &field(2, b"")], Refusal::BrokenRecipe),
+        (&[&field(1, KEY), &[]], Refusal::BrokenRecipe),
+        (&[&whole[..5], &whole[5..]], Refusal::Malformed),
+    ];
+    for (put, refusal) in puts {
+        let bytes = split_put(put);
+        for cut in 0..=bytes.len() {
+            assert_eq!(told([&bytes[..cut], &bytes[cut..]]), (vec![], Err(refusal), None), "{put:?} cut at {cut}");
+        }
+    }
+}
+
 /// Numbers that look random, the same in every run.
 fn numbers(mut seed: u64) -> impl FnMut(usize) -> usize {
     move |below| {

@@ -178,7 +178,7 @@ static Outcome library(const string &body) {
 /* ---- the model */
 
 /* The rules in which document 01 and the library differ. */
-enum Rule { GROUPS, WIDE_TAG, LONG_LENGTH, WIDE_VARINT, UTF8, MERGE, CONNECTION, TYPE, LONG_BODY, RULES };
+enum Rule { GROUPS, WIDE_TAG, LONG_LENGTH, WIDE_VARINT, UTF8, CONNECTION, TYPE, LONG_BODY, RULES };
 
 static const char *const rule_names[RULES] = {
     "a group (wire type 3)",
@@ -186,7 +186,6 @@ static const char *const rule_names[RULES] = {
     "a length of six to ten bytes",
     "a varint above 64 bits",
     "timeReceived that is not UTF-8",
-    "records merged",
     "a connection above 3",
     "a type above 5",
     "a body above 16,384 bytes",
@@ -297,7 +296,6 @@ private:
     string content(const Field &f) const { return s.substr(f.at, f.end - f.at); }
 
     bool record(const Field &whole, Said &said) const {
-        if (!by(MERGE)) said.record_key.clear(), said.value.clear();
         said.held = true;
         for (size_t at = whole.at; at < whole.end;) {
             Field f;
@@ -565,6 +563,54 @@ static string damaged(string s) {
     return s;
 }
 
+/* ---- records in several fields, of every shape: on these the two have to agree */
+
+static string plain(uint64_t number, const string &content) {
+    string s;
+    put_varint(s, number << 3 | 2, 1), put_varint(s, content.size(), 1);
+    return s + content;
+}
+
+struct Shape {
+    const char *name;
+    bool taken;
+    string body;
+};
+
+static vector<Shape> split_records() {
+    auto record = [](const string &content) { return plain(3, content); };
+    string key = plain(1, any_bytes(1 + below(20))), value = plain(2, any_bytes(1 + below(60))), number = "\x18\x07";
+    string other_key = plain(1, any_bytes(1 + below(20))), other_value = plain(2, any_bytes(1 + below(60))), unknown = plain(7, any_bytes(below(9)));
+    string peer = plain(8, plain(1, any_bytes(1 + below(20))));
+    size_t inside = 1 + below(key.size() - 1);
+    return {
+        {"key first", true, record(key) + record(value)},
+        {"value first", true, record(value) + record(key)},
+        {"three occurrences", true, record(key + value) + record(other_value) + record(other_key)},
+        {"two whole records", true, record(key + value) + record(other_key + other_value)},
+        {"empty ones", true, record("") + record(key) + record("") + record(value) + record("")},
+        {"only empty ones", true, record("") + record("")},
+        {"an empty key last", true, record(key + value) + record(plain(1, ""))},
+        {"an empty value last", true, record(key + value) + record(plain(2, ""))},
+        {"unknown fields between", true, record(key + unknown) + unknown + record(unknown + value)},
+        {"other fields between", true, record(key) + plain(2, any_bytes(below(20))) + peer + record(value)},
+        {"a number as field 3 between", true, record(key) + number + record(value)},
+        {"well formed only if joined", false, record(key.substr(0, inside)) + record(key.substr(inside) + value)},
+        {"the second malformed", false, record(key + value) + record(value.substr(0, value.size() - 1))},
+    };
+}
+
+/* How many there are; each is read, or refused, by both alike. */
+static size_t compare_split(Counts &counts) {
+    vector<Shape> shapes = split_records();
+    for (const Shape &shape : shapes) {
+        Outcome mine = compare(shape.body, counts), theirs = library(shape.body);
+        if (!(mine == theirs) || (mine.code == TAKEN) != shape.taken)
+            fail(string("a record in several fields, ") + shape.name + "\n  ours    " + told(mine) + "\n  library " + told(theirs), shape.body);
+    }
+    return shapes.size();
+}
+
 /* ---- messages written by ours */
 
 static Said to_write() {
@@ -689,20 +735,24 @@ int main(int argc, char **argv) {
     source.seed(strtoull(argv[1], nullptr, 10));
     size_t count = strtoull(argv[2], nullptr, 10), written = 0;
     google::protobuf::SetLogHandler(nullptr);
-    Counts made, wild, hurt, own, all;
+    Counts made, wild, hurt, split, own, all;
+    size_t shapes = 0;
     for (size_t i = 0; i < count; i++) {
         string a = made_by_library(), b = made_wild();
         compare(a, made);
         compare(b, wild);
         for (int k = 0; k < 3; k++) compare(damaged(a), hurt), compare(damaged(b), hurt);
+        shapes = compare_split(split);
         written += write_and_compare(to_write(), own);
     }
     report("made by the library", made);
     report("in every form of the wire format", wild);
     report("damaged", hurt);
+    report("a record in several fields", split);
+    printf("  in %zu shapes, each read or refused by both alike\n", shapes);
     report("written by ours", own);
     printf("  %zu more were over a limit, and ours refused to write them\n", count - written);
-    for (const Counts *c : {&made, &wild, &hurt, &own}) add(all, *c);
+    for (const Counts *c : {&made, &wild, &hurt, &split, &own}) add(all, *c);
     for (int r = 0; r < RULES; r++)
         if (!all.by_rule[r]) {
             printf("no body met the rule: %s\n", rule_names[r]);

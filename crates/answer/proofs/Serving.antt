@@ -50,7 +50,7 @@ module _ (s : List ℕ) (m : Fields) (e : readingOf s ≡ read.Whole m) where
   kind-is = ap (λ (f : Fields). f .kind) is ∙ kind-meant s
 
   held-is : heldMeant s (m .held) ≡ messageOf s .held
-  held-is = ap (λ (f : Fields). heldMeant s (f .held)) is ∙ held-meant s
+  held-is = ap (λ (f : Fields). heldMeant s (f .held)) is ∙ held-meant s (read-whole s m e .well)
 
   pub held-there : m .held .there ≡ true → (rkey value : List ℕ) → rkey ≡ part s (m .held .key .at) (m .held .key .end) → value ≡ part s (m .held .value .at) (m .held .value .end)
       → messageOf s .held ≡ some (recordWith rkey value)

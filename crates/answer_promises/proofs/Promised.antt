@@ -1,14 +1,14 @@
 -- The promises of the answers. Assumes nothing.
 use Prim.Native.Nat.{ℕ, _+_, _-_, _*_, _≤_}
 use mathlib.Core.Path.{_≡_, refl, sym, ap, ap₂, _∙_}
-use mathlib.Core.Bool.{true}
+use mathlib.Core.Bool.{Bool, true, false, cond, not}
 use mathlib.Core.List.{List, [], _∷_, _++_, map}
 use mathlib.Core.Option.{Option, none, some}
 use native.Mathlib.Omega.{arith}
 use lib.ListN.{length, take, length-append, length-map}
 use lib.Seq.{sets, take-all}
-use lib.Dec.{leb, eqb}
-use borrow.Author.Tests.{le-leb, leb-true}
+use lib.Dec.{leb, ltb, eqb}
+use borrow.Author.Tests.{le-leb, leb-true, le-ltb}
 use Rattle.octets.specs.Octets.{part, same}
 use Rattle.octets.specs.Search.{every}
 use Rattle.octets.proofs.Bools.{cond-ind, and-r, all-none, all-one-more}
@@ -18,6 +18,7 @@ use Rattle.place.specs.Place.{placeOf}
 use Rattle.contacts.specs.Table.{slot}
 use Rattle.contacts.specs.Near.{nearestSlots}
 use Rattle.refusal.specs.declared.Refusal.{Refusal}
+use Rattle.refusal.specs.declared.Refusal.the-variants.{Malformed, UnknownType}
 use Rattle.peer.specs.declared.Peer as peers
 use Rattle.peer.specs.Addresses.{idRoom, addressRoom, mostAddresses, keptOf}
 use Rattle.peer.specs.Peers.{idFits}
@@ -32,19 +33,21 @@ use Rattle.records_history.proofs.Stays.{offer-form}
 use Rattle.wire.specs.Items.{num, minimal, written, written1, single, repeated}
 use Rattle.wire_put.proofs.Digits.{minimal-one, minimal-three}
 use Rattle.wire_put.proofs.Putting.{number-length, single-full, bytes-short}
-use Rattle.message.specs.Limits.{mostKey, mostBody, leastReply}
-use Rattle.message.specs.Message.{Peer, Record, Message, messageOf, encodePeer, heldItems, encode, frame}
+use Rattle.message.specs.Limits.{mostKey, mostBody, mostKind, leastReply}
+use Rattle.message.specs.Message.{Peer, Record, Message, messageOf, wellMessage, decode, encodePeer, heldItems, encode, frame}
 use Rattle.pieces.specs.Writable.{peerFits, heldFits, recordWith, writable}
-use Rattle.message.specs.View.{readingOf}
+use Rattle.message.specs.View.{fieldsOf, readingOf}
 use Rattle.message.specs.declared.Reading.{Reading}
 use Rattle.message.specs.declared.Reading.the-variants as read
 use Rattle.pieces.proofs.Sizes.{message-length, held-most, entries-most}
-use Rattle.round_trip.proofs.RoundTrip.{round-trip}
+use Rattle.message.proofs.Meaning.{kind-meant}
+use Rattle.round_trip.specs.Claims.{encodeSplit}
+use Rattle.round_trip.proofs.RoundTrip.{fitting, round-trip, split-is-read}
 use Rattle.replies.specs.Replies.{putValue, getValue, findNode, ping, closerPeers, listed, lastEntry, findNodeReply, recordAt, getValueReply, putValueReply, pingReply}
 use Rattle.entries.specs.Entries.{contactEntry, peerEntry}
-use Rattle.replies.specs.Verdicts.{Verdict, replies, refuses, keyFits, keyed, echoed, putVerdict, putAfter, replied, byVerdict}
+use Rattle.replies.specs.Verdicts.{Verdict, replies, refuses, keyFits, keyed, echoed, putVerdict, putAfter, Dealt, refused, replied, byVerdict}
 use Rattle.answer.specs.Answers.{verdictOf, recordsAfter, byReading, dealOf}
-use Rattle.answer_promises.specs.Promises.{RefusedChangesNothing, ReadsBack, Roomed, RepliesReadBack, EntryIsPeer, RecordsStayInForm}
+use Rattle.answer_promises.specs.Promises.{RefusedChangesNothing, ReadsBack, Roomed, RepliesReadBack, AnsweredByFields, SplitIsAnswered, EntryIsPeer, RecordsStayInForm}
 use Rattle.replies.specs.declared.Answered.the-variants.{Reply, Refused}
 use Rattle.entries.proofs.Entries.{own-fits, id-most}
 use Rattle.replies.proofs.Runs.{entries-fit}
@@ -253,3 +256,27 @@ reading-back (read.Whole f) me who h g m t k y n l e = verdict-back (verdictOf m
 pub replies-read-back : RepliesReadBack
 unfolding dealOf
 replies-read-back me who h g body t k y l n e = reading-back (readingOf body) me who h g (messageOf body) t k y n l e
+
+-- ---- what a body says
+module _ (me who : peers.Peer) (t k y : List ℕ) where
+  byDecoding : Option Message → Dealt
+  byDecoding none = refused Malformed k y
+  byDecoding (some m) = cond (ltb mostKind (m .kind)) (refused UnknownType k y) (byVerdict (verdictOf me who m t k) k (recordsAfter m k) y)
+
+  decoded : (s : List ℕ) → length s ≤ mostBody → dealOf me who s t k y ≡ byDecoding (decode s)
+  unfolding dealOf readingOf decode byDecoding
+  decoded s l = rw (le-ltb mostBody (length s) l) (go (wellMessage s) (ltb mostKind (fieldsOf s .kind)) (ap (ltb mostKind) (sym (kind-meant s))))
+    where
+      go : (w u : Bool) → ltb mostKind (messageOf s .kind) ≡ u
+          → byReading (cond (not w) (read.Refused Malformed) (cond u (read.Refused UnknownType) (read.Whole (fieldsOf s)))) me who (messageOf s) t k y
+          ≡ byDecoding (cond w (some (messageOf s)) none)
+      go false u e = refl
+      go true false e = rw e
+      go true true e = rw e
+
+pub answered-by-fields : (me : peers.Peer) → AnsweredByFields me
+answered-by-fields me who a b la lb e t k y = decoded me who t k y a la ∙ ap (byDecoding me who t k y) e ∙ sym (decoded me who t k y b lb)
+
+pub split-is-answered : (me : peers.Peer) → SplitIsAnswered me
+split-is-answered me who m e o os w h l =
+    answered-by-fields me who (encodeSplit m (o ∷ os)) (encode m) l (fitting m e .body) (split-is-read m e o os w h l ∙ sym (round-trip m e))

@@ -40,7 +40,7 @@ use Rattle.cutting.specs.World.{Line, World, Call, given, calls, Fine, Ready, A
 use Rattle.cutting.specs.Plain.{ReadOut, plainly, unread}
 use Rattle.replies.specs.declared.Answered.the-variants as told
 use Rattle.answer.specs.Answers.{verdictOf, dealOf}
-use Rattle.answer_promises.specs.Promises.{Roomed, ReadsBack}
+use Rattle.answer_promises.specs.Promises.{Roomed, ReadsBack, SplitIsAnswered}
 use Rattle.connections.specs.declared.Conn.{Conn}
 use Rattle.node.specs.declared.Answer.the-variants.{Refused}
 use Rattle.connections.specs.declared.Told.the-variants as nodeTold
@@ -105,6 +105,8 @@ pub record Second (me : Peer) : Type 0 where
   -- a reply is the message that the plain reading of the request calls for, it reads back as that message, and bytes after it stay
   pub replies : (who : Peer) → Roomed who → (body t k y : List ℕ) → leastReply ≤ length y → (n : ℕ) → dealOf me who body t k y .told ≡ told.Reply n
       → ReadsBack (verdictOf me who (messageOf body) t k) (dealOf me who body t k y) y n
+  -- "Demand 2 reads by the merged rule" (document 02, iv): a record that comes in several record fields is answered, stored and echoed as one
+  pub split : SplitIsAnswered me
   -- "A query answers the twenty contacts nearest by XOR of SHA-256, or all when fewer, nearest first"
   pub nearest : (t key : List ℕ) → AreNearest t (placeOf key) (nearestSlots t (placeOf key))
   -- and that is the distance of SHA-256 of the ids: "memory once cleared, since then lent whole and changed by calls alone" holds each contact at its id's hash

@@ -19,12 +19,13 @@ use Rattle.wire.specs.declared.Next.the-variants.{Done, Broken as Stuck, On}
 use Rattle.wire.proofs.Scan.{at-done, at-broken, at-on}
 use Rattle.message.specs.Limits.{mostBody, mostKind}
 use Rattle.message.specs.Message.{wellMessage}
-use Rattle.message.specs.View.{noRecord, heldAt, fieldsOf, readingOf}
-use Rattle.message.specs.Inner.{wellIn, withRecord, withPeer, withBytes, withField, wellFields, finished, onto, gathered}
+use Rattle.message.specs.View.{noRecord, fieldsOf, readingOf}
+use Rattle.message.specs.Inner.{wellIn, withOccurrence, withOccurrences, withRecord, withPeer, withBytes, withField, wellFields, finished, onto, gathered}
 use Rattle.message.specs.declared.Fields.{Fields}
 use Rattle.message.specs.declared.Gathered.{Gathered}
 use Rattle.message.specs.declared.Gathered.the-variants.{Sound, Broken}
 use Rattle.message.specs.declared.Reading.the-variants.{Whole, Refused}
+use Rattle.message.proofs.Occurrences.{occurrences-held}
 use Rattle.message.proofs.Meaning.{well-body}
 
 -- ---- the parts of a turn
@@ -35,9 +36,9 @@ module _ (s t : List ℕ) (m : Fields) (p : Span) (e : t ≡ take (p .end) s) wh
     unfolding wellIn fieldsIn
     is-well = sym (q ∙ rw e)
 
-    pub record-sound : w ≡ true → (k v : Span) → k ≡ lastOf nowhere (spans 1 (fieldsAt t (p .at))) → v ≡ lastOf nowhere (spans 2 (fieldsAt t (p .at)))
+    pub record-sound : w ≡ true → (k v : Span) → k ≡ lastOf (m .held .key) (spans 1 (fieldsAt t (p .at))) → v ≡ lastOf (m .held .value) (spans 2 (fieldsAt t (p .at)))
         → Sound (record { kind = m .kind; key = m .key; held = record { there = true; key = k; value = v } }) ≡ withRecord s m p
-    unfolding withRecord heldAt fieldsIn
+    unfolding withRecord withOccurrence fieldsIn
     record-sound y k v ek ev = rw (is-well, y, ek, ev, e)
 
     pub record-broken : w ≡ false → Broken ≡ withRecord s m p
@@ -85,7 +86,7 @@ module _ (s : List ℕ) (m : Fields) (fs : List Field) where
   Step f = finished s m (f ∷ fs) ≡ onto (withField s m f) (λ q. finished s q fs)
 
   step-record : (p : Span) → Step (Bytes 3 p)
-  unfolding Step finished withField withBytes withRecord wellFields allOf well every numbers spans spanIf lastOf
+  unfolding Step finished withField withBytes withRecord withOccurrences wellFields allOf well every numbers spans spanIf lastOf
   step-record p = go (wellIn s p) refl
     where
       go : (t : Bool) → wellIn s p ≡ t → finished s m (Bytes 3 p ∷ fs) ≡ onto (withField s m (Bytes 3 p)) (λ q. finished s q fs)
@@ -136,11 +137,11 @@ nothing = record { kind = 0; key = nowhere; held = noRecord }
 
 pub gather-start : (s : List ℕ) → finished s nothing (fieldsAt s 0) ≡ gathered s
 unfolding finished gathered fieldsOf fields
-gather-start s = rw (well-body s)
+gather-start s = rw (well-body s, occurrences-held s (spans 3 (fieldsAt s 0)))
 
 module _ (s : List ℕ) (m : Fields) (at : ℕ) (g : finished s m (fieldsAt s at) ≡ gathered s) where
   pub gather-done : nextOf (fieldAt s at) ≡ Done → Sound m ≡ gathered s
-  unfolding finished wellFields allOf well every numbers spans lastOf
+  unfolding finished withOccurrences wellFields allOf well every numbers spans lastOf
   gather-done e = rw (← g, at-done s at e)
 
   pub gather-stuck : nextOf (fieldAt s at) ≡ Stuck → Broken ≡ gathered s

@@ -1,5 +1,6 @@
 pub mod Gathering
 pub mod Hearing
 pub mod Meaning
+pub mod Occurrences
 pub mod Views
 pub mod Vectors

@@ -1,39 +1,31 @@
 -- The parts at a view's positions are what the body says, and they lie inside it. Assumes nothing.
-use Prim.Native.Nat.{ℕ, _≤_}
+use Prim.Native.Nat.{ℕ, _≤_, _<_}
 use mathlib.Core.Path.{_≡_, refl, sym, ap, ap₂, _∙_}
-use mathlib.Core.List.{List, [], _∷_, map}
-use mathlib.Core.Bool.{Bool, _&&_}
-use mathlib.Core.Option.{none, some}
+use mathlib.Core.List.{List, [], _∷_, _++_, map, flatten as joined}
+use mathlib.Core.Bool.{Bool, true, _&&_}
 use native.Mathlib.Omega.{arith}
 use lib.ListN.{length}
 use Rattle.octets.specs.Octets.{part}
 use Rattle.octets.specs.Search.{every, lastOf}
+use Rattle.octets.proofs.Bools.{all-head, all-rest}
+use Rattle.octets.proofs.Searching.{last-map}
 use Rattle.wire.specs.Wire.{fields, fieldsIn, spans, nowhere}
 use Rattle.wire.specs.Items.{cut, items, parts}
 use Rattle.wire.specs.declared.Span.{Span}
 use Rattle.wire.proofs.Reach.{Inside, AllInside, spans-inside}
 use Rattle.wire.proofs.Within.{items-well, items-values, items-parts, in-well, in-values, in-parts, in-inside}
-use Rattle.message.specs.Message.{recordOf, peerOf, messageOf, wellFormed, wellMessage}
-use Rattle.message.specs.View.{noRecord, heldAt, fieldsOf, idAt, addressesAt, connectionAt, closerAt, providersAt, heldMeant, peerMeant, meant}
+use Rattle.message.specs.Message.{peerOf, merged, messageOf, wellFormed, wellMessage}
+use Rattle.message.specs.View.{allSpans, heldAt, fieldsOf, idAt, addressesAt, connectionAt, closerAt, providersAt, heldMeant, peerMeant, meant}
+use Rattle.message.specs.Claims.{Shown, AbsentIsShown}
 use Rattle.message.specs.Inner.{wellIn, wellFields}
-use Rattle.message.specs.declared.Held.{Held}
 use Rattle.message.specs.declared.Fields.{Fields}
+use Rattle.message.proofs.Occurrences.{held-key, held-value, merged-meant}
 
--- for octets
-pub last-map : {A B : Type 0} (g : A → B) (d : A) (l : List A) → g (lastOf d l) ≡ lastOf (g d) (map g l)
-unfolding lastOf
-last-map g d [] = refl
-last-map g d (x ∷ l) = last-map g x l
-
--- ---- a record, a peer
+-- ---- a peer
 
 module _ (s : List ℕ) (p : Span) (lo : ℕ) (i : Inside lo (length s) p) where
   last-part : (f : ℕ) → cut s (lastOf nowhere (spans f (fieldsIn s p))) ≡ lastOf [] (parts f (items (cut s p)))
   last-part f = last-map (cut s) nowhere (spans f (fieldsIn s p)) ∙ ap (lastOf []) (in-parts s p (i .ordered) (i .ends) f)
-
-  pub record-meant : heldMeant s (heldAt s p) ≡ some (recordOf (cut s p))
-  unfolding heldMeant heldAt recordOf
-  record-meant = rw (last-part 1, last-part 2)
 
   pub peer-meant : peerMeant s p ≡ peerOf (cut s p)
   unfolding peerMeant peerOf idAt addressesAt connectionAt
@@ -43,14 +35,9 @@ module _ (s : List ℕ) (p : Span) (lo : ℕ) (i : Inside lo (length s) p) where
   unfolding wellIn wellFormed
   well-meant = in-well s p (i .ordered) (i .ends)
 
--- ---- lists of them
+-- ---- lists of peers, and of what has to be well formed
 
 module _ (s : List ℕ) (lo : ℕ) where
-  pub records-meant : (ps : List Span) → AllInside lo (length s) ps
-      → map (heldMeant s) (map (heldAt s) ps) ≡ map (λ (b : List ℕ). some (recordOf b)) (map (cut s) ps)
-  records-meant [] a = refl
-  records-meant (p ∷ ps) a = rw (record-meant s p lo (a .0), records-meant ps (a .1))
-
   pub peers-meant : (ps : List Span) → AllInside lo (length s) ps → map (peerMeant s) ps ≡ map peerOf (map (cut s) ps)
   peers-meant [] a = refl
   peers-meant (p ∷ ps) a = rw (peer-meant s p lo (a .0), peers-meant ps (a .1))
@@ -80,11 +67,11 @@ module _ (s : List ℕ) where
   unfolding fieldsOf messageOf
   kind-meant = ap (lastOf 0) (sym (items-values s 1))
 
-  pub held-meant : heldMeant s (fieldsOf s .held) ≡ messageOf s .held
-  unfolding fieldsOf messageOf heldMeant
-  held-meant =
-      last-map (heldMeant s) noRecord (map (heldAt s) (spans 3 (fields s)))
-      ∙ ap (lastOf none) (records-meant s 0 (spans 3 (fields s)) (inside 3) ∙ ap (map (λ (b : List ℕ). some (recordOf b))) (sym (items-parts s 3)))
+  pub held-meant : wellMessage s ≡ true → heldMeant s (fieldsOf s .held) ≡ messageOf s .held
+  unfolding fieldsOf messageOf wellMessage
+  held-meant w =
+      let e : every wellFormed (map (cut s) (spans 3 (fields s))) ≡ true = rw (items-parts s 3) at (all-head _ _ (all-rest _ _ w)) in
+      merged-meant s 0 (spans 3 (fields s)) (inside 3) e ∙ ap merged (sym (items-parts s 3))
 
   pub closer-meant : map (peerMeant s) (closerAt s) ≡ messageOf s .closer
   unfolding closerAt messageOf
@@ -95,9 +82,9 @@ module _ (s : List ℕ) where
   providers-meant = peers-meant s 0 (spans 9 (fields s)) (inside 9) ∙ ap (map peerOf) (sym (items-parts s 9))
 
   -- the parts at the positions are what the body says
-  pub all-meant : meant s (fieldsOf s) ≡ messageOf s
+  pub all-meant : wellMessage s ≡ true → meant s (fieldsOf s) ≡ messageOf s
   unfolding meant
-  all-meant = rw (kind-meant, key-meant, held-meant, closer-meant, providers-meant)
+  all-meant w = rw (kind-meant, key-meant, held-meant w, closer-meant, providers-meant)
 
 -- ---- positions inside the body
 
@@ -114,41 +101,60 @@ last-cuttable lo hi d (p ∷ ps) c a = last-cuttable lo hi p ps (record { ordere
 pub nowhere-cuttable : (hi : ℕ) → Cuttable hi nowhere
 nowhere-cuttable hi = record { ordered = omega arith; ends = omega arith }
 
+last-past : (lo hi : ℕ) (d : Span) (ps : List Span) → 0 < d .at → AllInside lo hi ps → 0 < lastOf d ps .at
+unfolding lastOf
+last-past lo hi d [] h a = h
+last-past lo hi d (p ∷ ps) h a = last-past lo hi p ps (omega (arith, a .0 .starts)) (a .1)
+
+last-shown : (lo hi : ℕ) (ps : List Span) → AllInside lo hi ps → Shown (lastOf nowhere ps) ps
+unfolding lastOf
+last-shown lo hi [] a = refl
+last-shown lo hi (p ∷ ps) a = last-past lo hi p ps (omega (arith, a .0 .starts)) (a .1)
+
 -- the key's part, and the record's
 pub record FieldsIn (hi : ℕ) (m : Fields) : Type 0 where
   pub key : Cuttable hi (m .key)
   pub record-key : Cuttable hi (m .held .key)
   pub record-value : Cuttable hi (m .held .value)
 
-record HeldIn (hi : ℕ) (h : Held) : Type 0 where
-  pub key : Cuttable hi (h .key)
-  pub value : Cuttable hi (h .value)
-
 module _ (s : List ℕ) where
-  held-in : (p : Span) → Inside 0 (length s) p → HeldIn (length s) (heldAt s p)
-  unfolding heldAt
-  held-in p i =
-      record {
-        key = last-cuttable (p .at) (length s) nowhere (spans 1 (fieldsIn s p)) (nowhere-cuttable (length s)) (in-inside s p (i .ordered) (i .ends) 1);
-        value = last-cuttable (p .at) (length s) nowhere (spans 2 (fieldsIn s p)) (nowhere-cuttable (length s)) (in-inside s p (i .ordered) (i .ends) 2);
-      }
+  append-inside : (l m : List Span) → AllInside 0 (length s) l → AllInside 0 (length s) m → AllInside 0 (length s) (l ++ m)
+  append-inside [] m a b = b
+  append-inside (p ∷ l) m a b = (a .0, append-inside l m (a .1) b)
 
-  last-held : (h : Held) (ps : List Span) → HeldIn (length s) h → AllInside 0 (length s) ps → HeldIn (length s) (lastOf h (map (heldAt s) ps))
-  unfolding lastOf
-  last-held h [] i a = i
-  last-held h (p ∷ ps) i a = last-held (heldAt s p) ps (held-in p (a .0)) (a .1)
+  from-start : (lo : ℕ) (l : List Span) → AllInside lo (length s) l → AllInside 0 (length s) l
+  from-start lo [] a = tt
+  from-start lo (p ∷ l) a = (record { starts = omega (arith, a .0 .starts); ordered = a .0 .ordered; ends = a .0 .ends }, from-start lo l (a .1))
+
+  -- the fields of all occurrences of the record
+  all-inside : (f : ℕ) (ps : List Span) → AllInside 0 (length s) ps → AllInside 0 (length s) (allSpans s f ps)
+  unfolding allSpans joined
+  all-inside f [] a = tt
+  all-inside f (p ∷ ps) a = append-inside (spans f (fieldsIn s p)) (allSpans s f ps) (from-start (p .at) (spans f (fieldsIn s p)) (in-inside s p (a .0 .ordered) (a .0 .ends) f)) (all-inside f ps (a .1))
+
+  inner : (f : ℕ) → AllInside 0 (length s) (allSpans s f (spans 3 (fields s)))
+  inner f = all-inside f (spans 3 (fields s)) (inside s 3)
+
+  last-inside : (ps : List Span) → AllInside 0 (length s) ps → Cuttable (length s) (lastOf nowhere ps)
+  last-inside ps a = last-cuttable 0 (length s) nowhere ps (nowhere-cuttable (length s)) a
 
   pub fields-inside : FieldsIn (length s) (fieldsOf s)
   unfolding fieldsOf
-  fields-inside =
-      let h = last-held noRecord (spans 3 (fields s)) (record { key = nowhere-cuttable (length s); value = nowhere-cuttable (length s) }) (inside s 3) in
-      record {
-        key = last-cuttable 0 (length s) nowhere (spans 2 (fields s)) (nowhere-cuttable (length s)) (inside s 2);
-        record-key = h .key;
-        record-value = h .value;
-      }
+  fields-inside = record {
+    key = last-inside (spans 2 (fields s)) (inside s 2);
+    record-key = rw (held-key s (spans 3 (fields s))) (last-inside (allSpans s 1 (spans 3 (fields s))) (inner 1));
+    record-value = rw (held-value s (spans 3 (fields s))) (last-inside (allSpans s 2 (spans 3 (fields s))) (inner 2));
+  }
 
   -- the id of a peer
   pub id-inside : (p : Span) → Cuttable (length s) p → Cuttable (length s) (idAt s p)
   unfolding idAt
   id-inside p i = last-cuttable (p .at) (length s) nowhere (spans 1 (fieldsIn s p)) (nowhere-cuttable (length s)) (in-inside s p (i .ordered) (i .ends) 1)
+
+pub absent-is-shown : AbsentIsShown
+unfolding fieldsOf
+absent-is-shown s = record {
+  key = last-shown 0 (length s) (spans 2 (fields s)) (inside s 2);
+  record-key = rw (held-key s (spans 3 (fields s))) (last-shown 0 (length s) (allSpans s 1 (spans 3 (fields s))) (inner s 1));
+  record-value = rw (held-value s (spans 3 (fields s))) (last-shown 0 (length s) (allSpans s 2 (spans 3 (fields s))) (inner s 2));
+}

@@ -50,6 +50,7 @@ module _ (s : List ℕ) where
   -- a message that is read: its parts are at those positions, its type is known
   pub record Read (m : Fields) : Type 0 where
     pub short : length s ≤ mostBody
+    pub well : wellMessage s ≡ true
     pub known : m .kind ≤ mostKind
     pub is : m ≡ fieldsOf s
     pub says : decode s ≡ some (meant s m)
@@ -57,7 +58,7 @@ module _ (s : List ℕ) where
 
   decoded : wellMessage s ≡ true → decode s ≡ some (meant s (fieldsOf s))
   unfolding decode
-  decoded w = rw (w, all-meant s)
+  decoded w = rw (w, all-meant s w)
 
   pub read-whole : (m : Fields) → readingOf s ≡ Whole m → Read m
   read-whole m e = go (readingOf s) e (answers s)
@@ -68,7 +69,7 @@ module _ (s : List ℕ) where
       go r q (unknown e h w k) = absurd (let z : _≡_ {A = ℕ} 0 1 = cc in omega arith)
       go r q (whole e h w k) =
           let p : fieldsOf s ≡ m = cc in
-          subst Read p (record { short = h; known = k; is = refl; says = decoded w; lies = fields-inside s })
+          subst Read p (record { short = h; well = w; known = k; is = refl; says = decoded w; lies = fields-inside s })
 
   -- 5 is given exactly for what is malformed, among bodies that aren't too long
   pub read-malformed : readingOf s ≡ Refused Malformed → decode s ≡ none

@@ -1,7 +1,7 @@
 -- What only the proofs need: a message half read.
 use Prim.Native.Nat.{ℕ}
-use mathlib.Core.List.{List, [], _∷_, map}
-use mathlib.Core.Bool.{Bool, cond}
+use mathlib.Core.List.{List, [], _∷_}
+use mathlib.Core.Bool.{Bool, true, cond}
 use lib.Dec.{eqb}
 use Rattle.octets.specs.Search.{every, allOf, lastOf}
 use Rattle.wire.specs.Wire.{fields, fieldsIn, well, numbers, spans}
@@ -9,7 +9,8 @@ use Rattle.wire.specs.declared.Span.{Span}
 use Rattle.wire.specs.declared.Field.{Field}
 use Rattle.wire.specs.declared.Field.the-variants.{End, Bad, Number, Bytes, Other}
 use Rattle.message.specs.Message.{wellMessage}
-use Rattle.message.specs.View.{heldAt, fieldsOf}
+use Rattle.message.specs.View.{fieldsOf}
+use Rattle.message.specs.declared.Held.{Held}
 use Rattle.message.specs.declared.Fields.{Fields}
 use Rattle.message.specs.declared.Gathered.{Gathered}
 use Rattle.message.specs.declared.Gathered.the-variants.{Sound, Broken}
@@ -17,9 +18,18 @@ use Rattle.message.specs.declared.Gathered.the-variants.{Sound, Broken}
 unfoldable pub wellIn : List ℕ → Span → Bool
 wellIn s p = well (fieldsIn s p)
 
--- what m becomes by a record, a peer, a bytes field, any field
+-- what a record becomes by one occurrence more: its last key and its last value, where it has one, take the place of those before
+unfoldable pub withOccurrence : List ℕ → Held → Span → Held
+withOccurrence s h p = record { there = true; key = lastOf (h .key) (spans 1 (fieldsIn s p)); value = lastOf (h .value) (spans 2 (fieldsIn s p)) }
+
+-- and by several
+unfoldable pub withOccurrences : List ℕ → Held → List Span → Held
+withOccurrences s h [] = h
+withOccurrences s h (p ∷ ps) = withOccurrences s (withOccurrence s h p) ps
+
+-- what m becomes by an occurrence of its record, a peer, a bytes field, any field
 unfoldable pub withRecord : List ℕ → Fields → Span → Gathered
-withRecord s m p = cond (wellIn s p) (Sound (record { kind = m .kind; key = m .key; held = heldAt s p })) Broken
+withRecord s m p = cond (wellIn s p) (Sound (record { kind = m .kind; key = m .key; held = withOccurrence s (m .held) p })) Broken
 
 unfoldable pub withPeer : List ℕ → Fields → Span → Gathered
 withPeer s m p = cond (wellIn s p) (Sound m) Broken
@@ -50,7 +60,7 @@ finished s m fs =
     (Sound (record {
       kind = lastOf (m .kind) (numbers 1 fs);
       key = lastOf (m .key) (spans 2 fs);
-      held = lastOf (m .held) (map (heldAt s) (spans 3 fs));
+      held = withOccurrences s (m .held) (spans 3 fs);
     }))
     Broken
 

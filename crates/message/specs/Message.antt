@@ -1,6 +1,6 @@
--- What a message says, and how it is written: document 01, 'Message bytes'.
+-- What a message says, and how it is written: document 01, 'Message bytes', and of records document 02, (iv).
 use Prim.Native.Nat.{ℕ}
-use mathlib.Core.List.{List, [], _∷_, _++_, map}
+use mathlib.Core.List.{List, [], _∷_, _++_, map, flatten as joined}
 use mathlib.Core.Bool.{Bool, cond}
 use mathlib.Core.Option.{Option, none, some}
 use lib.ListN.{length}
@@ -45,13 +45,17 @@ peerOf s =
       connection = connectionOf (lastOf 0 (values 3 (items s)));
     }
 
--- "for a record, the last whole record"
+-- "read the record as though all its occurrences stood one after another" (document 02, iv); one, even an empty one, makes it present
+unfoldable pub merged : List (List ℕ) → Option Record
+merged [] = none
+merged (b ∷ bs) = some (recordOf (joined (b ∷ bs)))
+
 unfoldable pub messageOf : List ℕ → Message
 messageOf s =
     record {
       kind = lastOf 0 (values 1 (items s));
       key = lastOf [] (parts 2 (items s));
-      held = lastOf none (map (λ (b : List ℕ). some (recordOf b)) (parts 3 (items s)));
+      held = merged (parts 3 (items s));
       closer = map peerOf (parts 8 (items s));
       providers = map peerOf (parts 9 (items s));
     }
@@ -60,7 +64,7 @@ messageOf s =
 unfoldable pub wellFormed : List ℕ → Bool
 wellFormed s = every isField (items s)
 
--- "every record and peer inside must be well formed too"
+-- "every record and peer inside must be well formed too"; of a record "each occurrence must still be well formed by itself"
 unfoldable pub wellMessage : List ℕ → Bool
 wellMessage s =
     allOf

@@ -1,6 +1,6 @@
 -- A read message as a view: where its parts are in the body. Document 01: "it points into the receive buffer, and each bytes field is that part of it".
 use Prim.Native.Nat.{ℕ}
-use mathlib.Core.List.{List, [], _∷_, map}
+use mathlib.Core.List.{List, [], _∷_, map, flatten as joined}
 use mathlib.Core.Bool.{Bool, true, false, cond, not}
 use mathlib.Core.Option.{Option, none, some}
 use lib.ListN.{length, take, replicate}
@@ -24,16 +24,21 @@ use Rattle.message.specs.declared.Ids.{Ids}
 abbrev pub noRecord : Held
 noRecord = record { there = false; key = nowhere; value = nowhere }
 
--- the record whose bytes are at a span
-unfoldable pub heldAt : List ℕ → Span → Held
-heldAt s p = record { there = true; key = lastOf nowhere (spans 1 (fieldsIn s p)); value = lastOf nowhere (spans 2 (fieldsIn s p)) }
+-- where the bytes fields f are of all the parts of s at some spans: those of the first part, then those of the next
+unfoldable pub allSpans : List ℕ → ℕ → List Span → List Span
+allSpans s f ps = joined (map (λ (p : Span). spans f (fieldsIn s p)) ps)
+
+-- the record whose occurrences are at some spans: the last key and the last value of all of them, which may be in different ones
+unfoldable pub heldAt : List ℕ → List Span → Held
+heldAt s [] = noRecord
+heldAt s (p ∷ ps) = record { there = true; key = lastOf nowhere (allSpans s 1 (p ∷ ps)); value = lastOf nowhere (allSpans s 2 (p ∷ ps)) }
 
 unfoldable pub fieldsOf : List ℕ → Fields
 fieldsOf s =
     record {
       kind = lastOf 0 (numbers 1 (fields s));
       key = lastOf nowhere (spans 2 (fields s));
-      held = lastOf noRecord (map (heldAt s) (spans 3 (fields s)));
+      held = heldAt s (spans 3 (fields s));
     }
 
 -- the reader: 4, then 5, then 6

@@ -91,7 +91,7 @@ fn front(s: &[u8], end: usize) -> &[u8]
     &s[..end]
 }
 
-// The record at a span takes the place of any before it.
+// The occurrence of the record at a span: its key and its value, where it has one, take the place of those before.
 fn with_record(s: &[u8], m: Fields, p: Span) -> Gathered
     ensures { λ r. ⌜ r ≡ withRecord (now (s .entry)) m p ⌝ }
 {
@@ -99,8 +99,9 @@ fn with_record(s: &[u8], m: Fields, p: Span) -> Gathered
     let part = front(s, p.end);
     if wire::well_formed(part, at) {
         let k = m.key;
-        let key = wire::last_bytes(part, at, RECORD_KEY);
-        let value = wire::last_bytes(part, at, RECORD_VALUE);
+        let h = m.held;
+        let key = wire::last_bytes(part, at, RECORD_KEY, h.key);
+        let value = wire::last_bytes(part, at, RECORD_VALUE, h.value);
         return Gathered::Sound(Fields {
             kind: m.kind,
             key: k,
@@ -238,7 +239,7 @@ pub fn peer_id(body: &[u8], peer: Span) -> Span
     ensures { λ r. ⌜ r ≡ idAt (now (body .entry)) peer ⌝ }
 {
     let at = peer.at;
-    wire::last_bytes(front(body, peer.end), at, PEER_ID)
+    wire::last_bytes(front(body, peer.end), at, PEER_ID, Span { at: 0, end: 0 })
 }
 
 // The first address of a peer from a position on: from its start, and then from each end, these are all of them.

@@ -318,7 +318,7 @@ fn last_of_several() {
         &[0x08, 4, 0x08, 5, 0x12, 1, b'A', 0x12, 1, b'B'],
     );
     read(
-        b"the last whole record",
+        b"a record in two fields",
         &[
             0x1A,
             4,

@@ -1,15 +1,15 @@
--- Laws of `all`, `some`, `first`, `largest` and `every`. Assumes nothing.
+-- Laws of `all`, `some`, `first`, `largest`, `every` and `lastOf`. Assumes nothing.
 use Prim.Native.Nat.{ℕ, zero, suc, _+_, _<_, _≤_, max}
 use mathlib.Core.Path.{_≡_, refl, sym, _∙_, subst}
 use mathlib.Core.Logic.{_⊎_, inl, inr, ⊎-elim}
 use mathlib.Core.Bool.{Bool, true, false, cond}
-use mathlib.Core.List.{List, [], _∷_, _++_}
+use mathlib.Core.List.{List, [], _∷_, _++_, map}
 use native.Mathlib.Nat.{eq-or-lt-of-le, le-of-suc-le-suc, not-suc-le-zero, lt-suc-self}
 use native.Mathlib.Numerals.{add-one}
 use native.Mathlib.Omega.{arith}
 use lib.Dec.{ltb, T}
 use borrow.Author.Tests.{lt-ltb, le-ltb, ltb-true, ltb-false}
-use Rattle.octets.specs.Search.{all, some, first, count, largest, every}
+use Rattle.octets.specs.Search.{all, some, first, count, largest, every, lastOf}
 use Rattle.octets.proofs.Bools.{and-l, and-r, and-i, or-e, or-l, or-r, not-both, to-false, either}
 
 module _ (p : ℕ → Bool) where
@@ -223,3 +223,14 @@ module _ {A : Type 0} (p : A → Bool) where
   pub every-append : (l m : List A) → every p l ≡ true → every p m ≡ true → every p (l ++ m) ≡ true
   every-append [] m h g = g
   every-append (x ∷ l) m h g = every-cons x (l ++ m) (every-head x l h) (every-append l m (every-tail x l h) g)
+
+-- ---- lastOf
+pub last-map : {A B : Type 0} (g : A → B) (d : A) (l : List A) → g (lastOf d l) ≡ lastOf (g d) (map g l)
+unfolding lastOf
+last-map g d [] = refl
+last-map g d (x ∷ l) = last-map g x l
+
+pub last-append : {A : Type 0} (d : A) (l m : List A) → lastOf d (l ++ m) ≡ lastOf (lastOf d l) m
+unfolding lastOf
+last-append d [] m = refl
+last-append d (x ∷ l) m = last-append x l m

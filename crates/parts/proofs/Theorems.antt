@@ -64,8 +64,8 @@ module _ (s : List ℕ) (v : Fields) (h : isView s v ≡ true) where
       record {
         kind = ap (λ (b : Bool). numberIf b (v .kind)) h ∙ ap Is (ap (λ (m : Fields). m .kind) (w .is) ∙ kind-meant s);
         key = ap (λ (b : Bool). bytesIf b s (v .key)) h ∙ ap (λ (m : Fields). cut s (m .key)) (w .is) ∙ key-meant s;
-        bare = λ e. sym (held-meant s) ∙ ap (λ (m : Fields). heldMeant s (m .held)) (sym (w .is)) ∙ held-bare e;
-        held = λ e. sym (held-meant s) ∙ ap (λ (m : Fields). heldMeant s (m .held)) (sym (w .is)) ∙ held-there e;
+        bare = λ e. sym (held-meant s (w .well)) ∙ ap (λ (m : Fields). heldMeant s (m .held)) (sym (w .is)) ∙ held-bare e;
+        held = λ e. sym (held-meant s (w .well)) ∙ ap (λ (m : Fields). heldMeant s (m .held)) (sym (w .is)) ∙ held-there e;
         closer = walk-same (suc (length s)) _ _ (λ n. found-viewed (firstOf (spans 8 (fieldsAt s n)))) 0 ∙ closer-walked s;
         providers = walk-same (suc (length s)) _ _ (λ n. found-viewed (firstOf (spans 9 (fieldsAt s n)))) 0 ∙ providers-walked s;
         id = λ p. ap (λ (b : Bool). partIf b (idAt s p)) h;

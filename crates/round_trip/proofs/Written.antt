@@ -32,7 +32,7 @@ module _ (m : Message) (w : writable m ≡ true) where
       rw (le-ltb mostBody (length (encode m)) (f .body), both .0, le-ltb mostKind (fieldsOf (encode m) .kind) k)
 
   pub meant-written : meant (encode m) (fieldsOf (encode m)) ≡ m
-  meant-written = all-meant (encode m) ∙ both .1
+  meant-written = all-meant (encode m) (both .0) ∙ both .1
 
 pub written-is-read : WrittenIsRead
 written-is-read m w = record { whole = read-written m w; says = meant-written m w }

@@ -1,4 +1,5 @@
-// Reads some of document 01's messages through their views, and writes a line for each: type, key and record's value. Then a view with other positions.
+// Reads some of document 01's messages through their views, and writes a line for each: type, key and record's value. Then a view with other positions, and records
+// in two fields.
 use message::Fields;
 use parts::Entry;
 use parts::Number;
@@ -100,6 +101,9 @@ fn main() {
         b'l',
     ];
     let reply = [0x08, 4, 0x42, 3, 0x0A, 1, b'p', 0x4A, 3, 0x0A, 1, b'q'];
+    let split = [0x1A, 3, 0x0A, 1, b'A', 0x1A, 3, 0x12, 1, b'B'];
+    let emptied = [0x1A, 3, 0x0A, 1, b'A', 0x1A, 2, 0x0A, 0];
+    let halves = [0x1A, 1, 0x0A, 0x1A, 2, 1, b'A'];
     tell(b"PING", &[0x08, 5]);
     tell(b"FIND_NODE", &ask);
     tell(b"PUT_VALUE", &put);
@@ -112,5 +116,16 @@ fn main() {
         b"a reply at another's positions",
         &reply,
         parts::positions(&ask),
+    );
+    tell_at(b"a record in two fields", &split, parts::positions(&split));
+    tell_at(
+        b"a later key that is empty",
+        &emptied,
+        parts::positions(&emptied),
+    );
+    tell_at(
+        b"well formed only if joined",
+        &halves,
+        parts::positions(&halves),
     );
 }

@@ -3,3 +3,4 @@ pub mod Reading
 pub mod Reach
 pub mod Scan
 pub mod Within
+pub mod Joined

@@ -7,7 +7,7 @@ use native.Mathlib.Omega.{arith}
 use lib.ListN.{length}
 use lib.Dec.{eqb}
 use Rattle.octets.specs.Search.{every, lastOf}
-use Rattle.wire.specs.Wire.{fieldAt, nextOf, more, fieldsFrom, fieldsAt, fine, well, numbers, spanIf, spans, nowhere, firstOf, walk}
+use Rattle.wire.specs.Wire.{fieldAt, nextOf, more, fieldsFrom, fieldsAt, fine, well, numbers, spanIf, spans, firstOf, walk}
 use Rattle.wire.specs.declared.Span.{Span}
 use Rattle.wire.specs.declared.Field.{Field}
 use Rattle.wire.specs.declared.Field.the-variants.{End, Bad as Malformed, Number, Bytes, Other}
@@ -176,12 +176,12 @@ module _ (s : List ℕ) (f : ℕ) where
   walk-inside at p q = subst (AllInside at (length s)) (walk-at at p q) (spans-inside f s at) .0
 
   -- the last one, as a loop over the walk finds it
-  module _ (from at : ℕ) (last : Span) (g : lastOf last (spans f (fieldsAt s at)) ≡ lastOf nowhere (spans f (fieldsAt s from))) where
-    pub last-on : (p : Span) → firstOf (spans f (fieldsAt s at)) ≡ At p → lastOf p (spans f (fieldsAt s (p .end))) ≡ lastOf nowhere (spans f (fieldsAt s from))
+  module _ (from at : ℕ) (other last : Span) (g : lastOf last (spans f (fieldsAt s at)) ≡ lastOf other (spans f (fieldsAt s from))) where
+    pub last-on : (p : Span) → firstOf (spans f (fieldsAt s at)) ≡ At p → lastOf p (spans f (fieldsAt s (p .end))) ≡ lastOf other (spans f (fieldsAt s from))
     unfolding lastOf
     last-on p q = rw (walk-at at p q) at g
 
-    pub last-done : firstOf (spans f (fieldsAt s at)) ≡ Nothing → last ≡ lastOf nowhere (spans f (fieldsAt s from))
+    pub last-done : firstOf (spans f (fieldsAt s at)) ≡ Nothing → last ≡ lastOf other (spans f (fieldsAt s from))
     unfolding lastOf
     last-done q = rw (walk-none at q) at g
 

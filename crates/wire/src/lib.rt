@@ -3,7 +3,7 @@ ghost use mathlib.Core.Path.{_≡_};
 ghost use mathlib.Core.List.{[], _∷_};
 ghost use Prim.Native.Nat.{_^_, _<_};
 ghost use Rattle.octets.specs.Search.{lastOf};
-ghost use Rattle.wire.specs.Wire.{varintAt, endAt, fixedAt, numberAt, bytesAt, contentAt, fieldAt, nextOf, fieldsAt, well, numbers, spanIf, spans, nowhere, firstOf};
+ghost use Rattle.wire.specs.Wire.{varintAt, endAt, fixedAt, numberAt, bytesAt, contentAt, fieldAt, nextOf, fieldsAt, well, numbers, spanIf, spans, firstOf};
 ghost use Rattle.wire.specs.Inner.{tenthAt};
 
 // A part of a slice: where it starts, and where it ends.
@@ -242,11 +242,11 @@ pub fn next_bytes(s: &[u8], from: usize, number: u64) -> Found
     }
 }
 
-// The last bytes field of a number from a position on.
-pub fn last_bytes(s: &[u8], from: usize, number: u64) -> Span
-    ensures { λ r. ⌜ r ≡ lastOf nowhere (spans number (fieldsAt (now (s .entry)) from)) ⌝ }
+// The last bytes field of a number from a position on, or another part where there is none.
+pub fn last_bytes(s: &[u8], from: usize, number: u64, other: Span) -> Span
+    ensures { λ r. ⌜ r ≡ lastOf other (spans number (fieldsAt (now (s .entry)) from)) ⌝ }
 {
-    let mut last = Span { at: 0, end: 0 };
+    let mut last = other;
     let mut at = from;
     loop {
         match next_bytes(s, at, number) {

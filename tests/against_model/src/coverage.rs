@@ -7,6 +7,7 @@ use starterbell_model::contacts;
 use starterbell_model::node::Side;
 use starterbell_model::records;
 use starterbell_model::steps::Step;
+use starterbell_model::wire::{fields, spans, Span};
 use std::collections::BTreeMap;
 
 /// Each entry point, with the numbers that document 01 and the comments of crates/host allow it; `receive` by the connection's side.
@@ -33,7 +34,7 @@ const REACHABLE: [(&str, &[u32]); 19] = [
 ];
 
 /// Beside the numbers: what a long run has to meet too.
-const MET: [&str; 25] = [
+const MET: [&str; 27] = [
     "receive: the sender moved",
     "receive: the sender joined",
     "receive: the sender's bucket is full",
@@ -57,6 +58,8 @@ const MET: [&str; 25] = [
     "records: 256 slots or more",
     "put: a value of 2,048 bytes is taken",
     "write: a body of 16,300 bytes or more",
+    "read: a record's key and value from two fields",
+    "read: 5 for a record that is well formed only if joined",
     "out: too short for the numbers",
     "contacts: no slot at all",
 ];
@@ -127,8 +130,24 @@ impl Coverage {
             Step::Seen { .. } if answer.code >= 64 && contacts::slots(&world.contacts) == 5_120 => self.meet("contacts: 5,120 slots or more"),
             Step::Put { value, .. } if answer.code == 64 && value.len() == 2_048 => self.meet("put: a value of 2,048 bytes is taken"),
             Step::Put { .. } if answer.code != 0 && records::slots(&world.records) == 256 => self.meet("records: 256 slots or more"),
+            Step::Read { body } => self.note_read(body, answer),
             Step::Write { .. } if answer.code == 64 && answer.numbers[0] >= 16_300 => self.meet("write: a body of 16,300 bytes or more"),
             _ => {}
+        }
+    }
+
+    fn note_read(&mut self, body: &[u8], answer: &Answer) {
+        let whole = |bytes: &[u8]| fields(bytes, Span { at: 0, len: bytes.len() });
+        let occurrences = whole(body).map(|outer| spans(&outer, 3)).unwrap_or_default();
+        if answer.code == 64 {
+            let holder = |at: u64| occurrences.iter().position(|o| o.at <= at as usize && at as usize <= o.end());
+            if matches!((holder(answer.numbers[4]), holder(answer.numbers[6])), (Some(key), Some(value)) if key != value) {
+                self.meet("read: a record's key and value from two fields");
+            }
+        }
+        let joined = occurrences.iter().flat_map(|o| o.of(body)).copied().collect::<Vec<u8>>();
+        if answer.code == 5 && whole(&joined).is_some() && occurrences.iter().any(|o| fields(body, *o).is_none()) {
+            self.meet("read: 5 for a record that is well formed only if joined");
         }
     }
 

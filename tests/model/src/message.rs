@@ -65,8 +65,12 @@ fn last_number(fields: &[Field], number: u64) -> u64 {
     numbers(fields, number).last().copied().unwrap_or(0)
 }
 
-fn record_view(body: &[u8], whole: Span) -> Option<RecordView> {
-    let inside = fields(body, whole)?;
+/// "Read the record as though all its occurrences stood one after another. [..] Each occurrence must still be well formed by itself, else 5."
+fn record_view(body: &[u8], occurrences: &[Span]) -> Option<RecordView> {
+    let mut inside = Vec::new();
+    for occurrence in occurrences {
+        inside.extend(fields(body, *occurrence)?);
+    }
     Some(RecordView { key: last_span(&inside, 1), value: last_span(&inside, 2) })
 }
 
@@ -87,9 +91,10 @@ struct Parsed {
 fn parse(body: &[u8]) -> Option<Parsed> {
     let outer = fields(body, Span { at: 0, len: body.len() })?;
     let all_peers = |number| spans(&outer, number).into_iter().map(|entry| peer_view(body, entry)).collect::<Option<Vec<_>>>();
-    let records = spans(&outer, 3).into_iter().map(|whole| record_view(body, whole)).collect::<Option<Vec<_>>>()?;
+    let occurrences = spans(&outer, 3);
+    let merged = record_view(body, &occurrences)?;
     Some(Parsed {
-        view: View { kind: last_number(&outer, 1), key: last_span(&outer, 2), record: records.last().copied() },
+        view: View { kind: last_number(&outer, 1), key: last_span(&outer, 2), record: (!occurrences.is_empty()).then_some(merged) },
         closer: all_peers(8)?,
         providers: all_peers(9)?,
     })

@@ -94,6 +94,32 @@ fn any_bytes_are_read_or_refused() {
     assert!(seen[0] > 5_000 && seen[1] > 3_000 && seen[2] > 50 && seen[3] > 50, "{seen:?}");
 }
 
+/// Document 02 (iv): a record's key and value, by position, from all its occurrences.
+#[test]
+fn split_records() {
+    let at = |at, len| Span { at, len };
+    let absent = Span::default();
+    let record = |body: &[u8]| read(body).map(|view| view.record.map(|r| (r.key, r.value)));
+    let first = [0x1a, 3, 0x0a, 1, b'A'];
+    let cases: [(&[u8], (Span, Span)); 9] = [
+        (&[0x1a, 3, 0x12, 1, b'B'], (at(4, 1), at(9, 1))),
+        (&[0x1a, 0], (at(4, 1), absent)),
+        (&[0x1a, 2, 0x0a, 0], (at(9, 0), absent)),
+        (&[0x1a, 2, 0x12, 0], (at(4, 1), at(9, 0))),
+        (&[0x1a, 6, 0x12, 1, b'B', 0x0a, 1, b'C'], (at(12, 1), at(9, 1))),
+        (&[0x1a, 0, 0x1a, 3, 0x12, 1, b'B'], (at(4, 1), at(11, 1))),
+        (&[0x1a, 3, 0x12, 1, b'B', 0x1a, 3, 0x0a, 1, b'C'], (at(14, 1), at(9, 1))),
+        (&[0x18, 7, 0x12, 1, b'x', 0x1a, 6, 0x2a, 1, b'z', 0x12, 1, b'B'], (at(4, 1), at(17, 1))),
+        (&[0x18, 7], (at(4, 1), absent)),
+    ];
+    for (more, spans) in cases {
+        assert_eq!(record(&[&first, more].concat()), Ok(Some(spans)), "{more:02x?}");
+    }
+    assert_eq!(record(&[0x1a, 0]), Ok(Some((absent, absent))));
+    assert_eq!(record(&[0x18, 7]), Ok(None), "field 3 with another wire type is no occurrence");
+    assert_eq!(record(&[0x1a, 1, 0x0a, 0x1a, 2, 1, b'A']), Err(Refusal::Malformed), "well formed only if joined");
+}
+
 #[test]
 fn bad_fields_are_refused_wherever_they_stand() {
     let mut rng = Rng::new(14);

@@ -113,21 +113,25 @@ fn passed_over(rng: &mut Rng, known_numbers: &[u64], known_bytes: &[u64]) -> Vec
     }
 }
 
-/// Joins lists of pieces, each list in its own order, the lists mixed, with fields to be passed over between.
-fn mixed(rng: &mut Rng, lists: Vec<Vec<Vec<u8>>>, known_numbers: &[u64], known_bytes: &[u64]) -> Vec<u8> {
+/// The pieces of some lists, each list in its own order, the lists mixed, with fields to be passed over between.
+fn mixed_pieces(rng: &mut Rng, lists: Vec<Vec<Vec<u8>>>, known_numbers: &[u64], known_bytes: &[u64]) -> Vec<Vec<u8>> {
     let mut queues: Vec<std::collections::VecDeque<Vec<u8>>> = lists.into_iter().map(Into::into).collect();
     let mut out = Vec::new();
     loop {
         if rng.one_in(10) {
-            out.extend(passed_over(rng, known_numbers, known_bytes));
+            out.push(passed_over(rng, known_numbers, known_bytes));
         }
         let waiting: Vec<usize> = (0..queues.len()).filter(|i| !queues[*i].is_empty()).collect();
         if waiting.is_empty() {
             return out;
         }
         let i = *rng.pick(&waiting);
-        out.extend(queues[i].pop_front().expect("waiting"));
+        out.push(queues[i].pop_front().expect("waiting"));
     }
+}
+
+fn mixed(rng: &mut Rng, lists: Vec<Vec<Vec<u8>>>, known_numbers: &[u64], known_bytes: &[u64]) -> Vec<u8> {
+    mixed_pieces(rng, lists, known_numbers, known_bytes).concat()
 }
 
 /// The occurrences of a single bytes field: the last counts; an empty one may be left out.
@@ -157,10 +161,20 @@ fn single_number(rng: &mut Rng, number: u64, value: u64) -> Vec<Vec<u8>> {
     all
 }
 
-fn loose_record(rng: &mut Rng, record: &Record) -> Vec<u8> {
+/// A record in one to three occurrences: its fields, cut anywhere between two of them. An occurrence may be empty.
+fn loose_record(rng: &mut Rng, record: &Record) -> Vec<Vec<u8>> {
     let (key, value) = (single(rng, 1, &record.key), single(rng, 2, &record.value));
     let received = if rng.one_in(4) { vec![loose_bytes(rng, 5, b"2026-11-15T00:00:00Z")] } else { vec![] };
-    mixed(rng, vec![key, value, received], &[], &[1, 2, 5])
+    let mut rest = mixed_pieces(rng, vec![key, value, received], &[], &[1, 2, 5]);
+    let mut occurrences = Vec::new();
+    let more = if rng.one_in(3) { rng.between(1, 2) } else { 0 };
+    for _ in 0..more {
+        let after = rest.split_off(rng.below(rest.len() + 1));
+        occurrences.push(rest.concat());
+        rest = after;
+    }
+    occurrences.push(rest.concat());
+    occurrences
 }
 
 fn loose_peer(rng: &mut Rng, peer: &Peer) -> Vec<u8> {
@@ -175,16 +189,8 @@ fn loose_peer(rng: &mut Rng, peer: &Peer) -> Vec<u8> {
 pub fn loose_body(rng: &mut Rng, m: &Message) -> Vec<u8> {
     let kind = single_number(rng, 1, m.kind);
     let key = single(rng, 2, &m.key);
-    let mut record = Vec::new();
-    if let Some(last) = &m.record {
-        if rng.one_in(4) {
-            let earlier = some_record(rng);
-            let inside = loose_record(rng, &earlier);
-            record.push(loose_bytes(rng, 3, &inside));
-        }
-        let inside = loose_record(rng, last);
-        record.push(loose_bytes(rng, 3, &inside));
-    }
+    let occurrences = m.record.as_ref().map(|r| loose_record(rng, r)).unwrap_or_default();
+    let record = occurrences.iter().map(|o| loose_bytes(rng, 3, o)).collect();
     let mut peers = |number: u64, list: &[Peer]| -> Vec<Vec<u8>> {
         let entries: Vec<Vec<u8>> = list.iter().map(|p| loose_peer(rng, p)).collect();
         entries.iter().map(|e| loose_bytes(rng, number, e)).collect()
@@ -216,7 +222,7 @@ pub fn bad_field(rng: &mut Rng) -> Vec<u8> {
 pub fn damaged_body(rng: &mut Rng, body: &[u8]) -> Vec<u8> {
     let mut out = body.to_vec();
     let at = rng.below(out.len() + 1);
-    match rng.below(8) {
+    match rng.below(9) {
         0 => out.truncate(at),
         1 if !out.is_empty() => out[at % body.len()] ^= 1 << rng.below(8),
         2 if !out.is_empty() => out[at % body.len()] = rng.byte(),
@@ -231,6 +237,14 @@ pub fn damaged_body(rng: &mut Rng, body: &[u8]) -> Vec<u8> {
             let field = bad_field(rng);
             put_bytes(&mut out, *rng.pick(&[3, 8, 9, 8]), &field);
             put_bytes(&mut out, 4, &vec![7; rng.below(150)]);
+        }
+        // a field of the record across two of its occurrences: well formed only if they were joined
+        7 => {
+            let mut field = Vec::new();
+            put_bytes(&mut field, *rng.pick(&[1, 2]), &vec![7; rng.between(1, 20)]);
+            let rest = field.split_off(rng.between(1, field.len() - 1));
+            put_bytes(&mut out, 3, &field);
+            put_bytes(&mut out, 3, &rest);
         }
         _ => {
             let field = bad_field(rng);
