@@ -229,8 +229,9 @@ uint32_t starterbell_find(const uint8_t *records, size_t records_length, const u
 /* ---- Messages */
 
 /* The message that a body is, without its length prefix. DONE, or 4, 5 or 6. Its view goes to `out`: its type (0 PUT_VALUE, 1 GET_VALUE, 4 FIND_NODE, 5 PING),
-   where its key starts and ends, 1 if it has a record and else 0, and where the record's key and its value start and end. An absent part starts and ends at 0.
-   A record may come in several fields: then these are the last key and the last value of all of them, which may stand in any order and far apart. */
+   where its key starts and ends, 1 if it has a record and else 0, and where the record's key and its value start and end. An absent part starts and ends at 0; one
+   that is there never starts at 0, even if it is empty. A record may come in several fields: then these are the last key and the last value of all of them, in any
+   order and maybe far apart. */
 uint32_t starterbell_read(const uint8_t *body, size_t body_length, uint64_t *out, size_t out_length);
 
 /* The next entry, from a position on, of a message's closerPeers (list 0) or of its providerPeers (any other list). From 0, and then from each entry's end, these

@@ -148,16 +148,25 @@ fn the_added_entry_has_its_addresses() {
 
 const KEY: &[u8] = b"/wind/d";
 
-/// A field of fewer than 128 bytes.
+/// A length of under 16,384, and the bytes after it.
+fn measured(bytes: &[u8]) -> Vec<u8> {
+    let (low, high) = (bytes.len() as u8 & 0x7f, (bytes.len() >> 7) as u8);
+    if high == 0 {
+        [&[low], bytes].concat()
+    } else {
+        [&[low | 0x80, high], bytes].concat()
+    }
+}
+
 fn field(number: u8, bytes: &[u8]) -> Vec<u8> {
-    [&[number << 3 | 2, bytes.len() as u8], bytes].concat()
+    [vec![number << 3 | 2], measured(bytes)].concat()
 }
 
 /// A PUT_VALUE whose record comes in several fields, with its length before it.
 fn split_put(occurrences: &[&[u8]]) -> Vec<u8> {
     let mut body = field(2, KEY);
     occurrences.iter().for_each(|occurrence| body.extend(field(3, occurrence)));
-    [vec![body.len() as u8], body].concat()
+    measured(&body)
 }
 
 /// What a box sends back to bytes that come in some pieces, how its connection ends, and the value that it then holds under the key.
@@ -209,8 +218,10 @@ fn a_record_in_two_fields_is_stored_echoed_and_found() {
 fn a_record_in_two_fields_is_judged_by_the_last_of_each() {
     let value = Recipe { sequence: 4, ..Recipe::default() }.to_value().expect("a recipe");
     let whole = [field(1, KEY), field(2, &value)].concat();
-    let puts: [(&[&[u8]], Refusal); 5] = [
+    let puts: [(&[&[u8]], Refusal); 7] = [
         (&[&whole, &field(1, b"")], Refusal::BreaksRules),
+        (&[&whole, &field(1, &[KEY, &[b'!'; 122]].concat())], Refusal::BreaksRules),
+        (&[&whole, &field(2, &[0; 2_049])], Refusal::BrokenRecipe),
         (&[&whole, &field(1, b"/wind/e")], Refusal::BreaksRules),
         (&[&whole, &field(2, b"")], Refusal::BrokenRecipe),
         (&[&field(1, KEY), &[]], Refusal::BrokenRecipe),

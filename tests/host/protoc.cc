@@ -563,7 +563,7 @@ static string damaged(string s) {
     return s;
 }
 
-/* ---- records in several fields, of every shape: on these the two have to agree */
+/* ---- records in several fields: on these the two have to agree */
 
 static string plain(uint64_t number, const string &content) {
     string s;
@@ -579,7 +579,7 @@ struct Shape {
 
 static vector<Shape> split_records() {
     auto record = [](const string &content) { return plain(3, content); };
-    string key = plain(1, any_bytes(1 + below(20))), value = plain(2, any_bytes(1 + below(60))), number = "\x18\x07";
+    string key = plain(1, any_bytes(1 + below(20))), value = plain(2, any_bytes(1 + below(60))), number = "\x18\x07", fixed = "\x1d" + any_bytes(4) + "\x19" + any_bytes(8);
     string other_key = plain(1, any_bytes(1 + below(20))), other_value = plain(2, any_bytes(1 + below(60))), unknown = plain(7, any_bytes(below(9)));
     string peer = plain(8, plain(1, any_bytes(1 + below(20))));
     size_t inside = 1 + below(key.size() - 1);
@@ -595,6 +595,7 @@ static vector<Shape> split_records() {
         {"unknown fields between", true, record(key + unknown) + unknown + record(unknown + value)},
         {"other fields between", true, record(key) + plain(2, any_bytes(below(20))) + peer + record(value)},
         {"a number as field 3 between", true, record(key) + number + record(value)},
+        {"fixed fields 3 between", true, record(key) + fixed + record(value)},
         {"well formed only if joined", false, record(key.substr(0, inside)) + record(key.substr(inside) + value)},
         {"the second malformed", false, record(key + value) + record(value.substr(0, value.size() - 1))},
     };

@@ -41,13 +41,12 @@ use Rattle.message.specs.declared.Reading.{Reading}
 use Rattle.message.specs.declared.Reading.the-variants as read
 use Rattle.pieces.proofs.Sizes.{message-length, held-most, entries-most}
 use Rattle.message.proofs.Meaning.{kind-meant}
-use Rattle.round_trip.specs.Claims.{encodeSplit}
-use Rattle.round_trip.proofs.RoundTrip.{fitting, round-trip, split-is-read}
+use Rattle.round_trip.proofs.RoundTrip.{round-trip}
 use Rattle.replies.specs.Replies.{putValue, getValue, findNode, ping, closerPeers, listed, lastEntry, findNodeReply, recordAt, getValueReply, putValueReply, pingReply}
 use Rattle.entries.specs.Entries.{contactEntry, peerEntry}
 use Rattle.replies.specs.Verdicts.{Verdict, replies, refuses, keyFits, keyed, echoed, putVerdict, putAfter, Dealt, refused, replied, byVerdict}
 use Rattle.answer.specs.Answers.{verdictOf, recordsAfter, byReading, dealOf}
-use Rattle.answer_promises.specs.Promises.{RefusedChangesNothing, ReadsBack, Roomed, RepliesReadBack, AnsweredByFields, SplitIsAnswered, EntryIsPeer, RecordsStayInForm}
+use Rattle.answer_promises.specs.Promises.{RefusedChangesNothing, ReadsBack, Roomed, RepliesReadBack, AnsweredByFields, EntryIsPeer, RecordsStayInForm}
 use Rattle.replies.specs.declared.Answered.the-variants.{Reply, Refused}
 use Rattle.entries.proofs.Entries.{own-fits, id-most}
 use Rattle.replies.proofs.Runs.{entries-fit}
@@ -276,7 +275,3 @@ module _ (me who : peers.Peer) (t k y : List ℕ) where
 
 pub answered-by-fields : (me : peers.Peer) → AnsweredByFields me
 answered-by-fields me who a b la lb e t k y = decoded me who t k y a la ∙ ap (byDecoding me who t k y) e ∙ sym (decoded me who t k y b lb)
-
-pub split-is-answered : (me : peers.Peer) → SplitIsAnswered me
-split-is-answered me who m e o os w h l =
-    answered-by-fields me who (encodeSplit m (o ∷ os)) (encode m) l (fitting m e .body) (split-is-read m e o os w h l ∙ sym (round-trip m e))

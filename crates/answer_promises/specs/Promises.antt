@@ -2,20 +2,16 @@
 use Prim.Native.Nat.{ℕ, _≤_}
 use mathlib.Core.Path.{_≡_}
 use mathlib.Core.Bool.{true}
-use mathlib.Core.List.{List, _∷_}
+use mathlib.Core.List.{List}
 use mathlib.Core.Option.{some}
 use lib.ListN.{length, take, drop}
-use Rattle.octets.specs.Search.{every}
 use Rattle.refusal.specs.declared.Refusal.{Refusal}
 use Rattle.peer.specs.declared.Peer as peers
 use Rattle.peer.specs.Addresses.{idRoom, keptOf}
 use Rattle.peer.specs.Peers.{idFits, peerOf}
 use Rattle.records.specs.Store.{inForm}
 use Rattle.message.specs.Limits.{mostBody, leastReply}
-use Rattle.message.specs.Message.{Message, messageOf, wellFormed, decode, encode, frame}
-use Rattle.message.specs.Claims.{lastOfAll}
-use Rattle.pieces.specs.Writable.{writable}
-use Rattle.round_trip.specs.Claims.{encodeSplit}
+use Rattle.message.specs.Message.{Message, messageOf, decode, encode, frame}
 use Rattle.entries.specs.Entries.{peerEntry}
 use Rattle.replies.specs.Verdicts.{Verdict, replies, Dealt}
 use Rattle.answer.specs.Answers.{verdictOf, dealOf}
@@ -46,17 +42,11 @@ RepliesReadBack =
     (me who : peers.Peer) → Roomed me → Roomed who → (body t k y : List ℕ) → leastReply ≤ length y → (n : ℕ) → dealOf me who body t k y .told ≡ Reply n
     → ReadsBack (verdictOf me who (messageOf body) t k) (dealOf me who body t k y) y n
 
--- the answer, the records and the reply go by what a body says, not by how it is written: two bodies of the same fields get the same
+-- answer, records and reply go by what a body says, not by how it is written: two bodies of the same fields get the same. So a message whose record comes in
+-- several fields is answered, stored and echoed as the same message with its record in one
 abbrev pub AnsweredByFields : peers.Peer → Type 0
 AnsweredByFields me =
     (who : peers.Peer) (a b : List ℕ) → length a ≤ mostBody → length b ≤ mostBody → decode a ≡ decode b → (t k y : List ℕ) → dealOf me who a t k y ≡ dealOf me who b t k y
-
--- so a message whose record comes in several record fields is answered as the same message with its record in one (document 02, iv): what that would
--- store or echo is stored and echoed
-abbrev pub SplitIsAnswered : peers.Peer → Type 0
-SplitIsAnswered me =
-    (who : peers.Peer) (m : Message) → writable m ≡ true → (o : List ℕ) (os : List (List ℕ)) → every wellFormed (o ∷ os) ≡ true → m .held ≡ some (lastOfAll (o ∷ os))
-    → length (encodeSplit m (o ∷ os)) ≤ mostBody → (t k y : List ℕ) → dealOf me who (encodeSplit m (o ∷ os)) t k y ≡ dealOf me who (encode m) t k y
 
 -- the entry for us or the requester has the id and the usable addresses that were handed in
 abbrev pub EntryIsPeer : Type 0

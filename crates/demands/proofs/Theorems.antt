@@ -10,10 +10,11 @@ use Rattle.contacts.proofs.TwentyNearest.{nearest-are}
 use Rattle.recipe.specs.Recipe.{outranks}
 use Rattle.records_history.specs.History.{Has, got, after}
 use Rattle.records_history.proofs.Stays.{highest, holds-on}
+use Rattle.message.proofs.Occurrences.{split-is-merged}
 use Rattle.message.proofs.Views.{read-whole, read-malformed, malformed-read}
 use Rattle.round_trip.proofs.RoundTrip.{round-trip}
 use Rattle.lookup_runs.proofs.Theorems.{claims}
-use Rattle.answer_promises.proofs.Promised.{replies-read-back, split-is-answered}
+use Rattle.answer_promises.proofs.Promised.{replies-read-back, answered-by-fields}
 use Rattle.cutting.specs.World.{World, Call, calls, Ready, AllFit}
 use Rattle.cutting.proofs.Claims.{several, several-plainly}
 use Rattle.demands.specs.Box.{Box, Who, Turn, Ask, Fits, box, Own, Allowed, Good}
@@ -34,9 +35,10 @@ pub second : (me : Peer) → Own me → Second me
 second me w =
     record {
       reads = λ body. record { whole = λ f e. read-whole body f e .says; malformed = read-malformed body; only = malformed-read body };
+      split = split-is-merged;
       writes = round-trip;
       replies = λ who h. replies-read-back me who (w .roomed) h;
-      split = split-is-answered me;
+      answers = answered-by-fields me;
       nearest = λ t key. nearest-are t (placeOf key) (length-placeOf key);
       hashed = λ s b cs f. placed me w s (begun-known me s b) cs f;
       lookup = λ t own key limit s. claims t own (me .place) key limit s;

@@ -24,6 +24,7 @@ use Rattle.records_history.specs.History.{Has, got, after, cleared, Accepted, U
 use Rattle.message.specs.Limits.{mostBody, leastReply}
 use Rattle.message.specs.Message.{Message, messageOf, decode, encode}
 use Rattle.pieces.specs.Writable.{writable}
+use Rattle.message.specs.Claims.{SplitIsMerged}
 use Rattle.message.specs.View.{readingOf, meant}
 use Rattle.message.specs.declared.Fields.{Fields}
 use Rattle.message.specs.declared.Reading.the-variants as reading
@@ -40,7 +41,7 @@ use Rattle.cutting.specs.World.{Line, World, Call, given, calls, Fine, Ready, A
 use Rattle.cutting.specs.Plain.{ReadOut, plainly, unread}
 use Rattle.replies.specs.declared.Answered.the-variants as told
 use Rattle.answer.specs.Answers.{verdictOf, dealOf}
-use Rattle.answer_promises.specs.Promises.{Roomed, ReadsBack, SplitIsAnswered}
+use Rattle.answer_promises.specs.Promises.{Roomed, ReadsBack, AnsweredByFields}
 use Rattle.connections.specs.declared.Conn.{Conn}
 use Rattle.node.specs.declared.Answer.the-variants.{Refused}
 use Rattle.connections.specs.declared.Told.the-variants as nodeTold
@@ -100,13 +101,15 @@ pub record Begun (s : World Who Box Ask) : Type 0 where
 
 pub record Second (me : Peer) : Type 0 where
   pub reads : (body : List ℕ) → ReadsWell body
+  -- "Demand 2 reads by the merged rule" (document 02, iv): of a record in several fields, the last key and the last value of all
+  pub split : SplitIsMerged
   -- "what is written reads back as the same fields"
   pub writes : (m : Message) → writable m ≡ true → decode (encode m) ≡ some m
   -- a reply is the message that the plain reading of the request calls for, it reads back as that message, and bytes after it stay
   pub replies : (who : Peer) → Roomed who → (body t k y : List ℕ) → leastReply ≤ length y → (n : ℕ) → dealOf me who body t k y .told ≡ told.Reply n
       → ReadsBack (verdictOf me who (messageOf body) t k) (dealOf me who body t k y) y n
-  -- "Demand 2 reads by the merged rule" (document 02, iv): a record that comes in several record fields is answered, stored and echoed as one
-  pub split : SplitIsAnswered me
+  -- and goes by what the request says alone, however it is written
+  pub answers : AnsweredByFields me
   -- "A query answers the twenty contacts nearest by XOR of SHA-256, or all when fewer, nearest first"
   pub nearest : (t key : List ℕ) → AreNearest t (placeOf key) (nearestSlots t (placeOf key))
   -- and that is the distance of SHA-256 of the ids: "memory once cleared, since then lent whole and changed by calls alone" holds each contact at its id's hash

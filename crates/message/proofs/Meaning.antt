@@ -5,21 +5,19 @@ use mathlib.Core.List.{List, [], _∷_, _++_, map, flatten as joined}
 use mathlib.Core.Bool.{Bool, true, _&&_}
 use native.Mathlib.Omega.{arith}
 use lib.ListN.{length}
-use Rattle.octets.specs.Octets.{part}
 use Rattle.octets.specs.Search.{every, lastOf}
-use Rattle.octets.proofs.Bools.{all-head, all-rest}
 use Rattle.octets.proofs.Searching.{last-map}
 use Rattle.wire.specs.Wire.{fields, fieldsIn, spans, nowhere}
 use Rattle.wire.specs.Items.{cut, items, parts}
 use Rattle.wire.specs.declared.Span.{Span}
-use Rattle.wire.proofs.Reach.{Inside, AllInside, spans-inside}
+use Rattle.wire.proofs.Reach.{Inside, AllInside, earlier, spans-inside}
 use Rattle.wire.proofs.Within.{items-well, items-values, items-parts, in-well, in-values, in-parts, in-inside}
 use Rattle.message.specs.Message.{peerOf, merged, messageOf, wellFormed, wellMessage}
-use Rattle.message.specs.View.{allSpans, heldAt, fieldsOf, idAt, addressesAt, connectionAt, closerAt, providersAt, heldMeant, peerMeant, meant}
+use Rattle.message.specs.View.{allSpans, fieldsOf, idAt, addressesAt, connectionAt, closerAt, providersAt, heldMeant, peerMeant, meant}
 use Rattle.message.specs.Claims.{Shown, AbsentIsShown}
 use Rattle.message.specs.Inner.{wellIn, wellFields}
 use Rattle.message.specs.declared.Fields.{Fields}
-use Rattle.message.proofs.Occurrences.{held-key, held-value, merged-meant}
+use Rattle.message.proofs.Occurrences.{each-well, held-key, held-value, merged-meant}
 
 -- ---- a peer
 
@@ -68,10 +66,8 @@ module _ (s : List ℕ) where
   kind-meant = ap (lastOf 0) (sym (items-values s 1))
 
   pub held-meant : wellMessage s ≡ true → heldMeant s (fieldsOf s .held) ≡ messageOf s .held
-  unfolding fieldsOf messageOf wellMessage
-  held-meant w =
-      let e : every wellFormed (map (cut s) (spans 3 (fields s))) ≡ true = rw (items-parts s 3) at (all-head _ _ (all-rest _ _ w)) in
-      merged-meant s 0 (spans 3 (fields s)) (inside 3) e ∙ ap merged (sym (items-parts s 3))
+  unfolding fieldsOf messageOf
+  held-meant w = merged-meant s 0 (spans 3 (fields s)) (inside 3) (rw (items-parts s 3) at (each-well s w)) ∙ ap merged (sym (items-parts s 3))
 
   pub closer-meant : map (peerMeant s) (closerAt s) ≡ messageOf s .closer
   unfolding closerAt messageOf
@@ -122,15 +118,11 @@ module _ (s : List ℕ) where
   append-inside [] m a b = b
   append-inside (p ∷ l) m a b = (a .0, append-inside l m (a .1) b)
 
-  from-start : (lo : ℕ) (l : List Span) → AllInside lo (length s) l → AllInside 0 (length s) l
-  from-start lo [] a = tt
-  from-start lo (p ∷ l) a = (record { starts = omega (arith, a .0 .starts); ordered = a .0 .ordered; ends = a .0 .ends }, from-start lo l (a .1))
-
   -- the fields of all occurrences of the record
   all-inside : (f : ℕ) (ps : List Span) → AllInside 0 (length s) ps → AllInside 0 (length s) (allSpans s f ps)
   unfolding allSpans joined
   all-inside f [] a = tt
-  all-inside f (p ∷ ps) a = append-inside (spans f (fieldsIn s p)) (allSpans s f ps) (from-start (p .at) (spans f (fieldsIn s p)) (in-inside s p (a .0 .ordered) (a .0 .ends) f)) (all-inside f ps (a .1))
+  all-inside f (p ∷ ps) a = append-inside (spans f (fieldsIn s p)) (allSpans s f ps) (earlier (p .at) 0 (length s) (spans f (fieldsIn s p)) (omega arith) (in-inside s p (a .0 .ordered) (a .0 .ends) f)) (all-inside f ps (a .1))
 
   inner : (f : ℕ) → AllInside 0 (length s) (allSpans s f (spans 3 (fields s)))
   inner f = all-inside f (spans 3 (fields s)) (inside s 3)

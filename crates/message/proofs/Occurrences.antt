@@ -1,21 +1,24 @@
 -- The occurrences of a record, read as though they stood one after another. Assumes nothing.
 use Prim.Native.Nat.{ℕ}
 use mathlib.Core.Path.{_≡_, refl, sym, ap, _∙_}
-use mathlib.Core.List.{List, [], _∷_, _++_, map, map-append, flatten as joined}
-use mathlib.Core.Bool.{true}
+use mathlib.Core.List.{List, [], _∷_, map, map-append, flatten as joined}
+use mathlib.Core.Bool.{Bool, true, false}
+use mathlib.Core.Option.{none, some}
+use native.Mathlib.Omega.{arith}
 use lib.ListN.{length}
 use Rattle.octets.specs.Search.{every, lastOf}
+use Rattle.octets.proofs.Bools.{not-both, all-head, all-rest}
 use Rattle.octets.proofs.Searching.{every-head, every-tail, last-map, last-append}
-use Rattle.wire.specs.Wire.{fieldAt, nextOf, fields, fieldsIn, well, spans, nowhere}
+use Rattle.wire.specs.Wire.{fieldAt, nextOf, fields, fieldsIn, spans, nowhere}
 use Rattle.wire.specs.Items.{cut, items, parts}
 use Rattle.wire.specs.declared.Span.{Span}
 use Rattle.wire.proofs.Reach.{AllInside}
 use Rattle.wire.proofs.Scan.{at-done}
-use Rattle.wire.proofs.Joined.{well-joined, parts-joined}
-use Rattle.wire.proofs.Within.{items-well, items-parts, in-parts}
-use Rattle.message.specs.Message.{recordOf, merged, wellFormed}
+use Rattle.wire.proofs.Joined.{parts-joined}
+use Rattle.wire.proofs.Within.{items-parts, in-parts}
+use Rattle.message.specs.Message.{Message, recordOf, merged, messageOf, wellFormed, wellMessage, decode}
 use Rattle.message.specs.View.{noRecord, allSpans, heldAt, heldMeant}
-use Rattle.message.specs.Claims.{allParts, lastOfAll, OccurrencesMerge}
+use Rattle.message.specs.Claims.{allParts, lastOfAll, RecordRead, SplitIsMerged}
 use Rattle.message.specs.Inner.{withOccurrence, withOccurrences}
 use Rattle.message.specs.declared.Held.{Held}
 
@@ -26,14 +29,26 @@ unfolding allParts joined wellFormed
 all-joined f [] w = items-parts [] f ∙ (unfold fields spans in rw (at-done [] 0 (unfold fieldAt nextOf in refl)))
 all-joined f (b ∷ bs) w = parts-joined b (joined bs) (every-head wellFormed b bs w) f ∙ rw (all-joined f bs (every-tail wellFormed b bs w))
 
-joined-well : (bs : List (List ℕ)) → every wellFormed bs ≡ true → wellFormed (joined bs) ≡ true
-unfolding joined wellFormed
-joined-well [] w = items-well [] ∙ (unfold fields well every in rw (at-done [] 0 (unfold fieldAt nextOf in refl)))
-joined-well (b ∷ bs) w = well-joined b (joined bs) (every-head wellFormed b bs w) (joined-well bs (every-tail wellFormed b bs w))
-
-pub occurrences-merge : OccurrencesMerge
+merged-last : (bs : List (List ℕ)) → every wellFormed bs ≡ true → merged bs ≡ lastOfAll bs
 unfolding merged recordOf lastOfAll
-occurrences-merge b bs w = record { well = joined-well (b ∷ bs) w; last = rw (all-joined 1 (b ∷ bs) w, all-joined 2 (b ∷ bs) w) }
+merged-last [] w = refl
+merged-last (b ∷ bs) w = rw (all-joined 1 (b ∷ bs) w, all-joined 2 (b ∷ bs) w)
+
+-- so says a body whose record comes in them
+pub each-well : (s : List ℕ) → wellMessage s ≡ true → every wellFormed (parts 3 (items s)) ≡ true
+unfolding wellMessage
+each-well s w = all-head _ _ (all-rest _ _ w)
+
+pub split-is-merged : SplitIsMerged
+unfolding decode messageOf
+split-is-merged s = go (wellMessage s) refl
+  where
+    go : (t : Bool) → wellMessage s ≡ t → RecordRead s
+    go true w = record {
+      apart = λ n. absurd (not-both _ (each-well s w) n);
+      last = λ m q. let z : some (messageOf s) ≡ some m = rw w at q in let e : messageOf s ≡ m = cc in ap (λ (x : Message). x .held) (sym e) ∙ merged-last _ (each-well s w);
+    }
+    go false w = record { apart = λ n. rw w; last = λ m q. absurd (let z : none ≡ some m = rw w at q in let y : _≡_ {A = ℕ} 0 1 = cc in omega arith) }
 
 -- ---- by position: what one occurrence after the other leaves is the last key and the last value of all
 

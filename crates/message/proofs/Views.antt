@@ -20,7 +20,7 @@ use Rattle.message.specs.View.{fieldsOf, readingOf, idAt, closerAt, prov
 use Rattle.message.specs.declared.Fields.{Fields}
 use Rattle.message.specs.declared.Reading.{Reading}
 use Rattle.message.specs.declared.Reading.the-variants.{Whole, Refused}
-use Rattle.message.proofs.Meaning.{all-meant, inside, closer-meant, FieldsIn, fields-inside, kind-meant}
+use Rattle.message.proofs.Meaning.{all-meant, closer-meant, FieldsIn, fields-inside, kind-meant}
 
 -- for octets
 map-take : {A B : Type 0} (g : A → B) (k : ℕ) (l : List A) → take k (map g l) ≡ map g (take k l)

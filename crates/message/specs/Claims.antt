@@ -2,13 +2,13 @@
 use Prim.Native.Nat.{ℕ, _<_}
 use mathlib.Core.Path.{_≡_}
 use mathlib.Core.List.{List, [], _∷_, map, flatten as joined}
-use mathlib.Core.Bool.{true}
-use mathlib.Core.Option.{some}
+use mathlib.Core.Bool.{false}
+use mathlib.Core.Option.{Option, none, some}
 use Rattle.octets.specs.Search.{every, lastOf}
 use Rattle.wire.specs.Wire.{fields, spans, nowhere}
 use Rattle.wire.specs.Items.{items, parts}
 use Rattle.wire.specs.declared.Span.{Span}
-use Rattle.message.specs.Message.{Record, merged, wellFormed}
+use Rattle.message.specs.Message.{Record, Message, wellFormed, decode}
 use Rattle.message.specs.View.{allSpans, fieldsOf}
 
 -- ---- "as though all its occurrences stood one after another"
@@ -17,17 +17,19 @@ use Rattle.message.specs.View.{allSpans, fieldsOf}
 unfoldable pub allParts : ℕ → List (List ℕ) → List (List ℕ)
 allParts f bs = joined (map (λ (b : List ℕ). parts f (items b)) bs)
 
--- the last key field and the last value field of all of them
-unfoldable pub lastOfAll : List (List ℕ) → Record
-lastOfAll bs = record { key = lastOf [] (allParts 1 bs); value = lastOf [] (allParts 2 bs) }
+-- the record that has the last key field and the last value field of all of them
+unfoldable pub lastOfAll : List (List ℕ) → Option Record
+lastOfAll [] = none
+lastOfAll (b ∷ bs) = some (record { key = lastOf [] (allParts 1 (b ∷ bs)); value = lastOf [] (allParts 2 (b ∷ bs)) })
 
--- where each occurrence is well formed by itself, so are they joined, and their record has the last key and the last value of all
-pub record Merge (b : List ℕ) (bs : List (List ℕ)) : Type 0 where
-  pub well : wellFormed (joined (b ∷ bs)) ≡ true
-  pub last : merged (b ∷ bs) ≡ some (lastOfAll (b ∷ bs))
+-- what a body says of its record, whose occurrences may stand anywhere among its fields
+pub record RecordRead (s : List ℕ) : Type 0 where
+  -- "Each occurrence must still be well formed by itself, else 5"
+  pub apart : every wellFormed (parts 3 (items s)) ≡ false → decode s ≡ none
+  pub last : (m : Message) → decode s ≡ some m → m .held ≡ lastOfAll (parts 3 (items s))
 
-abbrev pub OccurrencesMerge : Type 0
-OccurrencesMerge = (b : List ℕ) (bs : List (List ℕ)) → every wellFormed (b ∷ bs) ≡ true → Merge b bs
+abbrev pub SplitIsMerged : Type 0
+SplitIsMerged = (s : List ℕ) → RecordRead s
 
 -- ---- a view tells what is absent from what is empty: an absent part is at 0 with length 0, and one that is there stands after its tag, so never at 0
 

@@ -4,7 +4,7 @@ use mathlib.Core.List.{List, [], _∷_}
 use mathlib.Core.Bool.{Bool, true, cond}
 use lib.Dec.{eqb}
 use Rattle.octets.specs.Search.{every, allOf, lastOf}
-use Rattle.wire.specs.Wire.{fields, fieldsIn, well, numbers, spans}
+use Rattle.wire.specs.Wire.{fieldsIn, well, numbers, spans}
 use Rattle.wire.specs.declared.Span.{Span}
 use Rattle.wire.specs.declared.Field.{Field}
 use Rattle.wire.specs.declared.Field.the-variants.{End, Bad, Number, Bytes, Other}

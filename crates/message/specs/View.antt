@@ -1,18 +1,18 @@
 -- A read message as a view: where its parts are in the body. Document 01: "it points into the receive buffer, and each bytes field is that part of it".
 use Prim.Native.Nat.{ℕ}
 use mathlib.Core.List.{List, [], _∷_, map, flatten as joined}
-use mathlib.Core.Bool.{Bool, true, false, cond, not}
+use mathlib.Core.Bool.{true, false, cond, not}
 use mathlib.Core.Option.{Option, none, some}
 use lib.ListN.{length, take, replicate}
 use lib.Seq.{sets}
-use lib.Dec.{leb, ltb}
+use lib.Dec.{ltb}
 use Rattle.octets.specs.Search.{lastOf}
 use Rattle.refusal.specs.declared.Refusal.the-variants.{TooLong, Malformed, UnknownType}
 use Rattle.wire.specs.Wire.{fields, fieldsIn, numbers, spans, nowhere}
 use Rattle.wire.specs.Items.{cut}
 use Rattle.wire.specs.declared.Span.{Span}
 use Rattle.message.specs.Limits.{mostBody, mostKind, mostHeard}
-use Rattle.message.specs.Message.{Peer, Record, Message, wellMessage, connectionOf, peerOf}
+use Rattle.message.specs.Message.{Peer, Record, Message, wellMessage, connectionOf}
 use Rattle.message.specs.declared.Held.{Held}
 use Rattle.message.specs.declared.Fields.{Fields}
 use Rattle.message.specs.declared.Reading.{Reading}

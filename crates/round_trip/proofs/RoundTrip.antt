@@ -1,6 +1,6 @@
 -- What is written is read back, as the same message. Assumes nothing.
 use Prim.Native.Nat.{ℕ, _≤_, _<_, _^_}
-use mathlib.Core.Path.{_≡_, refl, sym, ap, subst, _∙_}
+use mathlib.Core.Path.{_≡_, refl, _∙_}
 use mathlib.Core.List.{List, [], _∷_, _++_, map, append-nil, flatten as joined}
 use mathlib.Core.Bool.{true, false}
 use mathlib.Core.Option.{Option, none, some}
@@ -11,13 +11,12 @@ use borrow.Author.Tests.{le-leb, leb-true}
 use Rattle.octets.specs.Search.{every, allOf, lastOf}
 use Rattle.octets.proofs.Bools.{all-head, all-rest}
 use Rattle.octets.proofs.Searching.{every-head, every-tail}
-use Rattle.wire.specs.Items.{Item, num, items, values, parts, written, single, repeated}
+use Rattle.wire.specs.Items.{Item, num, items, values, parts, single, repeated}
 use Rattle.wire_put.proofs.RoundTrip.{AllGood, read-back, good-append, good-well, values-append, parts-append, Short, parts-short, single-good, repeated-good, values-single, values-repeated, single-other, single-same, repeated-other, repeated-same}
 use Rattle.message.specs.Limits.{mostBody, mostKind, mostConnection}
 use Rattle.message.specs.Message.{Peer, Record, Message, recordOf, connectionOf, peerOf, merged, messageOf, wellFormed, wellMessage, decode, peerItems, encodePeer, recordItems, encodeRecord, heldItems, messageItems, encode}
 use Rattle.pieces.specs.Writable.{peerFits, writable}
-use Rattle.message.proofs.Occurrences.{occurrences-merge}
-use Rattle.round_trip.specs.Claims.{RoundTrip, splitItems, encodeSplit, SplitIsRead}
+use Rattle.round_trip.specs.Claims.{RoundTrip}
 
 -- ---- a record
 module _ (r : Record) where
@@ -102,34 +101,38 @@ module _ (n : ℕ) (hn : n < 2 ^ 64) where
   peers-back [] c s = refl
   peers-back (p ∷ l) c s = rw (peer-back p (c .0) (omega arith), peers-back l (c .1) (s .1))
 
--- ---- a record in one occurrence
-abbrev whole : Option Record → List (List ℕ)
-whole none = []
-whole (some r) = encodeRecord r ∷ []
-
-whole-items : (o : Option Record) → repeated 3 (whole o) ≡ heldItems o
-unfolding repeated heldItems
-whole-items none = refl
-whole-items (some r) = refl
-
-module _ (n : ℕ) (hn : n < 2 ^ 64) where
-  held-well : (o : Option Record) → Short n (whole o) → every wellFormed (whole o) ≡ true
-  unfolding every
+  held-well : (o : Option Record) → Short n (parts 3 (heldItems o)) → every wellFormed (parts 3 (heldItems o)) ≡ true
+  unfolding every heldItems parts
   held-well none s = refl
   held-well (some r) s = rw (record-well r (omega arith))
 
-  held-back : (o : Option Record) → Short n (whole o) → merged (whole o) ≡ o
-  unfolding merged joined
+  held-back : (o : Option Record) → Short n (parts 3 (heldItems o)) → merged (parts 3 (heldItems o)) ≡ o
+  unfolding merged joined heldItems parts
   held-back none s = refl
   held-back (some r) s = rw (append-nil (encodeRecord r), record-back r (omega arith))
 
--- ---- a message with its record in some occurrences
-module _ (m : Message) (os : List (List ℕ)) where
+held-good : (o : Option Record) → AllGood (heldItems o)
+unfolding heldItems
+held-good none = tt
+held-good (some r) = ((omega arith, omega arith), tt)
+
+held-values : (g : ℕ) (o : Option Record) → values g (heldItems o) ≡ []
+unfolding heldItems values
+held-values g none = refl
+held-values g (some r) = refl
+
+held-parts : (g : ℕ) → eqb 3 g ≡ false → (o : Option Record) → parts g (heldItems o) ≡ []
+unfolding heldItems parts
+held-parts g e none = refl
+held-parts g e (some r) = rw e
+
+-- ---- a message
+module _ (m : Message) where
   abbrev A : List Item
   A = single 2 (m .key)
 
   abbrev B : List Item
-  B = repeated 3 os
+  B = heldItems (m .held)
 
   abbrev C : List Item
   C = repeated 8 (map encodePeer (m .closer))
@@ -137,63 +140,63 @@ module _ (m : Message) (os : List (List ℕ)) where
   abbrev D : List Item
   D = repeated 9 (map encodePeer (m .providers))
 
-  split : (g : ℕ) → parts g (splitItems m os) ≡ parts g A ++ (parts g B ++ (parts g C ++ parts g D))
-  unfolding splitItems parts
+  split : (g : ℕ) → parts g (messageItems m) ≡ parts g A ++ (parts g B ++ (parts g C ++ parts g D))
+  unfolding messageItems parts
   split g = rw (parts-append g A (B ++ (C ++ D)), parts-append g B (C ++ D), parts-append g C D)
 
-  message-kind : lastOf 0 (values 1 (splitItems m os)) ≡ m .kind
-  unfolding splitItems values lastOf
+  message-kind : lastOf 0 (values 1 (messageItems m)) ≡ m .kind
+  unfolding messageItems values lastOf
   message-kind =
-      rw (values-append 1 A (B ++ (C ++ D)), values-append 1 B (C ++ D), values-append 1 C D, values-single 2 1 (m .key), values-repeated 3 1 os, values-repeated 8 1 (map encodePeer (m .closer)), values-repeated 9 1 (map encodePeer (m .providers)))
+      rw (values-append 1 A (B ++ (C ++ D)), values-append 1 B (C ++ D), values-append 1 C D, values-single 2 1 (m .key), held-values 1 (m .held), values-repeated 8 1 (map encodePeer (m .closer)), values-repeated 9 1 (map encodePeer (m .providers)))
 
-  of-key : parts 2 (splitItems m os) ≡ parts 2 A
-  of-key = split 2 ∙ rw (repeated-other 3 2 refl os, repeated-other 8 2 refl (map encodePeer (m .closer)), repeated-other 9 2 refl (map encodePeer (m .providers))) (append-nil (parts 2 A))
+  of-key : parts 2 (messageItems m) ≡ parts 2 A
+  of-key = split 2 ∙ rw (held-parts 2 refl (m .held), repeated-other 8 2 refl (map encodePeer (m .closer)), repeated-other 9 2 refl (map encodePeer (m .providers))) (append-nil (parts 2 A))
 
-  of-record : parts 3 (splitItems m os) ≡ os
-  of-record = split 3 ∙ rw (single-other 2 3 refl (m .key), repeated-same 3 refl os, repeated-other 8 3 refl (map encodePeer (m .closer)), repeated-other 9 3 refl (map encodePeer (m .providers))) (append-nil os)
+  of-record : parts 3 (messageItems m) ≡ parts 3 B
+  of-record = split 3 ∙ rw (single-other 2 3 refl (m .key), repeated-other 8 3 refl (map encodePeer (m .closer)), repeated-other 9 3 refl (map encodePeer (m .providers))) (append-nil (parts 3 B))
 
-  of-closer : parts 8 (splitItems m os) ≡ map encodePeer (m .closer)
-  of-closer = split 8 ∙ rw (single-other 2 8 refl (m .key), repeated-other 3 8 refl os, repeated-same 8 refl (map encodePeer (m .closer)), repeated-other 9 8 refl (map encodePeer (m .providers))) (append-nil (map encodePeer (m .closer)))
+  of-closer : parts 8 (messageItems m) ≡ map encodePeer (m .closer)
+  of-closer = split 8 ∙ rw (single-other 2 8 refl (m .key), held-parts 8 refl (m .held), repeated-same 8 refl (map encodePeer (m .closer)), repeated-other 9 8 refl (map encodePeer (m .providers))) (append-nil (map encodePeer (m .closer)))
 
-  of-providers : parts 9 (splitItems m os) ≡ map encodePeer (m .providers)
-  of-providers = split 9 ∙ rw (single-other 2 9 refl (m .key), repeated-other 3 9 refl os, repeated-other 8 9 refl (map encodePeer (m .closer)), repeated-same 9 refl (map encodePeer (m .providers)))
+  of-providers : parts 9 (messageItems m) ≡ map encodePeer (m .providers)
+  of-providers = split 9 ∙ rw (single-other 2 9 refl (m .key), held-parts 9 refl (m .held), repeated-other 8 9 refl (map encodePeer (m .closer)), repeated-same 9 refl (map encodePeer (m .providers)))
 
-  short : (g : ℕ) → Short (length (encodeSplit m os)) (parts g (splitItems m os))
-  unfolding encodeSplit
-  short g = parts-short g (length (encodeSplit m os)) (splitItems m os) (omega arith)
-
-  module _ (k : m .kind < 2 ^ 64) (c₁ : Connected (m .closer)) (c₂ : Connected (m .providers)) (h : length (encodeSplit m os) < 2 ^ 64) where
-    message-good : AllGood (splitItems m os)
-    unfolding splitItems
+  module _ (k : m .kind < 2 ^ 64) (c₁ : Connected (m .closer)) (c₂ : Connected (m .providers)) (h : length (encode m) < 2 ^ 64) where
+    message-good : AllGood (messageItems m)
+    unfolding messageItems
     message-good = (
       (omega arith, omega arith, k),
       good-append A _ (single-good 2 (omega arith) (omega arith) (m .key))
-          (good-append B _ (repeated-good 3 (omega arith) (omega arith) os)
+          (good-append B _ (held-good (m .held))
           (good-append C _ (repeated-good 8 (omega arith) (omega arith) (map encodePeer (m .closer)))
           (repeated-good 9 (omega arith) (omega arith) (map encodePeer (m .providers))))),
     )
 
-    message-items : items (encodeSplit m os) ≡ splitItems m os
-    unfolding encodeSplit
-    message-items = read-back (splitItems m os) message-good h
+    short : (g : ℕ) → Short (length (encode m)) (parts g (messageItems m))
+    unfolding encode
+    short g = parts-short g (length (encode m)) (messageItems m) (omega arith)
 
-    message-well : every wellFormed os ≡ true → wellMessage (encodeSplit m os) ≡ true
+    message-items : items (encode m) ≡ messageItems m
+    unfolding encode
+    message-items = read-back (messageItems m) message-good h
+
+    message-well : wellMessage (encode m) ≡ true
     unfolding wellMessage wellFormed allOf
-    message-well w =
+    message-well =
         rw (
           message-items,
-          good-well (splitItems m os) message-good,
+          good-well (messageItems m) message-good,
           of-record,
           of-closer,
           of-providers,
-          w,
-          peers-well (length (encodeSplit m os)) h (m .closer) c₁ (rw of-closer at (short 8)),
-          peers-well (length (encodeSplit m os)) h (m .providers) c₂ (rw of-providers at (short 9)),
+          held-well (length (encode m)) h (m .held) (rw of-record at (short 3)),
+          peers-well (length (encode m)) h (m .closer) c₁ (rw of-closer at (short 8)),
+          peers-well (length (encode m)) h (m .providers) c₂ (rw of-providers at (short 9)),
         )
 
-    message-back : merged os ≡ m .held → messageOf (encodeSplit m os) ≡ m
+    message-back : messageOf (encode m) ≡ m
     unfolding messageOf
-    message-back e =
+    message-back =
         rw (
           message-items,
           message-kind,
@@ -202,18 +205,14 @@ module _ (m : Message) (os : List (List ℕ)) where
           of-closer,
           of-providers,
           single-same 2 refl (m .key),
-          e,
-          peers-back (length (encodeSplit m os)) h (m .closer) c₁ (rw of-closer at (short 8)),
-          peers-back (length (encodeSplit m os)) h (m .providers) c₂ (rw of-providers at (short 9)),
+          held-back (length (encode m)) h (m .held) (rw of-record at (short 3)),
+          peers-back (length (encode m)) h (m .closer) c₁ (rw of-closer at (short 8)),
+          peers-back (length (encode m)) h (m .providers) c₂ (rw of-providers at (short 9)),
         )
 
-    decode-split : every wellFormed os ≡ true → merged os ≡ m .held → decode (encodeSplit m os) ≡ some m
+    pub decode-encode : decode (encode m) ≡ some m
     unfolding decode
-    decode-split w e = rw (message-well w, message-back e)
-
-encode-whole : (m : Message) → encodeSplit m (whole (m .held)) ≡ encode m
-unfolding encodeSplit splitItems encode messageItems
-encode-whole m = rw (whole-items (m .held))
+    decode-encode = rw (message-well, message-back)
 
 -- ---- within the limits
 pub fits-connection : (p : Peer) → peerFits p ≡ true → p .connection ≤ mostConnection
@@ -241,20 +240,7 @@ fitting m e =
     let e₅ = all-rest _ _ e₄ in
     record { kind = leb-true _ _ (all-head _ _ e); body = leb-true _ _ (all-head _ _ e₅); closer = all-head _ _ e₃; providers = all-head _ _ e₄ }
 
-module _ (m : Message) (e : writable m ≡ true) where
-  abbrev f : Fitting m
-  f = fitting m e
-
-  split-read : (os : List (List ℕ)) → length (encodeSplit m os) ≤ mostBody → every wellFormed os ≡ true → merged os ≡ m .held → decode (encodeSplit m os) ≡ some m
-  split-read os l = decode-split m os (omega (arith, f .kind)) (connected (m .closer) (f .closer)) (connected (m .providers) (f .providers)) (omega arith)
-
-pub split-is-read : SplitIsRead
-split-is-read m e o os w h l = split-read m e (o ∷ os) l w (occurrences-merge o os w .last ∙ sym h)
-
 pub round-trip : RoundTrip
 round-trip m e =
-    let n : ℕ = length (encodeSplit m (whole (m .held))) in
-    let l : n ≤ mostBody = omega (arith, ap length (encode-whole m), fitting m e .body) in
-    let s : Short n (whole (m .held)) = rw (of-record m (whole (m .held))) at (short m (whole (m .held)) 3) in
-    subst (λ (b : List ℕ). decode b ≡ some m) (encode-whole m)
-    (split-read m e (whole (m .held)) l (held-well n (omega arith) (m .held) s) (held-back n (omega arith) (m .held) s))
+    let f = fitting m e in
+    decode-encode m (omega (arith, f .kind)) (connected (m .closer) (f .closer)) (connected (m .providers) (f .providers)) (omega (arith, f .body))

@@ -1,17 +1,9 @@
--- What is written reads back as it was, for every message that the writer takes, also where another writer splits its record; proofs/RoundTrip.antt and
--- proofs/Written.antt prove it.
-use Prim.Native.Nat.{ℕ, _≤_}
+-- What is written reads back as it was, for every message that the writer takes; proofs/RoundTrip.antt and proofs/Written.antt prove it.
 use mathlib.Core.Path.{_≡_}
-use mathlib.Core.List.{List, _∷_, _++_, map}
 use mathlib.Core.Bool.{true}
 use mathlib.Core.Option.{some}
-use lib.ListN.{length}
-use Rattle.octets.specs.Search.{every}
-use Rattle.wire.specs.Items.{Item, num, written, single, repeated}
-use Rattle.message.specs.Limits.{mostBody}
-use Rattle.message.specs.Message.{Message, wellFormed, decode, encodePeer, encode}
+use Rattle.message.specs.Message.{Message, decode, encode}
 use Rattle.message.specs.View.{fieldsOf, readingOf, meant}
-use Rattle.message.specs.Claims.{lastOfAll}
 use Rattle.message.specs.declared.Reading.the-variants.{Whole}
 use Rattle.pieces.specs.Writable.{writable}
 
@@ -26,20 +18,3 @@ pub record ReadWhole (m : Message) : Type 0 where
 
 abbrev pub WrittenIsRead : Type 0
 WrittenIsRead = (m : Message) → writable m ≡ true → ReadWhole m
-
--- ---- "A partner's box sends one record as two record fields" (document 02, iv)
-
--- the message's fields, its record in some occurrences
-unfoldable pub splitItems : Message → List (List ℕ) → List Item
-splitItems m os =
-    num 1 (m .kind)
-    ∷ (single 2 (m .key) ++ (repeated 3 os ++ (repeated 8 (map encodePeer (m .closer)) ++ repeated 9 (map encodePeer (m .providers)))))
-
-unfoldable pub encodeSplit : Message → List (List ℕ) → List ℕ
-encodeSplit m os = written (splitItems m os)
-
--- whatever the occurrences are, each well formed by itself: the bytes mean the message whose record has the last key and the last value of all of them
-abbrev pub SplitIsRead : Type 0
-SplitIsRead =
-    (m : Message) → writable m ≡ true → (o : List ℕ) (os : List (List ℕ)) → every wellFormed (o ∷ os) ≡ true → m .held ≡ some (lastOfAll (o ∷ os))
-    → length (encodeSplit m (o ∷ os)) ≤ mostBody → decode (encodeSplit m (o ∷ os)) ≡ some m

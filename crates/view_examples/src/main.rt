@@ -1,5 +1,5 @@
-// Reads some of document 01's messages through their views, and writes a line for each: type, key and record's value. Then a view with other positions, and records
-// in two fields.
+// Reads some of document 01's messages through their views, and writes a line for each: type, key and record's value. Then a view with other positions, and
+// records in several fields.
 use message::Fields;
 use parts::Entry;
 use parts::Number;
@@ -81,6 +81,37 @@ fn tell_at(name: &[u8], body: &[u8], at: Fields) {
     say(b"\n");
 }
 
+// The parts of a body at the reader's positions.
+fn tell_parts(name: &[u8], body: &[u8]) {
+    tell_at(name, body, parts::positions(body));
+}
+
+// A record in several fields, read as though they stood one after another.
+fn split_records() {
+    tell_parts(
+        b"key, then value",
+        &[0x1A, 3, 0x0A, 1, b'A', 0x1A, 3, 0x12, 1, b'B'],
+    );
+    tell_parts(
+        b"value, then key",
+        &[0x1A, 3, 0x12, 1, b'B', 0x1A, 3, 0x0A, 1, b'A'],
+    );
+    tell_parts(b"key, then nothing", &[0x1A, 3, 0x0A, 1, b'A', 0x1A, 0]);
+    tell_parts(b"nothing at all", &[0x1A, 0]);
+    tell_parts(
+        b"key, then an empty key",
+        &[0x1A, 3, 0x0A, 1, b'A', 0x1A, 2, 0x0A, 0],
+    );
+    tell_parts(
+        b"key, a number 3, then value",
+        &[0x1A, 3, 0x0A, 1, b'A', 0x18, 7, 0x1A, 3, 0x12, 1, b'B'],
+    );
+    tell_parts(
+        b"well formed only if joined",
+        &[0x1A, 1, 0x0A, 0x1A, 2, 1, b'A'],
+    );
+}
+
 fn main() {
     let ask = [0x08, 4, 0x12, 2, b'A', b'B'];
     let put = [
@@ -101,31 +132,18 @@ fn main() {
         b'l',
     ];
     let reply = [0x08, 4, 0x42, 3, 0x0A, 1, b'p', 0x4A, 3, 0x0A, 1, b'q'];
-    let split = [0x1A, 3, 0x0A, 1, b'A', 0x1A, 3, 0x12, 1, b'B'];
-    let emptied = [0x1A, 3, 0x0A, 1, b'A', 0x1A, 2, 0x0A, 0];
-    let halves = [0x1A, 1, 0x0A, 0x1A, 2, 1, b'A'];
     tell(b"PING", &[0x08, 5]);
     tell(b"FIND_NODE", &ask);
     tell(b"PUT_VALUE", &put);
     tell(b"type 6", &[0x08, 6, 0x12, 2, b'A', b'B']);
     tell(b"a part past its end", &[0x08, 4, 0x12, 3, b'A', b'B']);
-    tell_at(b"FIND_NODE", &ask, parts::positions(&ask));
-    tell_at(b"PUT_VALUE", &put, parts::positions(&put));
-    tell_at(b"a reply", &reply, parts::positions(&reply));
+    tell_parts(b"FIND_NODE", &ask);
+    tell_parts(b"PUT_VALUE", &put);
+    tell_parts(b"a reply", &reply);
     tell_at(
         b"a reply at another's positions",
         &reply,
         parts::positions(&ask),
     );
-    tell_at(b"a record in two fields", &split, parts::positions(&split));
-    tell_at(
-        b"a later key that is empty",
-        &emptied,
-        parts::positions(&emptied),
-    );
-    tell_at(
-        b"well formed only if joined",
-        &halves,
-        parts::positions(&halves),
-    );
+    split_records();
 }

@@ -11,7 +11,7 @@ use lib.Dec.{leb, ltb, eqb}
 use borrow.Author.Tests.{le-leb, lt-leb, leb-true, leb-false}
 use Rattle.octets.specs.Search.{every}
 use Rattle.octets.proofs.Bools.{not-both}
-use Rattle.octets.proofs.Searching.{every-tail, every-append}
+use Rattle.octets.proofs.Searching.{every-tail}
 use Rattle.wire.specs.Wire.{before, varint, placed, varintAt, onVarint, endAt, onEnding, numberAt, fixedAt, bytesAt, contentAt, taggedAt, fieldAt, nextOf, fieldsAt, fields, fieldsIn, fine, well, spanIf, consFound, spans}
 use Rattle.wire.specs.Items.{cut, items, isField, parts}
 use Rattle.wire.specs.declared.Span.{Span}
@@ -27,7 +27,7 @@ use Rattle.wire.specs.declared.Found.{Found}
 use Rattle.wire.specs.declared.Found.the-variants.{At, Nothing}
 use Rattle.wire.proofs.Reach.{varint-reach, field-next}
 use Rattle.wire.proofs.Scan.{at-done, at-broken, at-on}
-use Rattle.wire.proofs.Within.{items-well, items-parts, in-well, in-parts}
+use Rattle.wire.proofs.Within.{items-well, items-parts, in-parts}
 
 -- ---- what was read stays as it is when more bytes follow
 abbrev SameVar : Varint → Varint → Type 0
@@ -227,13 +227,6 @@ module _ (a b : List ℕ) where
   fields-joined : well (fields a) ≡ true → fields (a ++ b) ≡ fieldsIn (a ++ b) first ++ fieldsIn (a ++ b) second
   unfolding fields
   fields-joined w = rw (in-first, in-second) (from-joined a b (length a) 0 (omega arith) (omega arith) w)
-
-  pub well-joined : every isField (items a) ≡ true → every isField (items b) ≡ true → every isField (items (a ++ b)) ≡ true
-  unfolding well
-  well-joined w v =
-      let x : well (fieldsIn (a ++ b) first) ≡ true = in-well (a ++ b) first (omega arith) (long a b) ∙ rw first-is w in
-      let y : well (fieldsIn (a ++ b) second) ≡ true = in-well (a ++ b) second (long a b) (omega arith) ∙ rw second-is v in
-      items-well (a ++ b) ∙ rw (fields-joined (sym (items-well a) ∙ w)) (every-append fine (fieldsIn (a ++ b) first) (fieldsIn (a ++ b) second) x y)
 
   pub parts-joined : every isField (items a) ≡ true → (f : ℕ) → parts f (items (a ++ b)) ≡ parts f (items a) ++ parts f (items b)
   parts-joined w f =

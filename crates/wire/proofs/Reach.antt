@@ -155,7 +155,7 @@ abbrev pub AllInside : ℕ → ℕ → List Span → Type 0
 AllInside lo hi [] = Unit {0}
 AllInside lo hi (p ∷ l) = Inside lo hi p × AllInside lo hi l
 
-earlier : (lo lo′ hi : ℕ) (l : List Span) → lo′ ≤ lo → AllInside lo hi l → AllInside lo′ hi l
+pub earlier : (lo lo′ hi : ℕ) (l : List Span) → lo′ ≤ lo → AllInside lo hi l → AllInside lo′ hi l
 earlier lo lo′ hi [] h a = tt
 earlier lo lo′ hi (p ∷ l) h a = (record { starts = omega (arith, a .0 .starts); ordered = a .0 .ordered; ends = a .0 .ends }, earlier lo lo′ hi l h (a .1))
 

@@ -4,10 +4,11 @@ use crate::answer::Answer;
 use crate::calls::Call;
 use crate::twin::Twin;
 use starterbell_model::contacts;
+use starterbell_model::message::{self, View};
 use starterbell_model::node::Side;
 use starterbell_model::records;
 use starterbell_model::steps::Step;
-use starterbell_model::wire::{fields, spans, Span};
+use starterbell_model::wire::{fields, read_varint, Span};
 use std::collections::BTreeMap;
 
 /// Each entry point, with the numbers that document 01 and the comments of crates/host allow it; `receive` by the connection's side.
@@ -34,7 +35,7 @@ const REACHABLE: [(&str, &[u32]); 19] = [
 ];
 
 /// Beside the numbers: what a long run has to meet too.
-const MET: [&str; 27] = [
+const MET: [&str; 30] = [
     "receive: the sender moved",
     "receive: the sender joined",
     "receive: the sender's bucket is full",
@@ -50,7 +51,10 @@ const MET: [&str; 27] = [
     "reply to PING",
     "reply of 14,000 bytes or more",
     "reply by a box with odd addresses",
+    "receive: a put in two record fields is taken",
     "reply: 0 for the view",
+    "reply: 0 for a view of the last record field alone",
+    "reply: the view of a record in two fields is taken",
     "reply: 0 for the lookup",
     "reply: 256 candidates",
     "seen: 20 in the bucket of a joined one",
@@ -118,11 +122,8 @@ impl Coverage {
     fn note(&mut self, twin: &Twin, call: &Call, answer: &Answer) {
         let world = &twin.world;
         match &call.step {
-            Step::Receive { line, .. } => self.note_receive(twin, *line, answer),
-            Step::Reply { lookup, .. } if answer.code == 0 => {
-                self.meet(if world.lookups[*lookup].in_form() { "reply: 0 for the view" } else { "reply: 0 for the lookup" })
-            }
-            Step::Reply { lookup, .. } if answer.code >= 64 && world.lookups[*lookup].candidates.len() == 256 => self.meet("reply: 256 candidates"),
+            Step::Receive { line, piece } => self.note_receive(twin, *line, piece, answer),
+            Step::Reply { lookup, body, view, .. } => self.note_heard(twin, *lookup, body, view, answer),
             Step::Seen { .. } if answer.code == 65 && world.contacts[616 * answer.numbers[0] as usize] == 20 => {
                 self.meet("seen: 20 in the bucket of a joined one")
             }
@@ -137,21 +138,33 @@ impl Coverage {
     }
 
     fn note_read(&mut self, body: &[u8], answer: &Answer) {
-        let whole = |bytes: &[u8]| fields(bytes, Span { at: 0, len: bytes.len() });
-        let occurrences = whole(body).map(|outer| spans(&outer, 3)).unwrap_or_default();
-        if answer.code == 64 {
-            let holder = |at: u64| occurrences.iter().position(|o| o.at <= at as usize && at as usize <= o.end());
-            if matches!((holder(answer.numbers[4]), holder(answer.numbers[6])), (Some(key), Some(value)) if key != value) {
-                self.meet("read: a record's key and value from two fields");
-            }
+        if is_split(body) && answer.code == 64 {
+            self.meet("read: a record's key and value from two fields");
         }
+        let occurrences = message::occurrences(body);
         let joined = occurrences.iter().flat_map(|o| o.of(body)).copied().collect::<Vec<u8>>();
-        if answer.code == 5 && whole(&joined).is_some() && occurrences.iter().any(|o| fields(body, *o).is_none()) {
+        let apart = occurrences.iter().all(|o| fields(body, *o).is_some());
+        if answer.code == 5 && !apart && fields(&joined, Span { at: 0, len: joined.len() }).is_some() {
             self.meet("read: 5 for a record that is well formed only if joined");
         }
     }
 
-    fn note_receive(&mut self, twin: &Twin, line: usize, answer: &Answer) {
+    fn note_heard(&mut self, twin: &Twin, lookup: usize, body: &[u8], view: &View, answer: &Answer) {
+        let lookup = &twin.world.lookups[lookup];
+        let last = message::occurrences(body).last().and_then(|last| message::record_view(body, &[*last]));
+        match answer.code {
+            0 if !lookup.in_form() => self.meet("reply: 0 for the lookup"),
+            0 if message::read(body).is_ok_and(|read| *view == View { record: last, ..read }) => {
+                self.meet("reply: 0 for a view of the last record field alone")
+            }
+            0 => self.meet("reply: 0 for the view"),
+            64.. if lookup.candidates.len() == 256 => self.meet("reply: 256 candidates"),
+            64.. if is_split(body) => self.meet("reply: the view of a record in two fields is taken"),
+            _ => {}
+        }
+    }
+
+    fn note_receive(&mut self, twin: &Twin, line: usize, piece: &[u8], answer: &Answer) {
         let world = &twin.world;
         if answer.code == 0 {
             let contacts_fit = contacts::in_form(&world.contacts, &world.me.place);
@@ -169,6 +182,12 @@ impl Coverage {
         }
         if answer.code == 65 {
             self.note_reply(twin, answer);
+            // a put that the piece has whole, from its prefix on
+            let whole = read_varint(piece, 0, piece.len()).filter(|(n, at)| at + *n as usize == answer.numbers[0] as usize);
+            let body = whole.map(|(n, at)| &piece[at..at + n as usize]).unwrap_or_default();
+            if is_split(body) && message::read(body).is_ok_and(|view| view.kind == message::PUT_VALUE) {
+                self.meet("receive: a put in two record fields is taken");
+            }
         }
     }
 
@@ -230,6 +249,13 @@ impl Coverage {
         }
         println!("streams cut in other ways: {}", self.cuttings);
     }
+}
+
+/// Whether a body reads, and its record's key and value are in different occurrences.
+fn is_split(body: &[u8]) -> bool {
+    let holder = |at: usize| message::occurrences(body).iter().position(|o| o.at <= at && at <= o.end());
+    let record = message::read(body).ok().and_then(|view| view.record);
+    record.is_some_and(|r| matches!((holder(r.key.at), holder(r.value.at)), (Some(key), Some(value)) if key != value))
 }
 
 fn title(code: u32) -> String {

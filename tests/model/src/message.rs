@@ -65,8 +65,16 @@ fn last_number(fields: &[Field], number: u64) -> u64 {
     numbers(fields, number).last().copied().unwrap_or(0)
 }
 
+/// The number of the record's field.
+const RECORD: u64 = 3;
+
+/// Where the record's occurrences are, in a body whose fields are well formed.
+pub fn occurrences(body: &[u8]) -> Vec<Span> {
+    fields(body, Span { at: 0, len: body.len() }).map(|outer| spans(&outer, RECORD)).unwrap_or_default()
+}
+
 /// "Read the record as though all its occurrences stood one after another. [..] Each occurrence must still be well formed by itself, else 5."
-fn record_view(body: &[u8], occurrences: &[Span]) -> Option<RecordView> {
+pub fn record_view(body: &[u8], occurrences: &[Span]) -> Option<RecordView> {
     let mut inside = Vec::new();
     for occurrence in occurrences {
         inside.extend(fields(body, *occurrence)?);
@@ -91,7 +99,7 @@ struct Parsed {
 fn parse(body: &[u8]) -> Option<Parsed> {
     let outer = fields(body, Span { at: 0, len: body.len() })?;
     let all_peers = |number| spans(&outer, number).into_iter().map(|entry| peer_view(body, entry)).collect::<Option<Vec<_>>>();
-    let occurrences = spans(&outer, 3);
+    let occurrences = spans(&outer, RECORD);
     let merged = record_view(body, &occurrences)?;
     Some(Parsed {
         view: View { kind: last_number(&outer, 1), key: last_span(&outer, 2), record: (!occurrences.is_empty()).then_some(merged) },

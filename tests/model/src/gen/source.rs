@@ -234,12 +234,17 @@ impl Source {
         if self.rng.one_in(12) {
             m.kind = self.rng.below(6) as u64;
         }
+        if self.rng.one_in(6) {
+            m.record = message(&mut self.rng).record;
+        }
         let body = if self.rng.one_in(3) { loose_body(&mut self.rng, &m) } else { encode(&m) };
         let mut view = message::read(&body).unwrap_or(View { kind: 4, key: Span::default(), record: None });
         match self.rng.below(60) {
             0 => view.kind = self.rng.below(7) as u64,
             1 => view.key = Span { at: self.rng.below(9), len: self.rng.below(3) },
             2 => view.record = Some(message::RecordView { key: Span::default(), value: Span::default() }),
+            // the last occurrence of the record alone, as though it were all of it
+            3..=9 => view.record = message::occurrences(&body).last().and_then(|last| message::record_view(&body, &[*last])),
             _ => {}
         }
         Step::Reply { lookup, sender, body, view }
