@@ -1,6 +1,6 @@
 //! What the calls came to: how often each entry point gave each number, and what has to come up in a run that is long enough.
 
-use crate::answer::Answer;
+use crate::answer::{view_numbers, Answer};
 use crate::calls::Call;
 use crate::twin::Twin;
 use starterbell_model::contacts;
@@ -123,7 +123,7 @@ impl Coverage {
         let world = &twin.world;
         match &call.step {
             Step::Receive { line, piece } => self.note_receive(twin, *line, piece, answer),
-            Step::Reply { lookup, body, view, .. } => self.note_heard(twin, *lookup, body, view, answer),
+            Step::Reply { lookup, body, .. } => self.note_heard(twin, *lookup, body, &call.view, answer),
             Step::Seen { .. } if answer.code == 65 && world.contacts[616 * answer.numbers[0] as usize] == 20 => {
                 self.meet("seen: 20 in the bucket of a joined one")
             }
@@ -149,12 +149,12 @@ impl Coverage {
         }
     }
 
-    fn note_heard(&mut self, twin: &Twin, lookup: usize, body: &[u8], view: &View, answer: &Answer) {
+    fn note_heard(&mut self, twin: &Twin, lookup: usize, body: &[u8], view: &[u64], answer: &Answer) {
         let lookup = &twin.world.lookups[lookup];
         let last = message::occurrences(body).last().and_then(|last| message::record_view(body, &[*last]));
         match answer.code {
             0 if !lookup.in_form() => self.meet("reply: 0 for the lookup"),
-            0 if message::read(body).is_ok_and(|read| *view == View { record: last, ..read }) => {
+            0 if message::read(body).is_ok_and(|read| view == view_numbers(&View { record: last, ..read })) => {
                 self.meet("reply: 0 for a view of the last record field alone")
             }
             0 => self.meet("reply: 0 for the view"),
