@@ -183,8 +183,11 @@ impl Coverage {
         if answer.code == 65 {
             self.note_reply(twin, answer);
             // a put that the piece has whole, from its prefix on
-            let whole = read_varint(piece, 0, piece.len()).filter(|(n, at)| at + *n as usize == answer.numbers[0] as usize);
-            let body = whole.map(|(n, at)| &piece[at..at + n as usize]).unwrap_or_default();
+            let taken = &piece[..answer.numbers[0] as usize];
+            let body = match read_varint(piece, 0, piece.len()) {
+                Some((n, at)) if at <= taken.len() && n == (taken.len() - at) as u64 => &taken[at..],
+                _ => &[],
+            };
             if is_split(body) && message::read(body).is_ok_and(|view| view.kind == message::PUT_VALUE) {
                 self.meet("receive: a put in two record fields is taken");
             }
