@@ -86,14 +86,15 @@ fn varint(s: &[u8]) -> Option<(u32, &[u8])> {
 }
 
 fn is_list(mut s: &[u8], count: usize) -> bool {
-    let mut last = None;
+    let mut before: Option<(u32, i32)> = None;
     for _ in 0..count {
         let Some((turn, rest)) = varint(s) else { return false };
-        let Some((trim, rest)) = varint(rest) else { return false };
-        if turn > 1_000_000 || trim > 40_000 || last.is_some_and(|last| turn <= last) {
+        let Some((zigzag, rest)) = varint(rest) else { return false };
+        let trim = (zigzag >> 1) as i32 ^ -((zigzag & 1) as i32);
+        if turn > 1_000_000 || zigzag > 40_000 || before.is_some_and(|(last, level)| turn <= last || trim.abs_diff(level) > 5_000) {
             return false;
         }
-        last = Some(turn);
+        before = Some((turn, trim));
         s = rest;
     }
     s.is_empty()

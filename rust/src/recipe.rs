@@ -21,6 +21,9 @@ use alloc::vec::Vec;
 /// The bytes of a trailer.
 const TRAILER: usize = 16;
 
+/// By how much the trims of neighbouring setpoints may differ, in millinewtons.
+pub const MOST_STEP: u32 = 5_000;
+
 /// At this turn, pull so much more or less.
 #[derive(Clone, Copy, Debug, PartialEq, Eq)]
 pub struct Setpoint {
@@ -35,13 +38,30 @@ pub struct Setpoint {
 pub struct Recipe {
     /// Bytes that the box doesn't read.
     pub note: Vec<u8>,
-    /// At most 200, with rising turns.
+    /// At most 200, with rising turns, and trims of which neighbours differ by at most [`MOST_STEP`].
     pub setpoints: Vec<Setpoint>,
     /// Its version: of two recipes under one key the higher one is kept.
     pub sequence: u64,
 }
 
 impl Recipe {
+    /// Which setpoint leaps: the first whose trim differs from that of the one before it by more than [`MOST_STEP`].
+    ///
+    /// ```
+    /// use starterbell::recipe::{Recipe, Setpoint};
+    /// use starterbell::Refusal;
+    ///
+    /// let trims = [0, 2_000, 11_000, 9_000];
+    /// let setpoints = trims.iter().zip(0..).map(|(&trim, turn)| Setpoint { turn, trim }).collect();
+    /// let recipe = Recipe { note: b"silver wrap".to_vec(), setpoints, sequence: 1 };
+    /// assert_eq!(recipe.to_value(), Err(Refusal::BrokenRecipe));
+    /// assert_eq!(recipe.leap(), Some(2), "9 newtons more than at the turn before");
+    /// ```
+    pub fn leap(&self) -> Option<usize> {
+        let before = self.setpoints.windows(2).position(|two| two[0].trim.abs_diff(two[1].trim) > MOST_STEP)?;
+        Some(before + 1)
+    }
+
     /// The value to put under its key. Refused where it is no recipe that the box takes.
     pub fn to_value(&self) -> Result<Vec<u8>, Refusal> {
         let mut value = self.note.clone();
@@ -58,7 +78,7 @@ impl Recipe {
         Ok(value)
     }
 
-    /// The recipe that a value is.
+    /// The recipe that a value is. Refused where it is none, as one may be that is held from before a rule; its bytes are still what a box finds and serves.
     pub fn from_value(value: &[u8]) -> Result<Recipe, Refusal> {
         check(value)?;
         let (body, trailer) = value.split_at(value.len() - TRAILER);

@@ -1,7 +1,7 @@
 //! Connections: requests and their replies, cut anywhere.
 
 use starterbell::message::{Draft, Kind, Message};
-use starterbell::recipe::Recipe;
+use starterbell::recipe::{Recipe, Setpoint};
 use starterbell::{Event, Mode, Node, Peer, Refusal, Room, Seen, Side};
 
 fn bench() -> Node {
@@ -233,6 +233,39 @@ fn a_record_in_two_fields_is_judged_by_the_last_of_each() {
             assert_eq!(told([&bytes[..cut], &bytes[cut..]]), (vec![], Err(refusal), None), "{put:?} cut at {cut}");
         }
     }
+}
+
+/// A recipe that jumped 9 newtons snapped silver wrap: it is refused on the screen and from a peer, and the one that is held stays the one found.
+#[test]
+fn a_leap_is_refused_typed_and_sent() {
+    let trims = [0, 2_000, 4_000];
+    let setpoints = trims.iter().zip(0..).map(|(&trim, turn)| Setpoint { turn, trim }).collect();
+    let held = Recipe { note: b"silver".to_vec(), setpoints, sequence: 4 };
+    let value = held.to_value().expect("a recipe");
+    let mut node = bench();
+    assert_eq!(node.put(KEY, &value), Ok(()));
+    // the newer version on the screen
+    let mut newer = Recipe { sequence: 5, ..held };
+    newer.setpoints[2].trim = 11_000;
+    assert_eq!((newer.to_value().err(), newer.leap()), (Some(Refusal::BrokenRecipe), Some(2)));
+    // a host that has no `Recipe` puts its bytes: zigzag 4,000 (A0 1F) and 22,000 (F0 AB 01)
+    let leaper = [b"silver\x00\x00\x01\xa0\x1f\x02\xf0\xab\x01".as_slice(), &[25, 0, 0, 0, 3, 0, 1, 0, 5, 0, 0, 0, 0, 0, 0, 0]].concat();
+    assert_eq!(node.put(KEY, &leaper), Err(Refusal::BrokenRecipe));
+    let request = Draft::put_value(KEY, &leaper).to_vec().expect("within the limits");
+    for size in 1..=request.len() {
+        let mut connection = node.accept(Peer::server(b"asker", &[])).expect("a good id");
+        let fed = request.chunks(size).try_for_each(|piece| node.feed(&mut connection, piece, |_, received| panic!("{:?}", received.event)));
+        assert_eq!((fed, connection.is_shut()), (Err(Refusal::BrokenRecipe), true), "pieces of {size}");
+        assert_eq!(node.find(KEY), Ok(Some(&value[..])));
+    }
+    let mut found = None;
+    let mut connection = node.accept(Peer::client(b"asker", &[])).expect("a good id");
+    let asked = Draft::get_value(KEY).to_vec().expect("short");
+    let fed = node.feed(&mut connection, &asked, |_, received| {
+        let Event::Reply(reply) = received.event else { panic!("{:?} on the serving side", received.event) };
+        found = Message::read(&reply[2..]).expect("a length of two bytes").record().map(|record| record.value.to_vec());
+    });
+    assert_eq!((fed, found), (Ok(()), Some(value)));
 }
 
 /// Numbers that look random, the same in every run.

@@ -11,7 +11,7 @@ fn recipe(setpoints: &[(u32, i32)]) -> Recipe {
 #[test]
 fn there_and_back() {
     let most = (0..200).map(|n| (n * 5_025, n as i32 * 201 - 20_000)).collect::<Vec<_>>();
-    let lists: [&[(u32, i32)]; 5] = [&[], &[(0, -1)], &[(127, 0), (128, 1), (16_384, -64)], &[(0, -20_000), (1_000_000, 20_000)], &most];
+    let lists: [&[(u32, i32)]; 5] = [&[], &[(0, -1)], &[(127, 0), (128, 1), (16_384, -64)], &[(0, 20_000), (1_000_000, 15_000)], &most];
     for list in lists {
         let recipe = recipe(list);
         let value = recipe.to_value().expect("within the limits");
@@ -40,6 +40,53 @@ fn what_is_no_recipe_is_refused() {
     assert_eq!(Recipe { note: vec![0; 2_033], ..Recipe::default() }.to_value(), Err(Refusal::BrokenRecipe));
     assert!(Recipe { note: vec![0; 2_032], ..Recipe::default() }.to_value().is_ok());
     assert_eq!(check(&[]), Err(Refusal::BrokenRecipe));
+}
+
+#[test]
+fn leaps_are_refused_and_named() {
+    let lists: [(&[i32], Option<usize>); 10] = [
+        (&[20_000], None),
+        (&[-2_500, 2_500, -2_500], None),
+        (&[0, 5_000, 10_000, 15_000, 20_000], None),
+        (&[0, 5_001], Some(1)),
+        (&[0, -5_001], Some(1)),
+        (&[2_501, -2_500], Some(1)),
+        (&[-20_000, 20_000], Some(1)),
+        (&[0, 5_000, -1], Some(2)),
+        (&[0, 5_000, 5_000, 10_001, 20_000], Some(3)),
+        (&[i32::MIN, i32::MAX], Some(1)),
+    ];
+    for (trims, leap) in lists {
+        let recipe = recipe(&(0..).zip(trims.iter().copied()).collect::<Vec<_>>());
+        assert_eq!(recipe.leap(), leap, "{trims:?}");
+        assert_eq!(recipe.to_value().err(), leap.map(|_| Refusal::BrokenRecipe), "{trims:?}");
+    }
+}
+
+/// What `leap` says is what the proved check says, on lists that break no other rule.
+#[test]
+fn leaps_are_those_of_the_check() {
+    let mut seed = 1u64;
+    let mut below = |n: u64| {
+        seed = seed.wrapping_mul(6_364_136_223_846_793_005).wrapping_add(1_442_695_040_888_963_407);
+        (seed >> 33) % n
+    };
+    let mut leapt = 0;
+    for _ in 0..20_000 {
+        let mut trim = below(40_001) as i32 - 20_000;
+        let step = |by: u64| if by % 2 == 0 { 4_999 + by as i32 % 3 } else { -4_999 - by as i32 % 3 };
+        let list: Vec<_> = (0..1 + below(4) as u32)
+            .map(|turn| {
+                let here = (turn, trim);
+                trim = (trim + step(below(6))).clamp(-20_000, 20_000);
+                here
+            })
+            .collect();
+        let recipe = recipe(&list);
+        assert_eq!(recipe.leap().is_some(), recipe.to_value().is_err(), "{list:?}");
+        leapt += usize::from(recipe.leap().is_some());
+    }
+    assert!((2_000..18_000).contains(&leapt), "{leapt}");
 }
 
 #[test]

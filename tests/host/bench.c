@@ -1,4 +1,4 @@
-/* bench: document 01's bench examples, played through the functions that include/starterbell.h declares, as the host of a box would call them. It ends with
+/* bench: document 01's bench examples and a recipe that leaps (document 02, ix), played through the functions that include/starterbell.h declares, as the host of a box would call them. It ends with
    status 0 and a line of what was played, or at the first difference with status 1 and a line that says it.
 
    It is example code too. A host lends a box all of its memory, so everything here is static: nothing is allocated, and the functions keep nothing. Read `struct
@@ -207,6 +207,72 @@ static void play_values(void) {
         expect("GET_VALUE", serve(&box, &client, get_value, sizeof get_value, cuts[i], &sent), STARTERBELL_RECEIVE_MORE);
         expect_bytes("the reply to GET_VALUE", sent.bytes, sent.length, got_value, sizeof got_value);
     }
+}
+
+/* ---- A recipe that jumps 9 newtons */
+
+/* Trims 0 and 5,000, sequence 7; 0 and 5,001, sequence 8; 0 and 9,000, sequence 8. */
+static const uint8_t level[] = {0x00, 0x00, 0x01, 0x90, 0x4e, 0x15, 0x00, 0x00, 0x00, 0x02, 0x00, 0x01, 0x00, 0x07, 0x00, 0x00, 0x00, 0x00, 0x00, 0x00, 0x00};
+static const uint8_t over[] = {0x00, 0x00, 0x01, 0x92, 0x4e, 0x15, 0x00, 0x00, 0x00, 0x02, 0x00, 0x01, 0x00, 0x08, 0x00, 0x00, 0x00, 0x00, 0x00, 0x00, 0x00};
+static const uint8_t leaper[] = {0x00, 0x00, 0x01, 0xd0, 0x8c, 0x01, 0x16, 0x00, 0x00, 0x00, 0x02, 0x00, 0x01, 0x00, 0x08, 0x00, 0x00, 0x00, 0x00, 0x00, 0x00, 0x00};
+
+/* A peer's PUT_VALUE of a value under the key, on a new connection. */
+static uint32_t send_put(const uint8_t *value, size_t length, size_t cut) {
+    static uint8_t message[STARTERBELL_REPLY_BUFFER];
+    uint64_t written[STARTERBELL_WRITE_OUT];
+    expect("writing a PUT_VALUE", starterbell_write(message, sizeof message, 0, key, sizeof key, 1, key, sizeof key, value, length, none, 0, none, 0, written, 1),
+        STARTERBELL_DONE);
+    open_to(&box, &client, "a client", 0, 0);
+    return serve(&box, &client, message, (size_t)written[0], cut, &sent);
+}
+
+/* The value under the key is this one, as find and as a GET_VALUE on a new connection have it. */
+static void expect_held(const char *what, const uint8_t *value, size_t length) {
+    static const uint8_t get_value[] = {0x0b, 0x08, 0x01, 0x12, 0x07, '/', 'w', 'i', 'n', 'd', '/', 'a'};
+    uint64_t at[STARTERBELL_FIND_OUT], view[STARTERBELL_VIEW];
+    expect(what, starterbell_find(box.records, sizeof box.records, key, sizeof key, at, 2), STARTERBELL_FIND_HELD);
+    expect_bytes(what, box.records + at[0], (size_t)(at[1] - at[0]), value, length);
+    open_to(&box, &client, "a client", 0, 0);
+    expect(what, serve(&box, &client, get_value, sizeof get_value, 5, &sent), STARTERBELL_RECEIVE_MORE);
+    expect(what, starterbell_read(sent.bytes + 1, sent.length - 1, view, STARTERBELL_VIEW), STARTERBELL_DONE);
+    expect_bytes(what, sent.bytes + 1 + view[6], (size_t)(view[7] - view[6]), value, length);
+}
+
+/* It is refused on the screen and from a peer, however its bytes are cut, and the recipe that was held stays the one found. */
+static void play_leap(void) {
+    size_t cut;
+    start(&box, "our box", "here");
+    expect("trims 0 and 5,000", put(level, sizeof level), STARTERBELL_DONE);
+    expect("trims 0 and 5,001", put(over, sizeof over), STARTERBELL_REFUSAL_BROKEN_RECIPE);
+    expect("trims 0 and 9,000", put(leaper, sizeof leaper), STARTERBELL_REFUSAL_BROKEN_RECIPE);
+    expect_held("after a leap on the screen", level, sizeof level);
+    for (cut = 1; cut < 64; cut++) {
+        expect("a leap from a peer", send_put(leaper, sizeof leaper, cut), STARTERBELL_REFUSAL_BROKEN_RECIPE);
+        expect("the reply to it", sent.length, 0);
+        expect("its connection", end_of(&box, &client), STARTERBELL_REFUSAL_SHUT);
+        expect_held("after a leap from a peer", level, sizeof level);
+    }
+}
+
+/* A leaper that is held from before the rule: found and served, ranked, and not taken again. Its slot is laid out by hand: the length of the key, a zero, the length
+   of the value in two bytes, four zeros, room for a key, the value. */
+static void play_held_leap(void) {
+    uint8_t higher[sizeof level];
+    start(&box, "our box", "here");
+    box.records[0] = sizeof key;
+    box.records[2] = sizeof leaper;
+    memcpy(box.records + 8, key, sizeof key);
+    memcpy(box.records + 8 + 128, leaper, sizeof leaper);
+    expect_held("a leaper from before", leaper, sizeof leaper);
+    expect("its own bytes on the screen", put(leaper, sizeof leaper), STARTERBELL_REFUSAL_BROKEN_RECIPE);
+    expect("its own bytes from a peer", send_put(leaper, sizeof leaper, 7), STARTERBELL_REFUSAL_BROKEN_RECIPE);
+    expect("a recipe that ranks lower", put(level, sizeof level), STARTERBELL_REFUSAL_OUTRANKED);
+    expect("a recipe that ranks lower, from a peer", send_put(level, sizeof level, 7), STARTERBELL_REFUSAL_OUTRANKED);
+    expect_held("a leaper that was offered others", leaper, sizeof leaper);
+    memcpy(higher, level, sizeof level);
+    higher[13] = 9;
+    expect("a recipe that ranks higher", send_put(higher, sizeof higher, 7), STARTERBELL_RECEIVE_MORE);
+    expect_held("after a recipe that ranks higher", higher, sizeof higher);
 }
 
 /* ---- Contacts */
@@ -459,12 +525,14 @@ int main(void) {
     play_prefixes();
     play_recipes();
     play_values();
+    play_leap();
+    play_held_leap();
     play_bucket();
     play_sighting();
     play_lookup();
     /* "256 candidates: a 257th marks" */
     play_crowd(236, STARTERBELL_LOOKUP_COMPLETE);
     play_crowd(237, STARTERBELL_LOOKUP_CUT_SHORT);
-    printf("document 01's bench examples and a lookup over a loop of %d boxes, through the C header: %u comparisons\n", WORKSHOPS, compared);
+    printf("document 01's bench examples, a recipe that leaps and a lookup over a loop of %d boxes, through the C header: %u comparisons\n", WORKSHOPS, compared);
     return 0;
 }

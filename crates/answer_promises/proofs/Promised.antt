@@ -11,9 +11,10 @@ use lib.Dec.{leb, ltb, eqb}
 use borrow.Author.Tests.{le-leb, leb-true, le-ltb}
 use Rattle.octets.specs.Octets.{part, same}
 use Rattle.octets.specs.Search.{every}
-use Rattle.octets.proofs.Bools.{cond-ind, and-r, all-none, all-one-more}
+use Rattle.octets.proofs.Bools.{cond-ind, and-i, and-r, all-none, all-one-more}
 use Rattle.octets.proofs.Searching.{every-nil, every-cons, every-head, every-tail, every-append}
 use Rattle.octets.proofs.Stores.{drop-sets, part-sets}
+use Rattle.octets.proofs.Strings.{same-yes}
 use Rattle.place.specs.Place.{placeOf}
 use Rattle.contacts.specs.Table.{slot}
 use Rattle.contacts.specs.Near.{nearestSlots}
@@ -24,12 +25,15 @@ use Rattle.peer.specs.Addresses.{idRoom, addressRoom, mostAddresses, keptOf}
 use Rattle.peer.specs.Peers.{idFits}
 use Rattle.peer.proofs.Lists.{isUsable, size-most, kept-few, kept-usable}
 use Rattle.peer.proofs.Meaning.{id-whole, addresses-said}
-use Rattle.records.specs.Store.{inForm, found, offerAnswer, offerAfter}
+use Rattle.records.specs.Store.{inForm, found, offerAnswer, offerAfter, putAnswer, putAfter as storePutAfter}
 use Rattle.records.specs.declared.Answer as stored
 use Rattle.records.specs.declared.Answer.the-variants as store
 use Rattle.records.specs.declared.Found.{Found}
 use Rattle.records.specs.declared.Found.the-variants as looked
-use Rattle.records_history.proofs.Stays.{offer-form}
+use Rattle.record_slots.proofs.Laying.{key-least, key-most}
+use Rattle.records_history.specs.History.{Has, got, taken}
+use Rattle.records_history.proofs.Stays.{offer-form, put-is, put-refused}
+use Rattle.records_history.proofs.Holding.{held-key, held-found}
 use Rattle.wire.specs.Items.{num, minimal, written, written1, single, repeated}
 use Rattle.wire_put.proofs.Digits.{minimal-one, minimal-three}
 use Rattle.wire_put.proofs.Putting.{number-length, single-full, bytes-short}
@@ -44,9 +48,9 @@ use Rattle.message.proofs.Meaning.{kind-meant}
 use Rattle.round_trip.proofs.RoundTrip.{round-trip}
 use Rattle.replies.specs.Replies.{putValue, getValue, findNode, ping, closerPeers, listed, lastEntry, findNodeReply, recordAt, getValueReply, putValueReply, pingReply}
 use Rattle.entries.specs.Entries.{contactEntry, peerEntry}
-use Rattle.replies.specs.Verdicts.{Verdict, replies, refuses, keyFits, keyed, echoed, putVerdict, putAfter, Dealt, refused, replied, byVerdict}
+use Rattle.replies.specs.Verdicts.{Verdict, replies, refuses, keyFits, keyed, echoed, putVerdict, putAfter, Dealt, refused, replied, byVerdict, toldOf}
 use Rattle.answer.specs.Answers.{verdictOf, recordsAfter, byReading, dealOf}
-use Rattle.answer_promises.specs.Promises.{RefusedChangesNothing, ReadsBack, Roomed, RepliesReadBack, AnsweredByFields, EntryIsPeer, RecordsStayInForm}
+use Rattle.answer_promises.specs.Promises.{RefusedChangesNothing, ReadsBack, Roomed, RepliesReadBack, AnsweredByFields, SentAsTyped, HeldIsServed, EntryIsPeer, RecordsStayInForm}
 use Rattle.replies.specs.declared.Answered.the-variants.{Reply, Refused}
 use Rattle.entries.proofs.Entries.{own-fits, id-most}
 use Rattle.replies.proofs.Runs.{entries-fit}
@@ -275,3 +279,64 @@ module _ (me who : peers.Peer) (t k y : List ℕ) where
 
 pub answered-by-fields : (me : peers.Peer) → AnsweredByFields me
 answered-by-fields me who a b la lb e t k y = decoded me who t k y a la ∙ ap (byDecoding me who t k y) e ∙ sym (decoded me who t k y b lb)
+
+-- ---- puts that are sent, and values that are asked for
+module _ (me who : peers.Peer) (t k y : List ℕ) (body : List ℕ) (l : length body ≤ mostBody) (m : Message) (d : decode body ≡ some m) where
+  by-type : ltb mostKind (m .kind) ≡ false → dealOf me who body t k y ≡ byVerdict (verdictOf me who m t k) k (recordsAfter m k) y
+  unfolding byDecoding
+  by-type e = decoded me who t k y body l ∙ ap (byDecoding me who t k y) d ∙ rw e refl
+
+  by-put : m .kind ≡ putValue → (r : Record) → m .held ≡ some r → r .key ≡ m .key
+      → dealOf me who body t k y ≡ byVerdict (echoed (offerAnswer k (m .key) (r .value)) (putValueReply (m .key) (r .value))) k (offerAfter k (m .key) (r .value)) y
+  unfolding verdictOf recordsAfter putVerdict putAfter
+  by-put e r h q = by-type (ap (ltb mostKind) e) ∙ rw (e, h, same-yes (r .key) (m .key) q) refl
+
+  by-get : m .kind ≡ getValue → keyFits (m .key) ≡ true → dealOf me who body t k y ≡ replied (getValueReply t k (m .key)) k y
+  unfolding verdictOf recordsAfter keyed
+  by-get e f = by-type (ap (ltb mostKind) e) ∙ rw (e, f) refl
+
+-- an echo, or the refusal, and the records of it
+echo-told : (a : stored.Answer) (m : Message) (k after y : List ℕ) → byVerdict (echoed a m) k after y .told ≡ toldOf (echoed a m)
+echo-told store.Taken m k after y = refl
+echo-told (store.Refused r) m k after y = refl
+
+echo-records : (a : stored.Answer) (m : Message) (k after y : List ℕ) → (taken a ≡ false → after ≡ k) → byVerdict (echoed a m) k after y .records ≡ after
+unfolding taken
+echo-records store.Taken m k after y h = refl
+echo-records (store.Refused r) m k after y h = sym (h refl)
+
+pub sent-as-typed : (me : peers.Peer) → SentAsTyped me
+sent-as-typed me who body t k y m r l d e h q form = (
+  ap (λ (x : Dealt). x .told) same-deal ∙ echo-told (putAnswer k (m .key) (r .value)) says k after y,
+  ap (λ (x : Dealt). x .records) same-deal ∙ echo-records (putAnswer k (m .key) (r .value)) says k after y (put-refused k (m .key) (r .value)),
+)
+  where
+    says : Message
+    says = putValueReply (m .key) (r .value)
+
+    after : List ℕ
+    after = storePutAfter k (m .key) (r .value)
+
+    same-deal : dealOf me who body t k y ≡ byVerdict (echoed (putAnswer k (m .key) (r .value)) says) k after y
+    same-deal =
+        by-put me who t k y body l m d e r h q
+        ∙ sym (ap₂ (λ (a : stored.Answer) (x : List ℕ). byVerdict (echoed a says) k x y) (put-is k (m .key) (r .value) form .0) (put-is k (m .key) (r .value) form .1))
+
+record-held : (t k key u : List ℕ) → got k key ≡ Has u → getValueReply t k key .held ≡ some (record { key = key; value = u })
+unfolding getValueReply
+record-held t k key u g = let f = held-found k key u g in rw (f .2, f .3) refl
+
+pub held-is-served : (me : peers.Peer) → HeldIsServed me
+unfolding keyFits
+held-is-served me who body t k y u m l d e form g room =
+    let n = held-key k (m .key) u g form in
+    let fits : keyFits (m .key) ≡ true = and-i (leb 1 (length (m .key))) _ (le-leb 1 (length (m .key)) (omega (arith, key-least (m .key) n))) (le-leb (length (m .key)) mostKey (key-most (m .key) n)) in
+    let b = replied-back (getValueReply t k (m .key)) k y (length (frame (encode (getValueReply t k (m .key))))) (good-get t k (m .key) (key-most (m .key) n)) room refl in
+    rw (by-get me who t k y body l m d e fits) (record {
+      size = length (frame (encode (getValueReply t k (m .key))));
+      says = getValueReply t k (m .key);
+      told = refl;
+      stands = b .stands;
+      back = b .back;
+      held = record-held t k (m .key) u g;
+    })

@@ -10,11 +10,13 @@ use Rattle.contacts.proofs.TwentyNearest.{nearest-are}
 use Rattle.recipe.specs.Recipe.{outranks}
 use Rattle.records_history.specs.History.{Has, got, after}
 use Rattle.records_history.proofs.Stays.{highest, holds-on}
+use Rattle.records_history.proofs.Holding.{held-is-found, judged-first}
+use Rattle.records_history.proofs.Blind.{form-is-blind}
 use Rattle.message.proofs.Occurrences.{split-is-merged}
 use Rattle.message.proofs.Views.{read-whole, read-malformed, malformed-read}
 use Rattle.round_trip.proofs.RoundTrip.{round-trip}
 use Rattle.lookup_runs.proofs.Theorems.{claims}
-use Rattle.answer_promises.proofs.Promised.{replies-read-back, answered-by-fields}
+use Rattle.answer_promises.proofs.Promised.{replies-read-back, answered-by-fields, sent-as-typed, held-is-served}
 use Rattle.cutting.specs.World.{World, Call, calls, Ready, AllFit}
 use Rattle.cutting.proofs.Claims.{several, several-plainly}
 use Rattle.demands.specs.Box.{Box, Who, Turn, Ask, Fits, box, Own, Allowed, Good}
@@ -65,6 +67,11 @@ third me w =
       highest = λ s r e cs f key v a.
           subst (λ (x : List ℕ). (u : List ℕ) × (got x key ≡ Has u) × (outranks v u ≡ false)) (sym (made me w s r e cs f))
           (highest key v (s .shared .state .records) (calls (box me) s cs .shared .state .offers) a);
+      found = held-is-found;
+      served = held-is-served me;
+      judged = judged-first;
+      sent = sent-as-typed me;
+      blind = form-is-blind;
     }
 
 pub demands : Demands

@@ -21,6 +21,7 @@ use Rattle.records.specs.declared.Answer.the-variants as putTold
 use Rattle.records.specs.declared.Found.the-variants as findTold
 use Rattle.records.specs.Store.{putAnswer, putAfter, findOf}
 use Rattle.records_history.specs.History.{Has, got, after, cleared, Accepted, Unbeaten}
+use Rattle.records_history.specs.Claims.{FormIsBlind, HeldIsFound, JudgedFirst}
 use Rattle.message.specs.Limits.{mostBody, leastReply}
 use Rattle.message.specs.Message.{Message, messageOf, decode, encode}
 use Rattle.pieces.specs.Writable.{writable}
@@ -41,7 +42,7 @@ use Rattle.cutting.specs.World.{Line, World, Call, given, calls, Fine, Ready, A
 use Rattle.cutting.specs.Plain.{ReadOut, plainly, unread}
 use Rattle.replies.specs.declared.Answered.the-variants as told
 use Rattle.answer.specs.Answers.{verdictOf, dealOf}
-use Rattle.answer_promises.specs.Promises.{Roomed, ReadsBack, AnsweredByFields}
+use Rattle.answer_promises.specs.Promises.{Roomed, ReadsBack, AnsweredByFields, SentAsTyped, HeldIsServed}
 use Rattle.connections.specs.declared.Conn.{Conn}
 use Rattle.node.specs.declared.Answer.the-variants.{Refused}
 use Rattle.connections.specs.declared.Told.the-variants as nodeTold
@@ -138,6 +139,14 @@ pub record Third (me : Peer) : Type 0 where
   pub highest : (s : World Who Box Ask) → Ready (Allowed me) (Good me) s → s .shared .state .offers ≡ [] → (cs : List (Call Turn Ask)) → AllFit Fits cs → (key v : List ℕ)
       → Accepted key v (s .shared .state .records) (calls (box me) s cs .shared .state .offers)
       → (u : List ℕ) × (got (calls (box me) s cs .shared .state .records) key ≡ Has u) × (outranks v u ≡ false)
+  -- and that is what is found, sent to who asks for it and compared with what comes, whatever the recipe rules say of it (document 02, ix: "Records already held
+  -- stay held and are still served and ranked"); what comes, typed or sent, is judged before it is compared
+  pub found : HeldIsFound
+  pub served : HeldIsServed me
+  pub judged : JudgedFirst
+  pub sent : SentAsTyped me
+  -- nor does 0 look into a value
+  pub blind : FormIsBlind
 
 -- ==== all three, of every box that a start gave
 abbrev pub Demands : Type 0

@@ -57,6 +57,10 @@ pub and-fails : (a b : Bool) → b ≡ false → (a && b) ≡ false
 and-fails true b e = e
 and-fails false b e = refl
 
+pub and-swap : (a b c : Bool) → (a && (b && c)) ≡ (b && (a && c))
+and-swap true b c = refl
+and-swap false b c = sym (and-fails b false refl)
+
 -- ---- or
 pub or-e : (a b : Bool) → (a || b) ≡ true → (a ≡ true) ⊎ (b ≡ true)
 or-e true b e = inl refl

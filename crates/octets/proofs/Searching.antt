@@ -1,8 +1,8 @@
 -- Laws of `all`, `some`, `first`, `largest`, `every` and `lastOf`. Assumes nothing.
 use Prim.Native.Nat.{ℕ, zero, suc, _+_, _<_, _≤_, max}
-use mathlib.Core.Path.{_≡_, refl, sym, _∙_, subst}
+use mathlib.Core.Path.{_≡_, refl, sym, ap, _∙_, subst}
 use mathlib.Core.Logic.{_⊎_, inl, inr, ⊎-elim}
-use mathlib.Core.Bool.{Bool, true, false, cond}
+use mathlib.Core.Bool.{Bool, true, false, cond, _&&_}
 use mathlib.Core.List.{List, [], _∷_, _++_, map}
 use native.Mathlib.Nat.{eq-or-lt-of-le, le-of-suc-le-suc, not-suc-le-zero, lt-suc-self}
 use native.Mathlib.Numerals.{add-one}
@@ -10,7 +10,7 @@ use native.Mathlib.Omega.{arith}
 use lib.Dec.{ltb, T}
 use borrow.Author.Tests.{lt-ltb, le-ltb, ltb-true, ltb-false}
 use Rattle.octets.specs.Search.{all, some, first, count, largest, every, lastOf}
-use Rattle.octets.proofs.Bools.{and-l, and-r, and-i, or-e, or-l, or-r, not-both, to-false, either}
+use Rattle.octets.proofs.Bools.{and-l, and-r, and-i, and-swap, or-e, or-l, or-r, not-both, to-false, either}
 
 module _ (p : ℕ → Bool) where
   -- ---- all
@@ -34,6 +34,12 @@ module _ (p : ℕ → Bool) where
   pub all-intro : (n : ℕ) → ((i : ℕ) → i < n → p i ≡ true) → all n p ≡ true
   all-intro zero h = all-zero
   all-intro (suc n) h = all-suc n (all-intro n (λ i l. h i (omega arith))) (h n (omega arith))
+
+  -- the lowest number by itself
+  pub all-first : (n : ℕ) → all (suc n) p ≡ (p 0 && all n (λ i. p (suc i)))
+  unfolding all
+  all-first zero = refl
+  all-first (suc n) = ap (λ (b : Bool). p (suc n) && b) (all-first n) ∙ and-swap (p (suc n)) (p 0) (all n (λ i. p (suc i)))
 
   pub all-fails : (n i : ℕ) → i < n → p i ≡ false → all n p ≡ false
   all-fails n i l e = to-false (all n p) (λ h. not-both (p i) (all-at n i h l) e)

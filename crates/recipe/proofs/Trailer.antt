@@ -160,3 +160,15 @@ recipe-least v h = leb-true trailerSize (length v) (all-head (leb trailerSize (l
 pub recipe-most : (v : List ℕ) → isRecipe v ≡ true → length v ≤ valueMax
 unfolding isRecipe
 recipe-most v h = leb-true (length v) valueMax (all-head (leb (length v) valueMax) (near-test v) (all-rest (leb trailerSize (length v)) (long-test v) h))
+
+-- ---- and its list
+pub recipe-list : (v : List ℕ) → isRecipe v ≡ true → isList (countOf v) (roomOf v) ≡ true
+unfolding isRecipe
+recipe-list v h =
+    all-head (isList (countOf v) (roomOf v)) []
+    (all-rest (eqb (formatOf v) formatOne) (list-test v)
+    (all-rest (leb (countOf v) countMax) (format-test v)
+    (all-rest (leb (distanceOf v) (length v)) (count-test v)
+    (all-rest (leb trailerSize (distanceOf v)) (far-test v)
+    (all-rest (leb (length v) valueMax) (near-test v)
+    (all-rest (leb trailerSize (length v)) (long-test v) h))))))

@@ -1,14 +1,14 @@
--- When a value is a recipe, and which of two values ranks higher: document 01, 'Recipe, read from its end'.
+-- When a value is a recipe, and which of two values ranks higher: document 01, 'Recipe, read from its end', and document 02, (ix).
 use Prim.Native.Nat.{ℕ, zero, suc, _+_, _-_, _*_, _/_, _%_}
 use mathlib.Core.Bool.{Bool, true, false, cond, _&&_, _||_}
 use mathlib.Core.List.{List, [], _∷_}
 use lib.ListN.{length, take, drop}
 use lib.Dec.{ltb, leb, eqb}
-use lib.IntN.{ℤ, pos, negsuc}
+use lib.IntN.{ℤ, pos, negsuc, natAbs, _-ℤ_}
 use lib.Signed.{leZ}
 use Rattle.octets.specs.Octets.{part, lower, littleNumber}
 use Rattle.octets.specs.Search.{allOf}
-use Rattle.recipe.specs.Limits.{trailerSize, valueMax, countMax, formatOne, turnMax, trimMax}
+use Rattle.recipe.specs.Limits.{trailerSize, valueMax, countMax, formatOne, turnMax, trimMax, leapMax}
 use Rattle.recipe.specs.declared.Varint.{Varint}
 use Rattle.recipe.specs.declared.Varint.the-variants.{Is, Broken}
 use Rattle.recipe.specs.declared.Point.{Point}
@@ -71,10 +71,14 @@ setpoints (suc n) s = onPoint (point s) (λ turn trim k. andThen turn trim (setp
 unfoldable pub inRange : ℕ → ℤ → Bool
 inRange turn trim = leb turn turnMax && (leZ (negsuc (trimMax - 1)) trim && leZ trim (pos trimMax))
 
--- and for each after the one before it: turns are "strictly rising"
+-- document 02, (ix): "neighbouring trims differ by" no "more than 5,000 millinewtons; exactly 5,000 passes"
+unfoldable pub noLeap : ℤ → ℤ → Bool
+noLeap a b = leb (natAbs (a -ℤ b)) leapMax
+
+-- and for each after the one before it: turns are "strictly rising", and trims don't leap
 unfoldable pub follows : Prev → ℕ → ℤ → Bool
 follows First turn trim = true
-follows (After last before) turn trim = ltb last turn
+follows (After last before) turn trim = ltb last turn && noLeap before trim
 
 unfoldable pub rules : Prev → List Setpoint → Bool
 rules p [] = true

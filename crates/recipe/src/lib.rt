@@ -3,7 +3,7 @@ ghost use mathlib.Core.Path.{_≡_};
 ghost use Prim.Native.Nat.{_+_, _*_, _-_, _<_, _≤_, _^_};
 ghost use lib.ListN.{length, drop};
 ghost use Rattle.octets.specs.Octets.{littleNumber};
-ghost use Rattle.recipe.specs.Recipe.{trimOf, zigzagOf, varint, point, follows, isList, isRecipe, sequenceOf, outranks};
+ghost use Rattle.recipe.specs.Recipe.{trimOf, zigzagOf, varint, point, noLeap, follows, isList, isRecipe, sequenceOf, outranks};
 ghost use Rattle.recipe.specs.Inner.{short, within};
 
 // The limits; specs/Limits.antt has the same.
@@ -18,6 +18,8 @@ pub const FORMAT: u64 = 1;
 pub const TURN_MAX: u32 = 1000000;
 
 pub const TRIM_MAX: u32 = 20000;
+
+pub const LEAP_MAX: i64 = 5000;
 
 // From the zigzag form to a trim.
 pub fn trim_of(z: u32) -> i32
@@ -129,6 +131,17 @@ fn point_at(s: &[u8], at: usize) -> Point
     }
 }
 
+// Whether neighbouring trims differ by no more than a leap. In 64 bits, as the difference of two trims may need 33.
+fn no_leap(a: i32, b: i32) -> bool
+    ensures { λ r. ⌜ r ≡ noLeap a b ⌝ }
+{
+    let d = (a as i64) - (b as i64);
+    if d < -LEAP_MAX {
+        return false;
+    }
+    d <= LEAP_MAX
+}
+
 // What a setpoint comes after.
 pub enum Prev {
     First,
@@ -143,8 +156,13 @@ fn may_follow(p: Prev, turn: u32, trim: i32) -> bool
         Prev::First => true,
         Prev::After {
             turn: last,
-            trim: _,
-        } => last < turn,
+            trim: before,
+        } => {
+            if turn <= last {
+                return false;
+            }
+            no_leap(before, trim)
+        }
     }
 }
 

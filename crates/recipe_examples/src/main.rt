@@ -1,5 +1,6 @@
-// Document 01's examples on recipes that aren't starred, and the edges of each limit: one line for each.
+// Document 01's examples on recipes that aren't starred, and the edges of each limit, of document 02's too: one line for each.
 ghost use Prim.Native.Nat.{_+_, _*_, _<_, _≤_};
+ghost use lib.ListN.{length};
 
 const OUT: i32 = 1;
 
@@ -75,6 +76,18 @@ fn with_two(a: u8, b: u8, c: u8, d: u8) -> bool {
     recipe::check(&[a, b, c, d, 20, 0, 0, 0, 2, 0, 1, 0, 7, 0, 0, 0, 0, 0, 0, 0])
 }
 
+// A value of so many setpoints, given as their bytes, with no note.
+fn with_list(points: &[u8], count: usize) -> bool
+    requires { ⌜ (length (now points) ≤ 64) × (count < 256) ⌝ }
+{
+    let mut v = [0u8; 80];
+    let n = points.len();
+    octets::copy(&mut v, 0, points);
+    put_trailer(&mut v, n, n + 16, count);
+    let end = n + 16;
+    recipe::check(&v[..end])
+}
+
 // One setpoint of two bytes, with other numbers in the trailer.
 fn with_trailer(distance: u8, count: u8, format: u8) -> bool {
     recipe::check(
@@ -116,6 +129,41 @@ fn numbers() {
     say(b"trim without an end", with_four(0, 0x81, 0x80, 0x80));
 }
 
+fn leaps() {
+    say(b"trims 0, 5,000", with_list(&[0, 0, 1, 0x90, 0x4E], 2));
+    say(b"trims 0, 5,001", with_list(&[0, 0, 1, 0x92, 0x4E], 2));
+    say(b"trims 0, -5,000", with_list(&[0, 0, 1, 0x8F, 0x4E], 2));
+    say(b"trims 0, -5,001", with_list(&[0, 0, 1, 0x91, 0x4E], 2));
+    say(
+        b"trims -2,500, 2,500",
+        with_list(&[0, 0x87, 0x27, 1, 0x88, 0x27], 2),
+    );
+    say(
+        b"trims -2,500, 2,501",
+        with_list(&[0, 0x87, 0x27, 1, 0x8A, 0x27], 2),
+    );
+    say(
+        b"trims 2,501, -2,500",
+        with_list(&[0, 0x8A, 0x27, 1, 0x87, 0x27], 2),
+    );
+    say(
+        b"trims -20,000, 20,000",
+        with_list(&[0, 0xBF, 0xB8, 2, 1, 0xC0, 0xB8, 2], 2),
+    );
+    say(
+        b"trims 0, 5,001 at turns 0, 1,000,000",
+        with_list(&[0, 0, 0xC0, 0x84, 0x3D, 0x92, 0x4E], 2),
+    );
+    say(
+        b"trims 0, 5,000, 10,000",
+        with_list(&[0, 0, 1, 0x90, 0x4E, 2, 0xA0, 0x9C, 1], 3),
+    );
+    say(
+        b"trims 0, 5,000, -1",
+        with_list(&[0, 0, 1, 0x90, 0x4E, 2, 1], 3),
+    );
+}
+
 fn trailers() {
     say(b"distance 18, count 1, format 1", with_trailer(18, 1, 1));
     say(b"distance 19", with_trailer(19, 1, 1));
@@ -143,6 +191,7 @@ fn sizes() {
 
 fn main() {
     numbers();
+    leaps();
     trailers();
     sizes();
 }

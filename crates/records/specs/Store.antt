@@ -31,7 +31,8 @@ unfoldable pub findOf : List ℕ → List ℕ → Found
 findOf t k = cond (not (inForm t)) (fRefused OutOfForm) (found t k)
 
 -- ---- putting
--- a record of the key is held in slot i: "identical bytes are accepted and change nothing"; else 10, if what is held ranks higher
+-- a record of the key is held in slot i: "identical bytes are accepted and change nothing", which "applies only after" 9 (document 02, ix); else 10, if what is
+-- held ranks higher
 unfoldable pub heldPlan : List ℕ → List ℕ → ℕ → Plan
 heldPlan held v i = cond (same held v) Keep (cond (outranks held v) (Refuse Outranked) (Write i))
 

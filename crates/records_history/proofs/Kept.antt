@@ -70,11 +70,11 @@ found-not t k q = ⊎-elim (λ b. absurd (held (sym (cond-yes (ltb (slotWith t k
     held w = let z : _≡_ {A = ℕ} 0 1 = cc in omega arith
 
 -- ---- keys apart
-apart-out : (t : List ℕ) (i j : ℕ) → apart t i j ≡ true → holds t (keyOf (slot t i)) j ≡ false
+pub apart-out : (t : List ℕ) (i j : ℕ) → apart t i j ≡ true → holds t (keyOf (slot t i)) j ≡ false
 unfolding apart
 apart-out t i j h = not-true (holds t (keyOf (slot t i)) j) h
 
-apart-in : (t : List ℕ) (i j : ℕ) → holds t (keyOf (slot t i)) j ≡ false → apart t i j ≡ true
+pub apart-in : (t : List ℕ) (i j : ℕ) → holds t (keyOf (slot t i)) j ≡ false → apart t i j ≡ true
 unfolding apart
 apart-in t i j h = rw h
 

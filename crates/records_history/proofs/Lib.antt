@@ -1,3 +1,5 @@
 pub mod Written
 pub mod Kept
 pub mod Stays
+pub mod Holding
+pub mod Blind

@@ -27,10 +27,10 @@ use Rattle.records.specs.declared.Answer.the-variants.{Refused}
 use Rattle.records.proofs.Putting.{write-where, put-out, put-answer, put-after}
 use Rattle.records_history.proofs.Kept.{got-held, got-none, fits-in, write-got, write-other, write-form}
 
-has : {x y : List ℕ} → Has x ≡ Has y → x ≡ y
+pub has : {x y : List ℕ} → Has x ≡ Has y → x ≡ y
 has q = cc
 
-none : {x : List ℕ} → None ≡ Has x → ⊥
+pub none : {x : List ℕ} → None ≡ Has x → ⊥
 none q = let z : _≡_ {A = ℕ} 0 1 = cc in omega arith
 
 -- ---- a plan to keep: the same bytes are held

@@ -108,9 +108,13 @@ fn broken(rng: &mut Rng) -> Vec<u8> {
     }
 }
 
+/// It would outrank every other recipe, but its trims leap from 0 to 9,000.
+const LEAPER: [u8; 22] = [0, 0, 1, 0xd0, 0x8c, 1, 22, 0, 0, 0, 2, 0, 1, 0, 255, 255, 255, 255, 255, 255, 255, 255];
+
 /// A record whose value doesn't check, or whose key isn't the one that was asked for.
 fn bad_recipe(honest: &Message, rng: &mut Rng) -> Vec<u8> {
-    let value = rng.bytes::<64>();
+    let noise = rng.bytes::<64>();
+    let value = if rng.below(2) == 0 { &LEAPER[..] } else { &noise };
     let key = honest.record().map_or(&b"/wind/another"[..], |record| record.key);
-    written(Draft { record: Some(Record { key, value: &value }), ..Draft::new(Kind::GetValue) })
+    written(Draft { record: Some(Record { key, value }), ..Draft::new(Kind::GetValue) })
 }

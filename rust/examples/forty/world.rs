@@ -209,7 +209,11 @@ fn make_recipe(n: usize, owner: usize, rng: &mut Rng) -> Result<Owned, Refusal> 
     const STRINGS: [&str; 4] = ["e", "a", "d", "g"];
     let key = format!("/wind/bench-{owner}/{}-string", STRINGS[n % STRINGS.len()]).into_bytes();
     let mut version = |sequence| {
-        let setpoints = (0..1 + rng.below(60)).map(|n| Setpoint { turn: n as u32 * 90 + rng.below(90) as u32, trim: rng.below(40_001) as i32 - 20_000 });
+        let mut trim = 0;
+        let setpoints = (0..1 + rng.below(60)).map(|n| {
+            trim = (trim + rng.below(10_001) as i32 - 5_000).clamp(-20_000, 20_000);
+            Setpoint { turn: n as u32 * 90 + rng.below(90) as u32, trim }
+        });
         Recipe { note: format!("bench {owner}, version {sequence}").into_bytes(), setpoints: setpoints.collect(), sequence }.to_value()
     };
     Ok(Owned { owner, key, versions: [version(1)?, version(2)?] })

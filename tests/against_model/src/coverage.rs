@@ -4,8 +4,9 @@ use crate::answer::{view_numbers, Answer};
 use crate::calls::Call;
 use crate::twin::Twin;
 use starterbell_model::contacts;
-use starterbell_model::message::{self, View};
+use starterbell_model::message::{self, Message, View};
 use starterbell_model::node::Side;
+use starterbell_model::recipe::{self, differences, is_leaper, outranks};
 use starterbell_model::records;
 use starterbell_model::steps::Step;
 use starterbell_model::wire::{fields, read_varint, Span};
@@ -35,7 +36,7 @@ const REACHABLE: [(&str, &[u32]); 19] = [
 ];
 
 /// Beside the numbers: what a long run has to meet too.
-const MET: [&str; 30] = [
+const MET: [&str; 46] = [
     "receive: the sender moved",
     "receive: the sender joined",
     "receive: the sender's bucket is full",
@@ -66,6 +67,22 @@ const MET: [&str; 30] = [
     "read: 5 for a record that is well formed only if joined",
     "out: too short for the numbers",
     "contacts: no slot at all",
+    "put: trims exactly 5,000 up are taken",
+    "receive: trims exactly 5,000 up are taken",
+    "put: trims exactly 5,000 down are taken",
+    "receive: trims exactly 5,000 down are taken",
+    "put: 9 for a leaper",
+    "receive: 9 for a leaper",
+    "put: 9 for the bytes of a held leaper",
+    "receive: 9 for the bytes of a held leaper",
+    "put: 9 for a leaper above a held one",
+    "receive: 9 for a leaper above a held one",
+    "put: 10 for a recipe below a held leaper",
+    "receive: 10 for a recipe below a held leaper",
+    "put: a recipe above a held leaper is taken",
+    "receive: a recipe above a held leaper is taken",
+    "find: a held leaper is found",
+    "receive: GET_VALUE is served a held leaper",
 ];
 
 /// Stands for 0 where the memory of the box, connection or lookup is too short.
@@ -103,7 +120,8 @@ fn entry(step: &Step, twin: &Twin) -> usize {
 }
 
 impl Coverage {
-    pub fn add(&mut self, twin: &Twin, call: &Call, answer: &Answer) {
+    /// A call that was made, what it gave, and what there is after it; `records` are those from before it.
+    pub fn add(&mut self, records: &[u8], twin: &Twin, call: &Call, answer: &Answer) {
         let code = if call.is_short() { SHORT } else { answer.code };
         *self.counts.entry((entry(&call.step, twin), code)).or_default() += 1;
         if answer.numbers.len() > call.out.len() {
@@ -111,6 +129,7 @@ impl Coverage {
         }
         if !call.is_short() {
             self.note(twin, call, answer);
+            self.note_leaps(&records[..records.len().min(call.lent.records)], &call.step, answer);
         }
     }
 
@@ -182,15 +201,50 @@ impl Coverage {
         }
         if answer.code == 65 {
             self.note_reply(twin, answer);
-            // a put that the piece has whole, from its prefix on
-            let taken = &piece[..answer.numbers[0] as usize];
-            let body = match read_varint(piece, 0, piece.len()) {
-                Some((n, at)) if at <= taken.len() && n == (taken.len() - at) as u64 => &taken[at..],
-                _ => &[],
-            };
+            let body = whole_body(piece, answer);
             if is_split(body) && message::read(body).is_ok_and(|view| view.kind == message::PUT_VALUE) {
                 self.meet("receive: a put in two record fields is taken");
             }
+        }
+    }
+
+    /// Document 02 (ix): leapers that are offered, and what is offered or asked for where one was held; of a peer's, what a piece had whole.
+    fn note_leaps(&mut self, records: &[u8], step: &Step, answer: &Answer) {
+        let held = |key: &[u8]| records::find(records, key).ok().flatten().map(|found| found.value).filter(|value| is_leaper(value));
+        match step {
+            Step::Find { key } if answer.code == 64 && held(key).is_some() => self.meet("find: a held leaper is found"),
+            Step::Put { key, value } => self.note_put(true, held(key), value, answer.code),
+            Step::Receive { piece, .. } => match message::decode(whole_body(piece, answer)) {
+                Ok(Message { kind: message::PUT_VALUE, record: Some(record), .. }) => self.note_put(false, held(&record.key), &record.value, answer.code),
+                Ok(Message { kind: message::GET_VALUE, key, .. }) if answer.code == 65 && held(&key).is_some() => {
+                    self.meet("receive: GET_VALUE is served a held leaper")
+                }
+                _ => {}
+            },
+            _ => {}
+        }
+    }
+
+    /// A put, the host's own or a peer's, and the leaper that was held under its key, if one was.
+    fn note_put(&mut self, own: bool, held: Option<Vec<u8>>, value: &[u8], code: u32) {
+        let taken = code == if own { 64 } else { 65 };
+        let mut meet = |put: &'static str, receive: &'static str| self.meet(if own { put } else { receive });
+        match held {
+            Some(held) if code == 9 && held == value => meet("put: 9 for the bytes of a held leaper", "receive: 9 for the bytes of a held leaper"),
+            Some(held) if code == 9 && is_leaper(value) && outranks(value, &held) => {
+                meet("put: 9 for a leaper above a held one", "receive: 9 for a leaper above a held one")
+            }
+            Some(_) if code == 10 => meet("put: 10 for a recipe below a held leaper", "receive: 10 for a recipe below a held leaper"),
+            Some(_) if taken => meet("put: a recipe above a held leaper is taken", "receive: a recipe above a held leaper is taken"),
+            _ if code == 9 && is_leaper(value) => meet("put: 9 for a leaper", "receive: 9 for a leaper"),
+            _ => {}
+        }
+        let by = recipe::read(value).filter(|_| taken).map(|recipe| differences(&recipe.setpoints)).unwrap_or_default();
+        if by.contains(&5_000) {
+            meet("put: trims exactly 5,000 up are taken", "receive: trims exactly 5,000 up are taken");
+        }
+        if by.contains(&-5_000) {
+            meet("put: trims exactly 5,000 down are taken", "receive: trims exactly 5,000 down are taken");
         }
     }
 
@@ -251,6 +305,15 @@ impl Coverage {
             println!("  {what}: {}", self.met.get(what).copied().unwrap_or(0));
         }
         println!("streams cut in other ways: {}", self.cuttings);
+    }
+}
+
+/// The body of the message that was taken, if the piece had it whole, from its prefix on; else nothing.
+fn whole_body<'a>(piece: &'a [u8], answer: &Answer) -> &'a [u8] {
+    let taken = &piece[..answer.numbers[0] as usize];
+    match read_varint(piece, 0, piece.len()) {
+        Some((n, at)) if at <= taken.len() && n == (taken.len() - at) as u64 => &taken[at..],
+        _ => &[],
     }
 }
 

@@ -61,9 +61,10 @@ fn play(seed: u64, bounds: &Bounds, stop: &AtomicBool, done: &mut Done, step: &m
             Action::Lend { memory, length } => twin.resize(memory, length),
             Action::Call(call) => {
                 *step += 1;
+                let records = twin.world.records.clone();
                 let answer = twin.call(&call).map_err(|what| format!("{}\n{what}", shortened(&format!("call: {call:02x?}"))))?;
                 done.calls += 1;
-                done.coverage.add(&twin, &call, &answer);
+                done.coverage.add(&records, &twin, &call, &answer);
                 script.after(&twin, &call, &answer);
             }
         }

@@ -203,7 +203,8 @@ impl Script {
 
     fn odd(&mut self, twin: &Twin) -> Action {
         let (lines, lookups) = (twin.world.lines.len(), twin.world.lookups.len());
-        match self.rng.below(21) {
+        match self.rng.below(23) {
+            21..=22 => self.hold_leaper(twin),
             20 if lines > 0 => {
                 let (line, at, n) = (self.rng.below(lines), self.rng.below(200), self.rng.between(1, 40));
                 Action::Write { region: Region::Buffer(line), at, bytes: self.rng.bytes(n) }
@@ -254,6 +255,20 @@ impl Script {
             self.later.push((2, Action::Write { region, at: to, bytes: bytes[to..to + slot].to_vec() }));
         }
         Action::Write { region, at: to, bytes: spoiled[to..to + slot].to_vec() }
+    }
+
+    /// A leaper is held from now on, as one from before document 02 (ix) is: in the slot that holds its key, or else in any.
+    fn hold_leaper(&mut self, twin: &Twin) -> Action {
+        let store = &twin.world.records;
+        let key = self.rng.pick(&self.source.keys).clone();
+        match (records::find(store, &key), records::slots(store)) {
+            (Ok(found), slots @ 1..) => {
+                let slot = found.map_or_else(|| self.rng.below(slots), |found| found.slot);
+                let bytes = records::slot_bytes(&key, &gen::leaper_value(&mut self.rng));
+                Action::Write { region: Region::Records, at: slot * RECORD_SLOT, bytes }
+            }
+            _ => Action::Call(self.call(Step::Find { key })),
+        }
     }
 
     /// A byte of the box is written over, and set back some calls later.

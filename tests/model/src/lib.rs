@@ -1,4 +1,4 @@
-//! A model of the box in plain Rust, the obvious slow way, written from document 01 and its open points and from nothing else.
+//! A model of the box in plain Rust, the obvious slow way, written from documents 01 and 02 and their open points and from nothing else.
 //! It exists to be compared with the proved code: results, refusals, bytes taken, and every byte of lent memory.
 //! README.md lists what the documents leave open to the byte and what is chosen here.
 #![forbid(unsafe_code)]

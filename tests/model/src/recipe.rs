@@ -64,8 +64,8 @@ fn low_first(bytes: &[u8]) -> u64 {
     bytes.iter().rev().fold(0, |sum, b| sum << 8 | u64::from(*b))
 }
 
-/// The recipe that a value is; none where it breaks a rule (9).
-pub fn read(value: &[u8]) -> Option<Recipe> {
+/// What a value says by the rules of document 01 alone; none where it breaks one.
+fn read_by_01(value: &[u8]) -> Option<Recipe> {
     if value.len() < limits::VALUE_LEAST || value.len() > limits::VALUE {
         return None;
     }
@@ -82,6 +82,26 @@ pub fn read(value: &[u8]) -> Option<Recipe> {
         return None;
     }
     Some(Recipe { note: note.to_vec(), setpoints, sequence: low_first(&trailer[8..16]) })
+}
+
+/// By how much each trim differs from the one before it in the list, however far apart their turns.
+pub fn differences(setpoints: &[Setpoint]) -> Vec<i64> {
+    setpoints.windows(2).map(|two| two[1].trim - two[0].trim).collect()
+}
+
+fn leaps(recipe: &Recipe) -> bool {
+    differences(&recipe.setpoints).iter().any(|by| by.abs() > limits::LEAP)
+}
+
+/// The recipe that a value is; none where it breaks a rule of document 01, or of document 02 (ix): "Refuse with 9 any recipe in which neighbouring trims
+/// differ by more than 5,000 millinewtons; exactly 5,000 passes."
+pub fn read(value: &[u8]) -> Option<Recipe> {
+    read_by_01(value).filter(|recipe| !leaps(recipe))
+}
+
+/// Whether a value keeps every rule of document 01 and leaps: it may be held from before the rule, and isn't taken any more.
+pub fn is_leaper(value: &[u8]) -> bool {
+    read_by_01(value).is_some_and(|recipe| leaps(&recipe))
 }
 
 pub fn write_setpoints(setpoints: &[Setpoint]) -> Vec<u8> {

@@ -92,7 +92,8 @@ pub fn slot_bytes(key: &[u8], value: &[u8]) -> Vec<u8> {
     slot
 }
 
-/// Where a put goes: 0, 8, 9, 10, 11 in this order; no slot where identical bytes are held, which "are accepted and change nothing".
+/// Where a put goes: 0, 8, 9, 10, 11 in this order; no slot where identical bytes are held, which "are accepted and change nothing". A held leaper's bytes are
+/// 9: that rule "applies only after this test".
 fn plan(store: &[u8], key: &[u8], value: &[u8]) -> Result<Option<usize>, Refusal> {
     let all = entries(store)?;
     if !is_key(key) {

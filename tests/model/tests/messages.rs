@@ -7,6 +7,7 @@ use starterbell_model::recipe::{self, outranks};
 use starterbell_model::wire::{fields, minimal, read_varint, Span};
 use starterbell_model::writer::{body_of, framed, peer_list, peers_of, write};
 use starterbell_model::{limits, Refusal};
+use std::collections::BTreeMap;
 
 #[test]
 fn what_is_written_reads_back() {
@@ -163,11 +164,44 @@ fn recipes_read_back() {
         if let Some(r) = recipe::read(&value) {
             assert_eq!(recipe::write(&r), value, "a recipe has one writing");
             assert!(r.setpoints.len() <= 200 && r.setpoints.iter().all(|s| s.turn <= 1_000_000 && s.trim.abs() <= 20_000));
-            assert!(r.setpoints.windows(2).all(|w| w[0].turn < w[1].turn));
+            assert!(r.setpoints.windows(2).all(|w| w[0].turn < w[1].turn && (w[0].trim - w[1].trim).abs() <= 5_000));
             taken += 1;
         }
     }
     assert!(taken > 300 && taken < 6_000, "{taken}");
+}
+
+/// Both sides of document 02 (ix)'s line come up, wherever a leap can be.
+#[test]
+fn made_up_recipes_and_leapers() {
+    let mut rng = Rng::new(18);
+    let mut met: BTreeMap<&str, usize> = BTreeMap::new();
+    for _ in 0..4_000 {
+        let (good, leaper) = (gen::recipe(&mut rng), gen::leaper(&mut rng));
+        let trims: Vec<i64> = leaper.setpoints.iter().map(|s| s.trim).collect();
+        assert!(recipe::is_leaper(&recipe::write(&leaper)) && !recipe::is_leaper(&recipe::write(&good)));
+        let by = recipe::differences(&leaper.setpoints);
+        let at = by.iter().position(|by| by.abs() > 5_000).expect("a leap");
+        assert!(by[at + 1..].iter().all(|by| by.abs() <= 5_000), "one leap");
+        let cases = [
+            ("5,000 up", recipe::differences(&good.setpoints).contains(&5_000)),
+            ("5,000 down", recipe::differences(&good.setpoints).contains(&-5_000)),
+            ("far from the first", good.setpoints.iter().any(|s| (s.trim - good.setpoints[0].trim).abs() > 5_000)),
+            ("20,000 after others", good.setpoints.iter().skip(1).any(|s| s.trim == 20_000)),
+            ("-20,000 after others", good.setpoints.iter().skip(1).any(|s| s.trim == -20_000)),
+            ("5,001 up", by[at] == 5_001),
+            ("5,001 down", by[at] == -5_001),
+            ("further up", by[at] > 5_001),
+            ("further down", by[at] < -5_001),
+            ("from end to end", by[at].abs() == 40_000),
+            ("the first two of more", at == 0 && trims.len() > 2),
+            ("the last two of more", at > 0 && at + 2 == trims.len()),
+            ("in the middle", at > 0 && at + 2 < trims.len()),
+            ("near the first", at > 0 && (trims[at + 1] - trims[0]).abs() <= 5_000),
+        ];
+        cases.iter().for_each(|(case, is)| *met.entry(case).or_default() += usize::from(*is));
+    }
+    assert!(met.values().all(|n| *n >= 40), "{met:?}");
 }
 
 #[test]

@@ -421,6 +421,93 @@ fn refusal_9() {
     }
 }
 
+/// A value with these trims, the last of them at turn 1,000,000.
+fn with_trims(trims: &[i64], sequence: u64, note: &[u8]) -> Vec<u8> {
+    let turn = |i: usize| if i + 1 == trims.len() { limits::TURN } else { i as u64 };
+    let setpoints = trims.iter().enumerate().map(|(i, trim)| Setpoint { turn: turn(i), trim: *trim }).collect();
+    recipe::write(&Recipe { note: note.to_vec(), setpoints, sequence })
+}
+
+/// Document 02 (ix): neighbouring trims differ by 5,000 at most.
+#[test]
+fn refusal_9_of_leaps() {
+    let mut worked = vec![0x00, 0x00, 0x01, 0x90, 0x4e, 0x15, 0, 0, 0, 2, 0, 1, 0, 7, 0, 0, 0, 0, 0, 0, 0];
+    let trims = |value: &[u8]| recipe::read(value).map(|r| r.setpoints.iter().map(|s| s.trim).collect::<Vec<_>>());
+    assert_eq!((trims(&worked), recipe::is_leaper(&worked)), (Some(vec![0, 5_000]), false));
+    worked[3] = 0x92;
+    assert_eq!((trims(&worked), recipe::is_leaper(&worked)), (None, true), "5,001");
+    let good: [&[i64]; 8] = [
+        &[],
+        &[20_000],
+        &[-20_000],
+        &[-2_500, 2_500],
+        &[2_500, -2_500],
+        &[-20_000, -15_000, -20_000],
+        &[-20_000, -15_000, -10_000, -5_000, 0, 5_000, 10_000, 15_000, 20_000],
+        &[20_000, 15_000, 10_000, 5_000, 0],
+    ];
+    for good in good {
+        assert_eq!(trims(&with_trims(good, 1, b"")), Some(good.to_vec()));
+    }
+    let leaps: [&[i64]; 10] = [
+        &[-2_500, 2_501],
+        &[2_501, -2_500],
+        // 39,999 and 40,000 in zigzag form
+        &[-20_000, 20_000],
+        &[20_000, -20_000],
+        &[0, 5_001, 5_001, 5_001],
+        &[0, 0, -5_001, -5_001],
+        &[0, 0, 0, 5_001],
+        &[0, 5_000, -1],
+        &[0, -5_000, 1],
+        &[20_000, 15_000, 20_000, 14_999],
+    ];
+    for leap in leaps {
+        let value = with_trims(leap, 1, b"");
+        assert_eq!((recipe::read(&value), recipe::is_leaper(&value)), (None, true), "{leap:?}");
+        let mut bench = Bench::new(Mode::Server, Side::Serving);
+        assert_eq!(records::put(&mut bench.records, b"/wind/e", &value), Err(Refusal::BrokenRecipe));
+        let asked = put(b"/wind/e", b"/wind/e", &value);
+        assert_eq!((bench.refused(&asked), bench.is_shut()), ((9, asked.len()), true));
+    }
+    assert!(!recipe::is_leaper(&with_trims(&[0, 20_001], 1, b"")), "it breaks a rule of document 01");
+}
+
+/// Document 02 (ix): "Records already held stay held and are still served and ranked."
+#[test]
+fn a_held_leaper() {
+    let leaper = |sequence, note: &[u8]| with_trims(&[0, 9_000], sequence, note);
+    let held = leaper(7, b"m");
+    let offer = |value: &[u8]| {
+        let mut bench = Bench::new(Mode::Server, Side::Serving);
+        bench.records = records::slot_bytes(b"/wind/e", &held);
+        let local = records::put(&mut bench.records.clone(), b"/wind/e", value).err();
+        let (_, answer) = bench.hand(&put(b"/wind/e", b"/wind/e", value));
+        let remote = if let Answer::Refused(refusal) = answer { Some(refusal) } else { None };
+        assert_eq!((remote, bench.is_shut()), (local, local.is_some()));
+        let stays = if local.is_some() { &held[..] } else { value };
+        assert_eq!(bench.records, records::slot_bytes(b"/wind/e", stays));
+        local
+    };
+    assert_eq!(offer(&held), Some(Refusal::BrokenRecipe), "the same bytes");
+    for other in [leaper(6, b"m"), leaper(7, b"a"), leaper(7, b"n"), leaper(8, b"m")] {
+        assert_eq!(offer(&other), Some(Refusal::BrokenRecipe));
+    }
+    for lower in [value(6, b"z"), value(7, b"a")] {
+        assert_eq!(offer(&lower), Some(Refusal::Outranked));
+    }
+    for higher in [value(7, b"n"), value(8, b"")] {
+        assert_eq!(offer(&higher), None);
+    }
+    let mut bench = Bench::new(Mode::Client, Side::Serving);
+    bench.records = records::slot_bytes(b"/wind/e", &held);
+    assert_eq!(records::find(&bench.records, b"/wind/e"), Ok(Some(records::Found { slot: 0, value: held.clone() })));
+    bench.hand(&request(&Message { kind: 1, key: b"/wind/e".to_vec(), ..Message::default() }));
+    let record = Some(Record { key: b"/wind/e".to_vec(), value: held });
+    let served = request(&Message { kind: 1, record, ..Message::default() });
+    assert_eq!(bench.reply[..served.len()], served);
+}
+
 #[test]
 fn refusals_10_and_11() {
     let mut store = vec![0; 2 * limits::RECORD_SLOT + 100];

@@ -7,7 +7,7 @@ use starterbell_model::message::{self, encode};
 use starterbell_model::node::{Answer, Received, Side};
 use starterbell_model::peer::{Me, Mode};
 use starterbell_model::place::{distance, place_of};
-use starterbell_model::recipe::outranks;
+use starterbell_model::recipe::{self, outranks};
 use starterbell_model::records;
 use starterbell_model::steps::{Outcome, Step, World};
 use starterbell_model::stream::Framing;
@@ -125,11 +125,20 @@ fn many_calls() {
 }
 
 #[test]
-fn an_accepted_record_stays_until_a_higher_one_is_accepted() {
-    let mut rng = Rng::new(41);
+fn a_record_stays_until_a_higher_one_is_accepted() {
+    for leapers in [0, 3] {
+        records_stay(41 + leapers as u64, leapers);
+    }
+}
+
+/// Some leapers are held from the start.
+fn records_stay(seed: u64, leapers: usize) {
+    let mut rng = Rng::new(seed);
     let mut world = world(&mut rng, 20, 6);
-    let mut source = Source::new(41, 40);
-    let mut held: BTreeMap<Vec<u8>, Vec<u8>> = BTreeMap::new();
+    let mut source = Source::new(seed, 40);
+    let mut held: BTreeMap<Vec<u8>, Vec<u8>> = source.keys.iter().take(leapers).map(|key| (key.clone(), gen::leaper_value(&mut rng))).collect();
+    let slots: Vec<u8> = held.iter().flat_map(|(key, value)| records::slot_bytes(key, value)).collect();
+    world.records[..slots.len()].copy_from_slice(&slots);
     let mut accepted = 0;
     for _ in 0..8_000 {
         let step = source.step(&world);
@@ -149,7 +158,7 @@ fn an_accepted_record_stays_until_a_higher_one_is_accepted() {
         }
         if let Some((key, value)) = put {
             let before = held.insert(key, value.clone());
-            assert!(before.is_none_or(|b| b == value || outranks(&value, &b)));
+            assert!(recipe::read(&value).is_some() && before.is_none_or(|b| b == value || outranks(&value, &b)));
             accepted += 1;
         }
         for (key, value) in &held {

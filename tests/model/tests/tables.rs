@@ -4,7 +4,7 @@ use starterbell_model::contacts::{self, Contact, Newcomer, Seen, Settled};
 use starterbell_model::gen::{self, Rng};
 use starterbell_model::peer::{usable, Me, Mode};
 use starterbell_model::place::{bucket, distance, place_of};
-use starterbell_model::{limits, records, Refusal};
+use starterbell_model::{limits, recipe, records, Refusal};
 use std::collections::BTreeMap;
 
 fn start(rng: &mut Rng) -> (Me, Vec<Vec<u8>>) {
@@ -16,6 +16,7 @@ fn start(rng: &mut Rng) -> (Me, Vec<Vec<u8>>) {
 #[test]
 fn made_up_memory_is_in_form() {
     let mut rng = Rng::new(21);
+    let mut leapers = 0;
     for round in 0..300 {
         let (me, ids) = start(&mut rng);
         let slots = rng.size(0, 120);
@@ -24,8 +25,11 @@ fn made_up_memory_is_in_form() {
         assert!(contacts::in_form(&table, &me.place), "round {round}");
         let keys: Vec<Vec<u8>> = (0..9).map(|_| gen::wind_key(&mut rng)).collect();
         let slots = rng.size(0, 20);
-        assert!(records::in_form(&gen::store(&mut rng, &keys, slots, clean)));
+        let store = gen::store(&mut rng, &keys, slots, clean);
+        let held = records::entries(&store).expect("in form").into_iter().flatten();
+        leapers += held.filter(|e| keys.iter().any(|key| key == e.key) && recipe::is_leaper(e.value)).count();
     }
+    assert!(leapers > 100, "{leapers}");
 }
 
 #[test]

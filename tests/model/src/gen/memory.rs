@@ -1,6 +1,6 @@
 //! Tables, stores, framings and lookups, in and out of form.
 
-use super::{id, largest_recipe, odd_id, odd_key, place_in, recipe_value, usable_addresses, wind_key, Rng};
+use super::{id, largest_recipe, leaper_value, odd_id, odd_key, place_in, recipe_value, usable_addresses, wind_key, Rng};
 use crate::contacts::{slot_bytes, Contact};
 use crate::limits;
 use crate::lookup::{Candidate, Lookup, Mark};
@@ -102,16 +102,18 @@ pub fn spoiled_table(rng: &mut Rng, ours: &Place, ids: &[Vec<u8>], slots: usize)
     spoiled
 }
 
-/// A store in form. Values needn't be recipes, for the form doesn't ask.
+/// A store in form. Values needn't be recipes, for the form doesn't ask: some leap, as records from before document 02 (ix) may.
 pub fn store(rng: &mut Rng, keys: &[Vec<u8>], slots: usize, clean: bool) -> Vec<u8> {
     let mut held = BTreeMap::new();
     for _ in 0..rng.size(0, slots) {
         let key = if rng.one_in(2) && !keys.is_empty() { rng.pick(keys).clone() } else { wind_key(rng) };
-        let value = if rng.one_in(4) {
-            let n = rng.size(limits::VALUE_LEAST, limits::VALUE);
-            rng.bytes(n)
-        } else {
-            recipe_value(rng)
+        let value = match rng.below(4) {
+            0 => {
+                let n = rng.size(limits::VALUE_LEAST, limits::VALUE);
+                rng.bytes(n)
+            }
+            1 => leaper_value(rng),
+            _ => recipe_value(rng),
         };
         if records::is_key(&key) {
             held.insert(key, value);

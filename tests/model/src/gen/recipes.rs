@@ -6,18 +6,32 @@ use crate::recipe::{self, Recipe, Setpoint};
 use crate::wire::minimal;
 use std::collections::BTreeSet;
 
-/// A recipe that keeps the rules, with turns and trims at their limits now and then.
+/// A recipe that keeps the rules, with turns, trims and their differences at their limits now and then.
 pub fn recipe(rng: &mut Rng) -> Recipe {
     let count = *rng.pick(&[0, 0, 1, 1, 2, 3, 10, 50, 199, 200]);
+    let trims = some_trims(rng, count, None);
+    recipe_of(rng, &trims)
+}
+
+/// What would be a recipe but for one leap, between any two neighbours.
+pub fn leaper(rng: &mut Rng) -> Recipe {
+    let count = *rng.pick(&[2, 2, 3, 3, 4, 10, 50, 200]);
+    let leap_to = rng.size(1, count - 1);
+    let trims = some_trims(rng, count, Some(leap_to));
+    recipe_of(rng, &trims)
+}
+
+/// A recipe with these trims, whether or not they leap.
+fn recipe_of(rng: &mut Rng, trims: &[i64]) -> Recipe {
     let mut turns = BTreeSet::new();
-    while turns.len() < count {
+    while turns.len() < trims.len() {
         turns.insert(match rng.below(5) {
             0 => *rng.pick(&[0, 1, 127, 128, 16_383, 16_384, 999_999, limits::TURN]),
             1 => rng.below(300) as u64,
             _ => rng.below(limits::TURN as usize + 1) as u64,
         });
     }
-    let setpoints: Vec<Setpoint> = turns.into_iter().map(|turn| Setpoint { turn, trim: some_trim(rng) }).collect();
+    let setpoints: Vec<Setpoint> = turns.into_iter().zip(trims).map(|(turn, trim)| Setpoint { turn, trim: *trim }).collect();
     let room = limits::VALUE - 16 - recipe::write_setpoints(&setpoints).len();
     let n = if rng.one_in(20) { room } else { rng.size(0, room.min(40)) };
     let sequence = match rng.below(4) {
@@ -28,6 +42,19 @@ pub fn recipe(rng: &mut Rng) -> Recipe {
     Recipe { note: rng.bytes(n), setpoints, sequence }
 }
 
+/// Trims that don't leap, but for the one with the number `leap_to`.
+fn some_trims(rng: &mut Rng, count: usize, leap_to: Option<usize>) -> Vec<i64> {
+    let mut trims: Vec<i64> = Vec::new();
+    for i in 0..count {
+        trims.push(match trims.last() {
+            None => some_trim(rng),
+            Some(before) if leap_to == Some(i) => far_trim(rng, *before),
+            Some(before) => near_trim(rng, *before),
+        });
+    }
+    trims
+}
+
 fn some_trim(rng: &mut Rng) -> i64 {
     match rng.below(4) {
         0 => *rng.pick(&[0, -1, 1, -64, 63, 64, -20_000, 20_000, -19_999, 19_999]),
@@ -35,9 +62,31 @@ fn some_trim(rng: &mut Rng) -> i64 {
     }
 }
 
+/// A trim that may stand next to another one: a little or just 5,000 away, or as far towards some trim as may be.
+fn near_trim(rng: &mut Rng, before: i64) -> i64 {
+    let by = match rng.below(4) {
+        0 => *rng.pick(&[0, 1, -1, 4_999, -4_999, 5_000, -5_000]),
+        1 => some_trim(rng) - before,
+        _ => rng.below(10_001) as i64 - 5_000,
+    };
+    (before + by.clamp(-limits::LEAP, limits::LEAP)).clamp(-20_000, 20_000)
+}
+
+/// A trim that may not stand next to another one: 5,001 away, or more, up to the other end.
+fn far_trim(rng: &mut Rng, before: i64) -> i64 {
+    let mut trims = vec![before - 5_001, before + 5_001, -20_000, 20_000, some_trim(rng)];
+    trims.retain(|trim| trim.abs() <= 20_000 && (trim - before).abs() > limits::LEAP);
+    *rng.pick(&trims)
+}
+
 /// A value that is a recipe.
 pub fn recipe_value(rng: &mut Rng) -> Vec<u8> {
     recipe::write(&recipe(rng))
+}
+
+/// A value that would be a recipe if it didn't leap.
+pub fn leaper_value(rng: &mut Rng) -> Vec<u8> {
+    recipe::write(&leaper(rng))
 }
 
 /// A value of 2,048 bytes that is a recipe.
@@ -75,7 +124,12 @@ fn broken_setpoints(rng: &mut Rng, mut list: Vec<Setpoint>) -> (Vec<u8>, usize) 
     let mut extra = Vec::new();
     match rng.below(7) {
         6 => return (padded_setpoints(rng, &list, i), list.len()),
-        0 => list[i].trim = *rng.pick(&[20_001, -20_001, 1 << 40]),
+        0 => {
+            let over: i64 = *rng.pick(&[20_001, -20_001, 1 << 40]);
+            // the others next to it, so that 20,001 is no leap
+            list.iter_mut().for_each(|s| s.trim = over.clamp(-20_000, 20_000));
+            list[i].trim = over;
+        }
         1 => list.last_mut().expect("one").turn = *rng.pick(&[limits::TURN + 1, 1 << 21, u64::MAX]),
         2 => list.push(list[list.len() - 1]),
         3 => list.reverse(),
@@ -91,7 +145,13 @@ fn at_a_limit(rng: &mut Rng) -> Vec<u8> {
     let sequence = rng.below(6) as u64;
     let of = |note: Vec<u8>, setpoints: Vec<Setpoint>| recipe::write(&Recipe { note, setpoints, sequence });
     let one = |turn: u64, trim: i64| vec![Setpoint { turn, trim }];
-    match rng.below(7) {
+    match rng.below(8) {
+        7 => {
+            let by = limits::LEAP + over as i64;
+            let low = rng.below((40_001 - by) as usize) as i64 - 20_000;
+            let (first, second) = if rng.one_in(2) { (low, low + by) } else { (low + by, low) };
+            of(vec![], [one(0, first), one(limits::TURN, second)].concat())
+        }
         6 => of(vec![b'n'; 65_536 * over], vec![]),
         0 => of(vec![], (0..limits::SETPOINTS + over).map(|turn| Setpoint { turn: turn as u64, trim: 0 }).collect()),
         1 => of(vec![b'n'; limits::VALUE - 16 + over], vec![]),
@@ -110,7 +170,7 @@ pub fn damaged_recipe(rng: &mut Rng) -> Vec<u8> {
     let good = recipe(rng);
     let mut value = recipe::write(&good);
     let end = value.len();
-    match rng.below(9) {
+    match rng.below(10) {
         0 => value.truncate(rng.below(end)),
         1 => value[end - 16] = value[end - 16].wrapping_add(*rng.pick(&[1, 255, 2])),
         2 => value[end - 16..end - 12].copy_from_slice(&(*rng.pick(&[0, 15, 16, end as u32, end as u32 + 1, u32::MAX])).to_le_bytes()),
@@ -119,6 +179,7 @@ pub fn damaged_recipe(rng: &mut Rng) -> Vec<u8> {
         5 => value.insert(0, 0),
         6 => value.resize(rng.between(2_047, 2_060), 0),
         7 => value[rng.below(end)] ^= 1 << rng.below(8),
+        8 => value = leaper_value(rng),
         _ => {
             let (list, count) = broken_setpoints(rng, good.setpoints);
             value = good.note;

@@ -108,9 +108,8 @@ impl Source {
         recipe::write(&made)
     }
 
-    /// A value close to the one that is held under a key: the same, one that goes on after it or ends before it, or one with another byte.
-    fn near_held(&mut self, world: &World, key: &[u8]) -> Option<Vec<u8>> {
-        let mut value = records::find(&world.records, key).ok()??.value;
+    /// A value close to the one that is held: the same, one that goes on after it or ends before it, or one with another byte.
+    fn near_held(&mut self, mut value: Vec<u8>) -> Vec<u8> {
         let end = value.len();
         match self.rng.below(6) {
             0 => {}
@@ -120,13 +119,28 @@ impl Source {
             4 => value[0] = value[0].wrapping_add(*self.rng.pick(&[1, 255])),
             _ => value[self.rng.below(end)] ^= 1 << self.rng.below(8),
         }
-        Some(value)
+        value
+    }
+
+    /// A value offered where a leaper is held: the same bytes, or another leaper or a recipe that ranks just below or above, by its sequence or by its bytes.
+    fn beside_leaper(&mut self, held: Vec<u8>) -> Vec<u8> {
+        let mut made = match self.rng.below(4) {
+            0 => return held,
+            1 => leaper(&mut self.rng),
+            _ => recipe(&mut self.rng),
+        };
+        let sequence = recipe::sequence_of(&held);
+        made.sequence = *self.rng.pick(&[sequence.saturating_sub(1), sequence, sequence.saturating_add(1)]);
+        recipe::write(&made)
     }
 
     /// A value for a key.
     fn value_for(&mut self, world: &World, key: &[u8]) -> Vec<u8> {
-        let near = if self.rng.one_in(4) { self.near_held(world, key) } else { None };
-        near.unwrap_or_else(|| self.value())
+        match records::find(&world.records, key) {
+            Ok(Some(found)) if recipe::is_leaper(&found.value) && !self.rng.one_in(4) => self.beside_leaper(found.value),
+            Ok(Some(found)) if self.rng.one_in(4) => self.near_held(found.value),
+            _ => self.value(),
+        }
     }
 
     /// A request as a peer may send it; the requester's own id is a key now and then.

@@ -1,0 +1,35 @@
+-- What the rules of a list come to, by position: document 01, 'Recipe', and document 02, (ix). proofs/Neighbours.antt shows each.
+use Prim.Native.Nat.{ℕ, suc, _-_, _<_}
+use mathlib.Core.Path.{_≡_}
+use mathlib.Core.Bool.{Bool, false, _&&_}
+use mathlib.Core.List.{List}
+use lib.ListN.{length, getD}
+use lib.Dec.{ltb, leb}
+use lib.IntN.{pos, natAbs, _-ℤ_}
+use Rattle.octets.specs.Search.{all}
+use Rattle.recipe.specs.Recipe.{Setpoint, These, setpoints, inRange, rules, countOf, roomOf, isRecipe}
+use Rattle.recipe.specs.declared.Prev.the-variants.{First}
+
+-- the setpoint at a position, from 0; past the end, turn 0 with trim 0
+abbrev pub pointAt : List Setpoint → ℕ → Setpoint
+pointAt ps i = getD ps i (record { turn = 0; trim = pos 0 })
+
+-- each setpoint keeps its own limits
+abbrev pub keepsLimits : List Setpoint → ℕ → Bool
+keepsLimits ps i = inRange (pointAt ps i .turn) (pointAt ps i .trim)
+
+-- from each to the one after it the turn rises, and the trims differ by at most 5,000
+abbrev pub turnRises : List Setpoint → ℕ → Bool
+turnRises ps i = ltb (pointAt ps i .turn) (pointAt ps (suc i) .turn)
+
+abbrev pub trimStays : List Setpoint → ℕ → Bool
+trimStays ps i = leb (natAbs (pointAt ps i .trim -ℤ pointAt ps (suc i) .trim)) 5000
+
+-- a list keeps the rules exactly if these hold at every position
+abbrev pub ByNeighbours : Type 0
+ByNeighbours = (ps : List Setpoint) → rules First ps ≡ (all (length ps) (keepsLimits ps) && all (length ps - 1) (λ i. turnRises ps i && trimStays ps i))
+
+-- "Refuse with 9 any recipe in which neighbouring trims differ by more than 5,000 millinewtons": no value whose setpoints do so, anywhere, is a recipe
+abbrev pub LeapsAreRefused : Type 0
+LeapsAreRefused =
+    (v : List ℕ) (ps : List Setpoint) (i : ℕ) → setpoints (countOf v) (roomOf v) ≡ These ps → suc i < length ps → trimStays ps i ≡ false → isRecipe v ≡ false

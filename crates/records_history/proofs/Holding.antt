@@ -1,0 +1,83 @@
+-- What a store does with the value that it holds under a key, whatever that value is. Assumes nothing.
+use mathlib.Core.Path.{_≡_, refl, sym, _∙_, subst}
+use mathlib.Core.Logic.{⊎-elim}
+use mathlib.Core.Bool.{Bool, true, false, cond, _&&_}
+use mathlib.Core.List.{List}
+use Prim.Native.Nat.{ℕ, _+_, _*_, _<_}
+use lib.Dec.{ltb}
+use lib.ListN.{length}
+use borrow.Author.Tests.{ltb-true, ltb-false, lt-ltb}
+use Rattle.octets.specs.Octets.{part, same}
+use Rattle.octets.proofs.Bools.{all-head, either, not-both}
+use Rattle.octets.proofs.Strings.{same-eq, same-refl}
+use Rattle.refusal.specs.declared.Refusal.the-variants.{BrokenRecipe, Outranked}
+use Rattle.recipe.specs.Recipe.{isRecipe, outranks}
+use Rattle.recipe.proofs.Rank.{outranks-self}
+use Rattle.records.specs.Limits.{valueAt, slotSize}
+use Rattle.records.specs.Store.{slotsOf, slot, keyOf, valueOf, isKey, isRecord, inForm, slotWith, heldAt, found, findOf, heldPlan, planOf, answerOf, offerAnswer, putAnswer, putAfter}
+use Rattle.records.specs.declared.Found.the-variants.{Held}
+use Rattle.records.specs.declared.Plan.the-variants.{Write, Keep, Refuse}
+use Rattle.records.specs.declared.Answer.the-variants.{Taken, Refused}
+use Rattle.record_slots.proofs.Finding.{with-holds, holds-out, form-record}
+use Rattle.records_history.specs.History.{Has, got, taken}
+use Rattle.records_history.specs.Claims.{HeldIsFound, JudgedFirst}
+use Rattle.records_history.proofs.Kept.{got-held, got-none, found-is}
+use Rattle.records_history.proofs.Stays.{has, none, put-is, put-got}
+
+-- ---- a key that is held
+module _ (t k u : List ℕ) (g : got t k ≡ Has u) where
+  pub held-in : slotWith t k < slotsOf t
+  held-in = ⊎-elim (λ b. ltb-true (slotWith t k) (slotsOf t) b) (λ b. absurd (none (sym (got-none t k (ltb-false (slotWith t k) (slotsOf t) b)) ∙ g))) (either (ltb (slotWith t k) (slotsOf t)))
+
+  held-value : valueOf (slot t (slotWith t k)) ≡ u
+  held-value = has (sym (got-held t k (slotWith t k) refl held-in) ∙ g)
+
+  pub held-key : inForm t ≡ true → isKey k ≡ true
+  unfolding isRecord
+  held-key form =
+      let h = holds-out t k (slotWith t k) (with-holds t k held-in) in
+      subst (λ (x : List ℕ). isKey x ≡ true) (h .1) (all-head (isKey (keyOf (slot t (slotWith t k)))) _ (form-record t (slotWith t k) form held-in (h .0)))
+
+  pub held-found : (a : ℕ) × (e : ℕ) × (found t k ≡ Held a e) × (part t a e ≡ u)
+  unfolding found heldAt
+  held-found =
+      let a : ℕ = slotWith t k * slotSize + valueAt in
+      let e : ℕ = slotWith t k * slotSize + valueAt + length (valueOf (slot t (slotWith t k))) in
+      let q : found t k ≡ Held (slotWith t k * slotSize + valueAt) (slotWith t k * slotSize + valueAt + length (valueOf (slot t (slotWith t k)))) = rw (lt-ltb (slotWith t k) (slotsOf t) held-in) refl in
+      (a, e, q, has (sym (found-is t k q .2) ∙ g))
+
+pub held-is-found : HeldIsFound
+unfolding findOf
+held-is-found t k u form g = let f = held-found t k u g in (f .0, f .1, rw form (f .2), f .3)
+
+-- ---- what is offered
+broken-first : (t k v : List ℕ) → inForm t ≡ true → isKey k ≡ true → isRecipe v ≡ false → putAnswer t k v ≡ Refused BrokenRecipe
+unfolding offerAnswer planOf answerOf
+broken-first t k v form e r = put-is t k v form .0 ∙ rw (e, r) refl
+
+module _ (t k u v : List ℕ) (form : inForm t ≡ true) (g : got t k ≡ Has u) (r : isRecipe v ≡ true) where
+  -- identical bytes don't outrank each other
+  compared : (s o : Bool) → same u v ≡ s → outranks u v ≡ o → answerOf (cond s Keep (cond o (Refuse Outranked) (Write (slotWith t k)))) ≡ cond o (Refused Outranked) Taken
+  unfolding answerOf
+  compared true true es eo = absurd (not-both (outranks u v) eo (subst (λ (x : List ℕ). outranks u x ≡ false) (same-eq u v es) (outranks-self u)))
+  compared true false es eo = refl
+  compared false true es eo = refl
+  compared false false es eo = refl
+
+  answer : putAnswer t k v ≡ cond (outranks u v) (Refused Outranked) Taken
+  unfolding offerAnswer planOf heldPlan
+  answer =
+      put-is t k v form .0
+      ∙ rw (held-key t k u g form, r, lt-ltb (slotWith t k) (slotsOf t) (held-in t k u g), held-value t k u g)
+      (compared (same u v) (outranks u v) refl refl)
+
+  after-it : (o : Bool) → cond (taken (cond o (Refused Outranked) Taken) && true) (Has v) (Has u) ≡ Has (cond o u v)
+  unfolding taken
+  after-it true = refl
+  after-it false = refl
+
+  then-ranked : (putAnswer t k v ≡ cond (outranks u v) (Refused Outranked) Taken) × (got (putAfter t k v) k ≡ Has (cond (outranks u v) u v))
+  then-ranked = (answer, put-got t k v k ∙ rw (answer, same-refl k, g) (after-it (outranks u v)))
+
+pub judged-first : JudgedFirst
+judged-first = record { broken = broken-first; ranked = then-ranked }
