@@ -22,7 +22,7 @@ use alloc::vec::Vec;
 const TRAILER: usize = 16;
 
 /// By how much the trims of neighbouring setpoints may differ, in millinewtons.
-pub const MOST_STEP: u32 = 5_000;
+pub const LEAP_MAX: u32 = 5_000;
 
 /// At this turn, pull so much more or less.
 #[derive(Clone, Copy, Debug, PartialEq, Eq)]
@@ -38,14 +38,14 @@ pub struct Setpoint {
 pub struct Recipe {
     /// Bytes that the box doesn't read.
     pub note: Vec<u8>,
-    /// At most 200, with rising turns, and trims of which neighbours differ by at most [`MOST_STEP`].
+    /// At most 200, with rising turns, and trims of which neighbours differ by at most [`LEAP_MAX`].
     pub setpoints: Vec<Setpoint>,
     /// Its version: of two recipes under one key the higher one is kept.
     pub sequence: u64,
 }
 
 impl Recipe {
-    /// Which setpoint leaps: the first whose trim differs from that of the one before it by more than [`MOST_STEP`].
+    /// Which setpoint leaps: the first whose trim differs from that of the one before it by more than [`LEAP_MAX`].
     ///
     /// ```
     /// use starterbell::recipe::{Recipe, Setpoint};
@@ -58,7 +58,7 @@ impl Recipe {
     /// assert_eq!(recipe.leap(), Some(2), "9 newtons more than at the turn before");
     /// ```
     pub fn leap(&self) -> Option<usize> {
-        let before = self.setpoints.windows(2).position(|two| two[0].trim.abs_diff(two[1].trim) > MOST_STEP)?;
+        let before = self.setpoints.windows(2).position(|two| two[0].trim.abs_diff(two[1].trim) > LEAP_MAX)?;
         Some(before + 1)
     }
 

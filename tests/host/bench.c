@@ -1,5 +1,5 @@
-/* bench: document 01's bench examples and a recipe that leaps (document 02, ix), played through the functions that include/starterbell.h declares, as the host of a box would call them. It ends with
-   status 0 and a line of what was played, or at the first difference with status 1 and a line that says it.
+/* bench: document 01's bench examples and a recipe that leaps (document 02, ix), played through the functions that include/starterbell.h declares, as the host of a
+   box would call them. It ends with status 0 and a line of what was played, or at the first difference with status 1 and a line that says it.
 
    It is example code too. A host lends a box all of its memory, so everything here is static: nothing is allocated, and the functions keep nothing. Read `struct
    box` and `struct connection` for what is lent, `serve` for how bytes go in and replies come out, and `look_up` for the asking side.
@@ -234,6 +234,7 @@ static void expect_held(const char *what, const uint8_t *value, size_t length) {
     expect_bytes(what, box.records + at[0], (size_t)(at[1] - at[0]), value, length);
     open_to(&box, &client, "a client", 0, 0);
     expect(what, serve(&box, &client, get_value, sizeof get_value, 5, &sent), STARTERBELL_RECEIVE_MORE);
+    expect("the reply's length prefix", sent.bytes[0] + 1u, sent.length);
     expect(what, starterbell_read(sent.bytes + 1, sent.length - 1, view, STARTERBELL_VIEW), STARTERBELL_DONE);
     expect_bytes(what, sent.bytes + 1 + view[6], (size_t)(view[7] - view[6]), value, length);
 }
@@ -257,7 +258,10 @@ static void play_leap(void) {
 /* A leaper that is held from before the rule: found and served, ranked, and not taken again. Its slot is laid out by hand: the length of the key, a zero, the length
    of the value in two bytes, four zeros, room for a key, the value. */
 static void play_held_leap(void) {
-    uint8_t higher[sizeof level];
+    uint8_t higher[sizeof level], higher_leaper[sizeof over];
+    memcpy(higher, level, sizeof level);
+    memcpy(higher_leaper, over, sizeof over);
+    higher[13] = higher_leaper[13] = 9;
     start(&box, "our box", "here");
     box.records[0] = sizeof key;
     box.records[2] = sizeof leaper;
@@ -266,11 +270,10 @@ static void play_held_leap(void) {
     expect_held("a leaper from before", leaper, sizeof leaper);
     expect("its own bytes on the screen", put(leaper, sizeof leaper), STARTERBELL_REFUSAL_BROKEN_RECIPE);
     expect("its own bytes from a peer", send_put(leaper, sizeof leaper, 7), STARTERBELL_REFUSAL_BROKEN_RECIPE);
+    expect("a leaper that ranks higher", put(higher_leaper, sizeof higher_leaper), STARTERBELL_REFUSAL_BROKEN_RECIPE);
     expect("a recipe that ranks lower", put(level, sizeof level), STARTERBELL_REFUSAL_OUTRANKED);
     expect("a recipe that ranks lower, from a peer", send_put(level, sizeof level, 7), STARTERBELL_REFUSAL_OUTRANKED);
     expect_held("a leaper that was offered others", leaper, sizeof leaper);
-    memcpy(higher, level, sizeof level);
-    higher[13] = 9;
     expect("a recipe that ranks higher", send_put(higher, sizeof higher, 7), STARTERBELL_RECEIVE_MORE);
     expect_held("after a recipe that ranks higher", higher, sizeof higher);
 }

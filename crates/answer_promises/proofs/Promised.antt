@@ -25,14 +25,14 @@ use Rattle.peer.specs.Addresses.{idRoom, addressRoom, mostAddresses, keptOf}
 use Rattle.peer.specs.Peers.{idFits}
 use Rattle.peer.proofs.Lists.{isUsable, size-most, kept-few, kept-usable}
 use Rattle.peer.proofs.Meaning.{id-whole, addresses-said}
-use Rattle.records.specs.Store.{inForm, found, offerAnswer, offerAfter, putAnswer, putAfter as storePutAfter}
+use Rattle.records.specs.Store.{inForm, found, offerAnswer, offerAfter}
 use Rattle.records.specs.declared.Answer as stored
 use Rattle.records.specs.declared.Answer.the-variants as store
 use Rattle.records.specs.declared.Found.{Found}
 use Rattle.records.specs.declared.Found.the-variants as looked
 use Rattle.record_slots.proofs.Laying.{key-least, key-most}
-use Rattle.records_history.specs.History.{Has, got, taken}
-use Rattle.records_history.proofs.Stays.{offer-form, put-is, put-refused}
+use Rattle.records_history.specs.History.{Has, got}
+use Rattle.records_history.proofs.Stays.{offer-form, put-is}
 use Rattle.records_history.proofs.Holding.{held-key, held-found}
 use Rattle.wire.specs.Items.{num, minimal, written, written1, single, repeated}
 use Rattle.wire_put.proofs.Digits.{minimal-one, minimal-three}
@@ -48,7 +48,7 @@ use Rattle.message.proofs.Meaning.{kind-meant}
 use Rattle.round_trip.proofs.RoundTrip.{round-trip}
 use Rattle.replies.specs.Replies.{putValue, getValue, findNode, ping, closerPeers, listed, lastEntry, findNodeReply, recordAt, getValueReply, putValueReply, pingReply}
 use Rattle.entries.specs.Entries.{contactEntry, peerEntry}
-use Rattle.replies.specs.Verdicts.{Verdict, replies, refuses, keyFits, keyed, echoed, putVerdict, putAfter, Dealt, refused, replied, byVerdict, toldOf}
+use Rattle.replies.specs.Verdicts.{Verdict, replies, refuses, keyFits, keyed, echoed, putVerdict, putAfter, Dealt, refused, replied, byVerdict}
 use Rattle.answer.specs.Answers.{verdictOf, recordsAfter, byReading, dealOf}
 use Rattle.answer_promises.specs.Promises.{RefusedChangesNothing, ReadsBack, Roomed, RepliesReadBack, AnsweredByFields, SentAsTyped, HeldIsServed, EntryIsPeer, RecordsStayInForm}
 use Rattle.replies.specs.declared.Answered.the-variants.{Reply, Refused}
@@ -295,32 +295,10 @@ module _ (me who : peers.Peer) (t k y : List ℕ) (body : List ℕ) (l : length 
   unfolding verdictOf recordsAfter keyed
   by-get e f = by-type (ap (ltb mostKind) e) ∙ rw (e, f) refl
 
--- an echo, or the refusal, and the records of it
-echo-told : (a : stored.Answer) (m : Message) (k after y : List ℕ) → byVerdict (echoed a m) k after y .told ≡ toldOf (echoed a m)
-echo-told store.Taken m k after y = refl
-echo-told (store.Refused r) m k after y = refl
-
-echo-records : (a : stored.Answer) (m : Message) (k after y : List ℕ) → (taken a ≡ false → after ≡ k) → byVerdict (echoed a m) k after y .records ≡ after
-unfolding taken
-echo-records store.Taken m k after y h = refl
-echo-records (store.Refused r) m k after y h = sym (h refl)
-
 pub sent-as-typed : (me : peers.Peer) → SentAsTyped me
-sent-as-typed me who body t k y m r l d e h q form = (
-  ap (λ (x : Dealt). x .told) same-deal ∙ echo-told (putAnswer k (m .key) (r .value)) says k after y,
-  ap (λ (x : Dealt). x .records) same-deal ∙ echo-records (putAnswer k (m .key) (r .value)) says k after y (put-refused k (m .key) (r .value)),
-)
-  where
-    says : Message
-    says = putValueReply (m .key) (r .value)
-
-    after : List ℕ
-    after = storePutAfter k (m .key) (r .value)
-
-    same-deal : dealOf me who body t k y ≡ byVerdict (echoed (putAnswer k (m .key) (r .value)) says) k after y
-    same-deal =
-        by-put me who t k y body l m d e r h q
-        ∙ sym (ap₂ (λ (a : stored.Answer) (x : List ℕ). byVerdict (echoed a says) k x y) (put-is k (m .key) (r .value) form .0) (put-is k (m .key) (r .value) form .1))
+sent-as-typed me who body t k y m r l d e h q form =
+    by-put me who t k y body l m d e r h q
+    ∙ sym (ap₂ (λ (a : stored.Answer) (x : List ℕ). byVerdict (echoed a (putValueReply (m .key) (r .value))) k x y) (put-is k (m .key) (r .value) form .0) (put-is k (m .key) (r .value) form .1))
 
 record-held : (t k key u : List ℕ) → got k key ≡ Has u → getValueReply t k key .held ≡ some (record { key = key; value = u })
 unfolding getValueReply
@@ -334,9 +312,8 @@ held-is-served me who body t k y u m l d e form g room =
     let b = replied-back (getValueReply t k (m .key)) k y (length (frame (encode (getValueReply t k (m .key))))) (good-get t k (m .key) (key-most (m .key) n)) room refl in
     rw (by-get me who t k y body l m d e fits) (record {
       size = length (frame (encode (getValueReply t k (m .key))));
-      says = getValueReply t k (m .key);
       told = refl;
-      stands = b .stands;
-      back = b .back;
+      says = getValueReply t k (m .key);
+      back = b;
       held = record-held t k (m .key) u g;
     })

@@ -15,7 +15,7 @@ use Rattle.message.specs.Limits.{mostBody, leastReply}
 use Rattle.message.specs.Message.{Record, Message, messageOf, decode, encode, frame}
 use Rattle.entries.specs.Entries.{peerEntry}
 use Rattle.replies.specs.Replies.{putValue, getValue, putValueReply}
-use Rattle.replies.specs.Verdicts.{Verdict, replies, echoed, Dealt, toldOf}
+use Rattle.replies.specs.Verdicts.{Verdict, replies, echoed, Dealt, byVerdict}
 use Rattle.answer.specs.Answers.{verdictOf, dealOf}
 use Rattle.replies.specs.declared.Answered.the-variants.{Reply, Refused}
 
@@ -50,29 +50,27 @@ abbrev pub AnsweredByFields : peers.Peer → Type 0
 AnsweredByFields me =
     (who : peers.Peer) (a b : List ℕ) → length a ≤ mostBody → length b ≤ mostBody → decode a ≡ decode b → (t k y : List ℕ) → dealOf me who a t k y ≡ dealOf me who b t k y
 
--- document 02, (ix), "a local or remote put": a PUT_VALUE whose record has the message's key is told what the host's own put of that record is told, by an echo
--- where that is taken, and leaves the same records
+-- document 02, (ix), "a local or remote put": a PUT_VALUE whose record has the message's key gets what the host's own put of that record is told, an echo where it
+-- is taken, and leaves the same records
 abbrev pub SentAsTyped : peers.Peer → Type 0
 SentAsTyped me =
     (who : peers.Peer) (body t k y : List ℕ) (m : Message) (r : Record) → length body ≤ mostBody → decode body ≡ some m → m .kind ≡ putValue → m .held ≡ some r
     → r .key ≡ m .key → inForm k ≡ true
-    → (dealOf me who body t k y .told ≡ toldOf (echoed (putAnswer k (m .key) (r .value)) (putValueReply (m .key) (r .value))))
-    × (dealOf me who body t k y .records ≡ putAfter k (m .key) (r .value))
+    → dealOf me who body t k y ≡ byVerdict (echoed (putAnswer k (m .key) (r .value)) (putValueReply (m .key) (r .value))) k (putAfter k (m .key) (r .value)) y
 
--- a reply that carries the value u under a key: so many bytes of the buffer are a message with its prefix, which reads back with that record
-pub record Serves (d : Dealt) (key u : List ℕ) : Type 0 where
+-- a reply that carries the value u under a key: it stands in the buffer and reads back with that record
+pub record Serves (d : Dealt) (y key u : List ℕ) : Type 0 where
   pub size : ℕ
-  pub says : Message
   pub told : d .told ≡ Reply size
-  pub stands : take size (d .reply) ≡ frame (encode says)
-  pub back : decode (encode says) ≡ some says
+  pub says : Message
+  pub back : ReadsBack (replies says) d y size
   pub held : says .held ≡ some (record { key = key; value = u })
 
 -- "Records already held .. are still served": a GET_VALUE for a key gets the value that is held under it, whatever the recipe rules say of that value
 abbrev pub HeldIsServed : peers.Peer → Type 0
 HeldIsServed me =
     (who : peers.Peer) (body t k y u : List ℕ) (m : Message) → length body ≤ mostBody → decode body ≡ some m → m .kind ≡ getValue → inForm k ≡ true
-    → got k (m .key) ≡ Has u → leastReply ≤ length y → Serves (dealOf me who body t k y) (m .key) u
+    → got k (m .key) ≡ Has u → leastReply ≤ length y → Serves (dealOf me who body t k y) y (m .key) u
 
 -- the entry for us or the requester has the id and the usable addresses that were handed in
 abbrev pub EntryIsPeer : Type 0

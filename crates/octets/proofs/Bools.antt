@@ -57,6 +57,10 @@ pub and-fails : (a b : Bool) → b ≡ false → (a && b) ≡ false
 and-fails true b e = e
 and-fails false b e = refl
 
+pub and-assoc : (a b c : Bool) → (a && (b && c)) ≡ ((a && b) && c)
+and-assoc true b c = refl
+and-assoc false b c = refl
+
 pub and-swap : (a b c : Bool) → (a && (b && c)) ≡ (b && (a && c))
 and-swap true b c = refl
 and-swap false b c = sym (and-fails b false refl)

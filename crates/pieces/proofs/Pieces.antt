@@ -11,7 +11,7 @@ use lib.Seq.{take-nil}
 use lib.Dec.{leb, ltb}
 use borrow.Author.Tests.{leb-true, leb-false, le-leb, lt-leb, lt-ltb, le-ltb}
 use Rattle.octets.specs.Search.{every, allOf}
-use Rattle.octets.proofs.Bools.{either, and-l, and-r, not-both}
+use Rattle.octets.proofs.Bools.{either, and-l, and-r, and-assoc, not-both}
 use Rattle.wire.specs.Items.{num, bytes, minimal, tagged, written1, written, single, repeated, Put}
 use Rattle.wire_put.proofs.Digits.{minimal-one}
 use Rattle.wire_put.proofs.Putting.{put-on, number-length, bytes-short, single-empty, single-full, written-append, written-one, repeated-append, repeated-snoc}
@@ -107,11 +107,7 @@ nth-all (suc (suc (suc (suc n)))) a b c d =
 every-append-is : {A : Type 0} (p : A → Bool) (l m : List A) → every p (l ++ m) ≡ (every p l && every p m)
 unfolding every
 every-append-is p [] m = refl
-every-append-is p (x ∷ l) m = rw (every-append-is p l m) (assoc (p x) (every p l) (every p m))
-  where
-    assoc : (a b c : Bool) → (a && (b && c)) ≡ ((a && b) && c)
-    assoc true b c = refl
-    assoc false b c = refl
+every-append-is p (x ∷ l) m = rw (every-append-is p l m) (and-assoc (p x) (every p l) (every p m))
 
 not-false : (b : Bool) → not b ≡ false → b ≡ true
 not-false true e = refl

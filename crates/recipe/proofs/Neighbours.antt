@@ -1,12 +1,12 @@
 -- The rules of a list by position. Assumes nothing.
 use Prim.Native.Nat.{ℕ, suc, _-_, _<_}
 use mathlib.Core.Path.{_≡_, refl, sym, ap, ap₂, _∙_, subst}
-use mathlib.Core.Bool.{Bool, true, false, _&&_}
+use mathlib.Core.Bool.{Bool, true, _&&_}
 use mathlib.Core.List.{List, [], _∷_}
 use native.Mathlib.Omega.{arith}
 use lib.ListN.{length}
 use Rattle.octets.specs.Search.{all}
-use Rattle.octets.proofs.Bools.{and-fails, and-r, not-both, to-false}
+use Rattle.octets.proofs.Bools.{and-r, and-assoc, and-swap, not-both, to-false}
 use Rattle.octets.proofs.Searching.{all-at, all-first}
 use Rattle.recipe.specs.Recipe.{Setpoint, Setpoints, inRange, noLeap, follows, rules, ruled, isList, isRecipe}
 use Rattle.recipe.specs.Claims.{keepsLimits, turnRises, trimStays, ByNeighbours, LeapsAreRefused}
@@ -17,13 +17,7 @@ abbrev steps : List Setpoint → ℕ → Bool
 steps ps i = turnRises ps i && trimStays ps i
 
 regroup : (i s l r : Bool) → (i && (s && (l && r))) ≡ ((i && l) && (s && r))
-regroup false s l r = refl
-regroup true true l r = refl
-regroup true false l r = sym (and-fails l false refl)
-
-assoc : (i l r : Bool) → (i && (l && r)) ≡ ((i && l) && r)
-assoc false l r = refl
-assoc true l r = refl
+regroup i s l r = ap (λ (b : Bool). i && b) (and-swap s l r) ∙ and-assoc i l (s && r)
 
 -- what comes after the setpoint p
 rules-after : (p : Setpoint) (qs : List Setpoint) → rules (After (p .turn) (p .trim)) qs ≡ (all (length qs) (keepsLimits qs) && all (length qs) (steps (p ∷ qs)))
@@ -40,7 +34,7 @@ by-neighbours [] = refl
 by-neighbours (q ∷ qs) =
     let e : suc (length qs) - 1 ≡ length qs = omega arith in
     ap (λ (r : Bool). inRange (q .turn) (q .trim) && r) (rules-after q qs)
-    ∙ assoc (inRange (q .turn) (q .trim)) (all (length qs) (keepsLimits qs)) (all (length qs) (steps (q ∷ qs)))
+    ∙ and-assoc (inRange (q .turn) (q .trim)) (all (length qs) (keepsLimits qs)) (all (length qs) (steps (q ∷ qs)))
     ∙ ap₂ _&&_ (sym (all-first (keepsLimits (q ∷ qs)) (length qs))) (ap (λ (n : ℕ). all n (steps (q ∷ qs))) (sym e))
 
 pub leaps-are-refused : LeapsAreRefused

@@ -131,7 +131,7 @@ fn point_at(s: &[u8], at: usize) -> Point
     }
 }
 
-// Whether neighbouring trims differ by no more than a leap. In 64 bits, as the difference of two trims may need 33.
+// Whether neighbouring trims differ by at most LEAP_MAX. In 64 bits, since the difference of two 32-bit numbers may need 33.
 fn no_leap(a: i32, b: i32) -> bool
     ensures { λ r. ⌜ r ≡ noLeap a b ⌝ }
 {

@@ -9,19 +9,20 @@ use lib.ListN.{length}
 use borrow.Author.Tests.{ltb-true, ltb-false, lt-ltb}
 use Rattle.octets.specs.Octets.{part, same}
 use Rattle.octets.proofs.Bools.{all-head, either, not-both}
+use Rattle.octets.proofs.Searching.{all-at, first-hit}
 use Rattle.octets.proofs.Strings.{same-eq, same-refl}
 use Rattle.refusal.specs.declared.Refusal.the-variants.{BrokenRecipe, Outranked}
 use Rattle.recipe.specs.Recipe.{isRecipe, outranks}
 use Rattle.recipe.proofs.Rank.{outranks-self}
 use Rattle.records.specs.Limits.{valueAt, slotSize}
-use Rattle.records.specs.Store.{slotsOf, slot, keyOf, valueOf, isKey, isRecord, inForm, slotWith, heldAt, found, findOf, heldPlan, planOf, answerOf, offerAnswer, putAnswer, putAfter}
+use Rattle.records.specs.Store.{slotsOf, slot, keyOf, valueOf, isKey, isRecord, holds, apart, inForm, slotWith, heldAt, found, findOf, heldPlan, planOf, answerOf, offerAnswer, putAnswer, putAfter}
 use Rattle.records.specs.declared.Found.the-variants.{Held}
 use Rattle.records.specs.declared.Plan.the-variants.{Write, Keep, Refuse}
 use Rattle.records.specs.declared.Answer.the-variants.{Taken, Refused}
-use Rattle.record_slots.proofs.Finding.{with-holds, holds-out, form-record}
+use Rattle.record_slots.proofs.Finding.{with-holds, holds-out, form-record, form-apart}
 use Rattle.records_history.specs.History.{Has, got, taken}
 use Rattle.records_history.specs.Claims.{HeldIsFound, JudgedFirst}
-use Rattle.records_history.proofs.Kept.{got-held, got-none, found-is}
+use Rattle.records_history.proofs.Kept.{got-held, got-none, found-is, apart-out}
 use Rattle.records_history.proofs.Stays.{has, none, put-is, put-got}
 
 -- ---- a key that is held
@@ -46,9 +47,22 @@ module _ (t k u : List ℕ) (g : got t k ≡ Has u) where
       let q : found t k ≡ Held (slotWith t k * slotSize + valueAt) (slotWith t k * slotSize + valueAt + length (valueOf (slot t (slotWith t k)))) = rw (lt-ltb (slotWith t k) (slotsOf t) held-in) refl in
       (a, e, q, has (sym (found-is t k q .2) ∙ g))
 
-pub held-is-found : HeldIsFound
+-- in form, one slot holds a key, so that is where it is looked up
+slot-holds : (t k : List ℕ) (i : ℕ) → inForm t ≡ true → i < slotsOf t → holds t k i ≡ true → got t k ≡ Has (valueOf (slot t i))
+unfolding slotWith
+slot-holds t k i form l h = got-held t k i (sym (first-hit (holds t k) (slotsOf t) i l before h)) l
+  where
+    before : (j : ℕ) → j < i → holds t k j ≡ false
+    before j m =
+        let o = holds-out t k i h in
+        subst (λ (x : List ℕ). holds t x j ≡ false) (o .1) (apart-out t i j (all-at (apart t i) i j (form-apart t i form l (o .0)) m))
+
+value-found : (t k u : List ℕ) → inForm t ≡ true → got t k ≡ Has u → (a : ℕ) × (e : ℕ) × (findOf t k ≡ Held a e) × (part t a e ≡ u)
 unfolding findOf
-held-is-found t k u form g = let f = held-found t k u g in (f .0, f .1, rw form (f .2), f .3)
+value-found t k u form g = let f = held-found t k u g in (f .0, f .1, rw form (f .2), f .3)
+
+pub held-is-found : HeldIsFound
+held-is-found = record { held = slot-holds; found = value-found }
 
 -- ---- what is offered
 broken-first : (t k v : List ℕ) → inForm t ≡ true → isKey k ≡ true → isRecipe v ≡ false → putAnswer t k v ≡ Refused BrokenRecipe

@@ -1,5 +1,5 @@
--- What a store does with the value u that it holds under a key, whatever the recipe rules say of u: document 02, (ix), "Records already held stay held and are
--- still served and ranked". proofs/Holding.antt shows each. That u stays until a higher-ranking one is accepted is `holds-on` (proofs/Stays.antt).
+-- What a store does with the value that it holds under a key, whatever the recipe rules say of that value: document 02, (ix), "Records already held stay held and
+-- are still served and ranked". proofs/Holding.antt and Blind.antt show each. That it stays until a higher-ranking one is accepted is `holds-on` (proofs/Stays.antt).
 use Prim.Native.Nat.{ℕ, _+_, _*_, _<_}
 use mathlib.Core.Path.{_≡_}
 use mathlib.Core.Bool.{true, false, cond}
@@ -9,22 +9,22 @@ use Rattle.octets.specs.Octets.{part}
 use Rattle.refusal.specs.declared.Refusal.the-variants.{BrokenRecipe, Outranked}
 use Rattle.recipe.specs.Recipe.{isRecipe, outranks}
 use Rattle.records.specs.Limits.{valueAt, slotSize}
-use Rattle.records.specs.Store.{slotsOf, isKey, inForm, findOf, putAnswer, putAfter}
+use Rattle.records.specs.Store.{slotsOf, slot, valueOf, isKey, holds, inForm, findOf, putAnswer, putAfter}
 use Rattle.records.specs.declared.Found.the-variants.{Held}
 use Rattle.records.specs.declared.Answer.the-variants.{Taken, Refused}
 use Rattle.records_history.specs.History.{Has, got}
 
--- form never looks into a value: stores of one size, whose slots have the same header and key, are both in form or both out of it
+-- form never looks into a value: stores of one size, whose slots have the same bytes before the value, are both in form or both out of it
 abbrev pub FormIsBlind : Type 0
 FormIsBlind =
     (s t : List ℕ) → length s ≡ length t
     → ((i : ℕ) → i < slotsOf s → part s (i * slotSize) (i * slotSize + valueAt) ≡ part t (i * slotSize) (i * slotSize + valueAt))
     → inForm s ≡ inForm t
 
--- what is held is found: it stands where find says
-abbrev pub HeldIsFound : Type 0
-HeldIsFound =
-    (t k u : List ℕ) → inForm t ≡ true → got t k ≡ Has u → (a : ℕ) × (e : ℕ) × (findOf t k ≡ Held a e) × (part t a e ≡ u)
+-- the value in the slot that holds a key is the one held under it, and is found: it stands where find says
+pub record HeldIsFound : Type 0 where
+  pub held : (t k : List ℕ) (i : ℕ) → inForm t ≡ true → i < slotsOf t → holds t k i ≡ true → got t k ≡ Has (valueOf (slot t i))
+  pub found : (t k u : List ℕ) → inForm t ≡ true → got t k ≡ Has u → (a : ℕ) × (e : ℕ) × (findOf t k ≡ Held a e) × (part t a e ≡ u)
 
 -- what is offered is judged first: 9, whatever is held. Only then it is compared: 10, if what is held ranks higher; else it is the one that is held
 pub record JudgedFirst : Type 0 where

@@ -69,7 +69,8 @@ impl Liar {
 
     /// What is sent to a bench that asked for nothing.
     pub fn rubbish(&self, rng: &mut Rng) -> Vec<u8> {
-        match rng.below(9) {
+        let told = self.first.iter().next();
+        match rng.below(10) {
             0 => broken(rng),
             1 => vec![2, 8, 6],
             2 => written(Draft::new(Kind::AddProvider)),
@@ -78,7 +79,8 @@ impl Liar {
             5 => written(Draft::put_value(b"/elsewhere/rubbish", &rng.bytes::<40>())),
             6 => written(Draft::find_node(b"half of a message"))[..9].to_vec(),
             7 => written(Draft::find_node(b"")),
-            _ => self.first.iter().next().map_or(vec![0x80], |(key, value)| written(Draft::put_value(key, value))),
+            8 => written(Draft::put_value(told.map_or(b"/wind/rubbish", |(key, _)| key), &LEAPER)),
+            _ => told.map_or(vec![0x80], |(key, value)| written(Draft::put_value(key, value))),
         }
     }
 }
