@@ -1,5 +1,5 @@
--- Form goes by the header and the key of each slot: `form-is-blind`. Assumes nothing.
-use mathlib.Core.Path.{_≡_, sym, ap, ap₂, _∙_, subst}
+-- Form goes by what stands before the value in each slot: `form-is-blind`. Assumes nothing.
+use mathlib.Core.Path.{_≡_, sym, ap, ap₂, _∙_}
 use mathlib.Core.Bool.{true, false, not}
 use mathlib.Core.List.{List, [], _∷_}
 use Prim.Native.Nat.{ℕ, _+_, _-_, _*_, _/_, _<_, _≤_, min}
@@ -20,7 +20,7 @@ use Rattle.record_slots.proofs.Finding.{holds-out, holds-in, form-record, form-
 use Rattle.records_history.specs.Claims.{FormIsBlind}
 use Rattle.records_history.proofs.Kept.{apart-out, apart-in, fits-in}
 
--- ---- two slots that have the same header and key
+-- ---- two slots that have the same bytes before the value
 module _ (a b : List ℕ) (alike : take valueAt a ≡ take valueAt b) where
   byte : (i : ℕ) → i < valueAt → getD a i 0 ≡ getD b i 0
   byte i l = sym (getD-take valueAt a i 0 l) ∙ ap (λ (x : List ℕ). getD x i 0) alike ∙ getD-take valueAt b i 0 l
