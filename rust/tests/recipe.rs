@@ -66,27 +66,18 @@ fn leaps_are_refused_and_named() {
 /// What `leap` says is what the proved check says, on lists that break no other rule.
 #[test]
 fn leaps_are_those_of_the_check() {
-    let mut seed = 1u64;
-    let mut below = |n: u64| {
-        seed = seed.wrapping_mul(6_364_136_223_846_793_005).wrapping_add(1_442_695_040_888_963_407);
-        (seed >> 33) % n
+    const STEPS: [i32; 7] = [-5_001, -5_000, -4_999, 0, 4_999, 5_000, 5_001];
+    let check = |trims: [i32; 4]| {
+        let recipe = recipe(&(0..).zip(trims.map(|trim| trim.clamp(-20_000, 20_000))).collect::<Vec<_>>());
+        assert_eq!(recipe.leap().is_some(), recipe.to_value().is_err(), "{recipe:?}");
     };
-    let mut leapt = 0;
-    for _ in 0..20_000 {
-        let mut trim = below(40_001) as i32 - 20_000;
-        let step = |by: u64| if by % 2 == 0 { 4_999 + by as i32 % 3 } else { -4_999 - by as i32 % 3 };
-        let list: Vec<_> = (0..1 + below(4) as u32)
-            .map(|turn| {
-                let here = (turn, trim);
-                trim = (trim + step(below(6))).clamp(-20_000, 20_000);
-                here
-            })
-            .collect();
-        let recipe = recipe(&list);
-        assert_eq!(recipe.leap().is_some(), recipe.to_value().is_err(), "{list:?}");
-        leapt += usize::from(recipe.leap().is_some());
+    for first in [-20_000, -4_999, 0, 20_000] {
+        for a in STEPS {
+            for b in STEPS {
+                STEPS.iter().for_each(|c| check([first, first + a, first + a + b, first + a + b + c]));
+            }
+        }
     }
-    assert!((2_000..18_000).contains(&leapt), "{leapt}");
 }
 
 #[test]

@@ -160,6 +160,9 @@ static void play_prefixes(void) {
 
 static const uint8_t key[] = {'/', 'w', 'i', 'n', 'd', '/', 'a'};
 
+/* A GET_VALUE for it. */
+static const uint8_t get_value[] = {0x0b, 0x08, 0x01, 0x12, 0x07, '/', 'w', 'i', 'n', 'd', '/', 'a'};
+
 /* Turn 0, trim -1, sequence 7. */
 static const uint8_t recipe[] = {0x00, 0x01, 0x12, 0x00, 0x00, 0x00, 0x01, 0x00, 0x01, 0x00, 0x07, 0x00, 0x00, 0x00, 0x00, 0x00, 0x00, 0x00};
 
@@ -191,7 +194,6 @@ static void play_recipes(void) {
 static void play_values(void) {
     static const uint8_t put_value[] = {0x2a, 0x08, 0x00, 0x12, 0x07, '/', 'w', 'i', 'n', 'd', '/', 'a', 0x1a, 0x1d, 0x0a, 0x07, '/', 'w', 'i', 'n', 'd', '/', 'a', 0x12, 0x12,
         0x00, 0x01, 0x12, 0x00, 0x00, 0x00, 0x01, 0x00, 0x01, 0x00, 0x07, 0x00, 0x00, 0x00, 0x00, 0x00, 0x00, 0x00};
-    static const uint8_t get_value[] = {0x0b, 0x08, 0x01, 0x12, 0x07, '/', 'w', 'i', 'n', 'd', '/', 'a'};
     static const uint8_t got_value[] = {0x21, 0x08, 0x01, 0x1a, 0x1d, 0x0a, 0x07, '/', 'w', 'i', 'n', 'd', '/', 'a', 0x12, 0x12,
         0x00, 0x01, 0x12, 0x00, 0x00, 0x00, 0x01, 0x00, 0x01, 0x00, 0x07, 0x00, 0x00, 0x00, 0x00, 0x00, 0x00, 0x00};
     static const size_t cuts[] = {1, 7, sizeof put_value};
@@ -228,7 +230,6 @@ static uint32_t send_put(const uint8_t *value, size_t length, size_t cut) {
 
 /* The value under the key is this one, as find and as a GET_VALUE on a new connection have it. */
 static void expect_held(const char *what, const uint8_t *value, size_t length) {
-    static const uint8_t get_value[] = {0x0b, 0x08, 0x01, 0x12, 0x07, '/', 'w', 'i', 'n', 'd', '/', 'a'};
     uint64_t at[STARTERBELL_FIND_OUT], view[STARTERBELL_VIEW];
     expect(what, starterbell_find(box.records, sizeof box.records, key, sizeof key, at, 2), STARTERBELL_FIND_HELD);
     expect_bytes(what, box.records + at[0], (size_t)(at[1] - at[0]), value, length);
