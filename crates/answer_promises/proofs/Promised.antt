@@ -241,6 +241,8 @@ replied-back m k y n g l e =
     record {
       says = m;
       verdict = refl;
+      fits = g .fits;
+      size = sym q;
       stands = sym (ap (λ (i : ℕ). take i (sets y 0 (frame (encode m)))) z) ∙ part-sets y 0 (frame (encode m)) (omega arith);
       back = round-trip m (g .fits);
       short = g .short;

@@ -13,6 +13,7 @@ use Rattle.records.specs.Store.{inForm, putAnswer, putAfter}
 use Rattle.records_history.specs.History.{Has, got}
 use Rattle.message.specs.Limits.{mostBody, leastReply}
 use Rattle.message.specs.Message.{Record, Message, messageOf, decode, encode, frame}
+use Rattle.pieces.specs.Writable.{writable}
 use Rattle.entries.specs.Entries.{peerEntry}
 use Rattle.replies.specs.Replies.{putValue, getValue, putValueReply}
 use Rattle.replies.specs.Verdicts.{Verdict, replies, echoed, Dealt, byVerdict}
@@ -25,11 +26,13 @@ RefusedChangesNothing =
     (me who : peers.Peer) (body t k y : List ℕ) (r : Refusal) → dealOf me who body t k y .told ≡ Refused r
     → (dealOf me who body t k y .records ≡ k) × (dealOf me who body t k y .reply ≡ y)
 
--- a reply of n bytes stands in the buffer: the message that the verdict calls for, with its prefix, which reads back as the same message; "bytes after a
--- reply stay". 14,087 is document 01's largest reply body
+-- a reply of n bytes stands in the buffer: the message that the verdict calls for, within the limits, with its prefix, which reads back as the same message;
+-- "bytes after a reply stay". 14,087 is document 01's largest reply body
 pub record ReadsBack (v : Verdict) (d : Dealt) (y : List ℕ) (n : ℕ) : Type 0 where
   pub says : Message
   pub verdict : v ≡ replies says
+  pub fits : writable says ≡ true
+  pub size : n ≡ length (frame (encode says))
   pub stands : take n (d .reply) ≡ frame (encode says)
   pub back : decode (encode says) ≡ some says
   pub short : length (encode says) ≤ 14087

@@ -5,12 +5,13 @@ use mathlib.Core.Path.{_≡_, refl, sym, ap, _∙_, subst}
 use mathlib.Core.Bool.{true, false, true≢false}
 use Rattle.stream.specs.Stream.{fresh, isShut, inForm, Out}
 use Rattle.cutting.specs.Frames.{frames}
-use Rattle.cutting.specs.World.{Line, called, joined, Fine, Turn, opens, ends, turned, Roomy}
+use Rattle.cutting.specs.World.{here, putBack, Line, call, called, joined, Fine, Turn, opens, ends, turned, Roomy}
 use Rattle.cutting.specs.Plain.{Wire, standing}
 use Rattle.stream.specs.declared.Ending.{Ending}
-use Rattle.cutting.specs.Claims.{OpenAndEnd, Cut, Later, FormKept, Bounded, Reading, Several, SeveralPlainly, OwnReceive, Past, alone, opened, Reads, Anyone}
+use Rattle.cutting.specs.Claims.{OpenAndEnd, Cut, Later, FormKept, Bounded, Reading, Several, SeveralPlainly, Split, OneReceive, OwnReceive, Past, alone, opened, Reads, Anyone}
 use Rattle.stream.proofs.Steps.{call-runs}
-use Rattle.cutting.proofs.World.{play, handed-all, same-end}
+use Rattle.cutting.proofs.World.{play, handed-all, same-end, hand-split}
+use Rattle.cutting.proofs.Once.{one-call}
 use Rattle.cutting.proofs.Frames.{read-all}
 use Rattle.cutting.proofs.Plain.{read-out}
 use Rattle.cutting.proofs.Kept.{end-shuts, receive-form, receive-within, receive-message, end-form}
@@ -82,6 +83,13 @@ several P A B O L Peer Good Fits S s r cs ds h k g n = same-end L S cs ds s r h 
 
 pub several-plainly : SeveralPlainly
 several-plainly P A B O L Peer Good Fits S K s r f n cs h = read-out L S K s r f n cs h
+
+pub split : Split
+split P A B O L Peer Good Fits S s r i p q = hand-split L S s i p q r
+
+pub one-receive : OneReceive
+unfolding call
+one-receive P A B O L Peer Good Fits S s r i p h = ap (putBack s i) (one-call L S i (here s i) p (record { line = r .lines i; good = r .good }) h)
 
 pub past : Past
 past f m n bs j k e = past-alike f m n bs j k e

@@ -4,6 +4,7 @@ pub mod Kept
 pub mod World
 pub mod Heads
 pub mod Frames
+pub mod Once
 pub mod Past
 pub mod Later
 pub mod Plain

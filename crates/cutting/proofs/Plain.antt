@@ -67,6 +67,10 @@ leading-none : (B : Type 0) → leading {B = B} [] ≡ []
 unfolding leading
 leading-none B = refl
 
+pending-none : (B : Type 0) → pending {B = B} [] ≡ []
+unfolding pending
+pending-none B = refl
+
 step-run : (f : Framing) (m : List ℕ) (b : ℕ) (bs : List ℕ) (a : Answer) → stepOf f b .answer ≡ a
     → runOf f m (b ∷ bs) ≡ after a (stepOf f b .framing) (storeOf f m b) (runOf (stepOf f b .framing) (storeOf f m b) bs)
 step-run f m b bs a e = run-cons f m b bs ∙ ap (λ (x : Answer). after x (stepOf f b .framing) (storeOf f m b) (runOf (stepOf f b .framing) (storeOf f m b) bs)) e
@@ -216,8 +220,14 @@ module _ {P B : Type 0} (l : Line P) (w : Wire P B) (p : List ℕ) (rest : List 
   rel-half : leading rest ≡ [] → w .shut ≡ false → take (length (halfOf (leading (w .left)))) (l .buffer) ≡ halfOf (leading (w .left))
   rel-half e h = is-part (l .framing) (l .buffer) (leading (w .left)) p (read-so-far e) (r .mid h) .half
 
+  rel-done : pending rest ≡ [] → pending (w .left) ≡ []
+  rel-done e = ap pending (r .left) ∙ pending-bytes p rest ∙ e
+
+  rel-part : leading rest ≡ [] → w .shut ≡ false → headOf (leading (w .left)) ≡ partly
+  rel-part e h = is-part (l .framing) (l .buffer) (leading (w .left)) p (read-so-far e) (r .mid h) .head
+
   rel-partly : leading rest ≡ [] → cond (w .shut) partly (headOf (leading (w .left))) ≡ partly
-  rel-partly e = cond-ind (λ (h : Head). h ≡ partly) (w .shut) partly (headOf (leading (w .left))) (λ h. refl) (λ h. is-part (l .framing) (l .buffer) (leading (w .left)) p (read-so-far e) (r .mid h) .head)
+  rel-partly e = cond-ind (λ (h : Head). h ≡ partly) (w .shut) partly (headOf (leading (w .left))) (λ h. refl) (λ h. rel-part e h)
 
 cond-shut : (z : Bool) (f : Framing) → isShut f ≡ false → isShut (cond z Shut f) ≡ z
 cond-shut true f h = refl
@@ -441,7 +451,15 @@ module _ {P A B O : Type 0} (L : Layer P A B O) where
     plain-run : (xs : List (Step (Act B) O)) → FitSteps xs → Reads-out xs
     unfolding run marks plainly actsOf step byte FitSteps
     plain-run [] fit s w p r e h =
-        record { state = e; lines = λ i. record { stands = rel-stands (s .lines i) (w .lines i) (p i) [] (h i) (leading-none B); half = rel-half (s .lines i) (w .lines i) (p i) [] (h i) (leading-none B) } }
+        record {
+          state = e;
+          lines = λ i. record {
+            done = rel-done (s .lines i) (w .lines i) (p i) [] (h i) (pending-none B);
+            part = rel-part (s .lines i) (w .lines i) (p i) [] (h i) (leading-none B);
+            stands = rel-stands (s .lines i) (w .lines i) (p i) [] (h i) (leading-none B);
+            half = rel-half (s .lines i) (w .lines i) (p i) [] (h i) (leading-none B);
+          };
+        }
     plain-run (at i (takes b) ∷ xs) fit s w p r e h = go (isMore (stepOf (s .lines i .framing) b .answer)) refl (plain-run xs fit)
       where
         R : Rel (s .lines i) (w .lines i) (p i) (takes b ∷ actsOf i xs)

@@ -169,6 +169,12 @@ module _ {P A B O : Type 0} (L : Layer P A B O) where
           rw (byte-more i d b h e)
           (rw e (ih (step-open (d .line .framing) b h e) ∙ lands-later i d (runOf (stepOf (d .line .framing) b .framing) (storeOf (d .line .framing) (d .line .buffer) b) bs) b bs))
 
+  -- and where the run takes all of them, no rest
+  pub play-all : (bs : List ℕ) (i : ℕ) (d : Here) (o : Out) → isShut (d .line .framing) ≡ false → runOf (d .line .framing) (d .line .buffer) bs ≡ o → length bs ≤ o .got .taken
+      → play i d bs ≡ lands i d o
+  play-all bs i d o h e l =
+      play-run bs i d h ∙ ap (λ (x : Out). play i (lands i d x) (drop (x .got .taken) bs)) e ∙ ap (play i (lands i d o)) (drop-of-length-le bs l) ∙ play-nil i (lands i d o)
+
   module _ {Peer : P → Type 0} {Good : A → Type 0} {Fits : B → Type 0} (S : Sound L Peer Good Fits) where
     pub record Well (d : Here) : Type 0 where
       pub line : Fine Peer (d .line)
@@ -227,7 +233,7 @@ module _ {P A B O : Type 0} (L : Layer P A B O) where
         o = runOf (d .line .framing) (d .line .buffer) bs
 
         on-more : isShut (d .line .framing) ≡ false → isMore (o .got .answer) ≡ true → lands i d o ≡ play i d bs
-        on-more h m = sym (play-run bs i d h ∙ ap (play i (lands i d o)) (drop-of-length-le bs (run-all bs (d .line .framing) (d .line .buffer) m)) ∙ play-nil i (lands i d o))
+        on-more h m = sym (play-all bs i d o h refl (run-all bs (d .line .framing) (d .line .buffer) m))
 
         on-event : ((y : Here) (cs : List ℕ) → Well y → length cs < f → feed L i f y cs ≡ play i y cs) → isShut (d .line .framing) ≡ false → isMore (o .got .answer) ≡ false
             → feed L i f (lands i d o) (drop (o .got .taken) bs) ≡ play i d bs
@@ -273,9 +279,18 @@ module _ {P A B O : Type 0} (L : Layer P A B O) where
     back-ready : (s : World P A O) (i : ℕ) (d : Here) → Ready Peer Good s → Well d → Ready Peer Good (putBack s i d)
     back-ready s i d r w = record { lines = λ j. cond-ind (Fine Peer) (eqb j i) (d .line) (s .lines j) (λ e. w .line) (λ e. r .lines j); good = w .good }
 
-    call-hand : (s : World P A O) (i : ℕ) (p : List ℕ) → Ready Peer Good s → call L s (hand i p) ≡ putBack s i (play i (here s i) p)
+    -- a piece is its bytes, so it may be handed over in two
+    pub call-hand : (s : World P A O) (i : ℕ) (p : List ℕ) → Ready Peer Good s → call L s (hand i p) ≡ putBack s i (play i (here s i) p)
     unfolding call
     call-hand s i p r = ap (putBack s i) (handed-play i (here s i) p (here-well s i r))
+
+    pub hand-split : (s : World P A O) (i : ℕ) (p q : List ℕ) → Ready Peer Good s → call L s (hand i (p ++ q)) ≡ call L (call L s (hand i p)) (hand i q)
+    hand-split s i p q r =
+        let d : Here = play i (here s i) p in
+        let t : Ready Peer Good (putBack s i d) = back-ready s i d r (play-well p i (here s i) (here-well s i r)) in
+        call-hand s i (p ++ q) r ∙ ap (putBack s i) (play-append i (here s i) p q) ∙ sym (back-back s i d (play i d q))
+        ∙ ap (λ (x : Here). putBack (putBack s i d) i (play i x q)) (sym (here-back s i d)) ∙ sym (call-hand (putBack s i d) i q t)
+        ∙ ap (λ (w : World P A O). call L w (hand i q)) (sym (call-hand s i p r))
 
     call-does : (s : World P A O) (i : ℕ) (b : B) → call L s (does i b) ≡ step rules s (at i (acts b))
     unfolding call step

@@ -1,7 +1,7 @@
 -- The theorems of this crate, as statements; proofs/Claims.antt proves each (`Cut` is proved by `cut`, `SeveralPlainly` by `several-plainly`).
 use Prim.Native.Nat.{ℕ, _+_, _≤_}
 use mathlib.Core.Path.{_≡_}
-use mathlib.Core.List.{List, []}
+use mathlib.Core.List.{List, [], _++_}
 use mathlib.Core.Bool.{Bool, true, false, cond}
 use lib.ListN.{length, take, drop}
 use Rattle.stream.specs.declared.Framing.{Framing}
@@ -11,7 +11,7 @@ use Rattle.stream.specs.declared.Answer.{Answer}
 use Rattle.stream.specs.declared.Answer.the-variants.{Message, Refused, More}
 use Rattle.stream.specs.Stream.{bodyLimit, fresh, isShut, inForm, Out, receiveOf, endOf}
 use Rattle.cutting.specs.Frames.{Event, Frames, frames, framingOf, halfOf, puts}
-use Rattle.cutting.specs.World.{Did, Line, Shared, World, Layer, Call, joined, given, handedAll, calls, bare, turned, Roomy, Fine, Sound, Ready, AllFit}
+use Rattle.cutting.specs.World.{Did, putBack, Line, Shared, World, Layer, Call, hand, joined, given, answered, handedAll, call, calls, bare, turned, Roomy, Fine, Sound, Ready, AllFit}
 use Rattle.cutting.specs.Plain.{ReadOut, Blunt, plainly, unread}
 
 -- ---- 1. Pieces cut anywhere, empty ones too, give what the whole string gives: whatever the layer above keeps of events, with their places
@@ -59,6 +59,21 @@ SeveralPlainly =
     → (s : World P A O) → Ready Peer Good s → ((i : ℕ) → isShut (s .lines i .framing) ≡ false → s .lines i .framing ≡ fresh) → s .shared .order ≡ []
     → (cs : List (Call B O)) → AllFit Fits cs
     → ReadOut (plainly L (unread s cs) (calls L s cs .shared .order)) (calls L s cs)
+
+-- and a piece is the same handed over in two
+abbrev pub Split : Type 1
+Split =
+    (P A B O : Type 0) (L : Layer P A B O) (Peer : P → Type 0) (Good : A → Type 0) (Fits : B → Type 0) → Sound L Peer Good Fits
+    → (s : World P A O) → Ready Peer Good s → (i : ℕ) (p q : List ℕ) → call L s (hand i (p ++ q)) ≡ call L (call L s (hand i p)) (hand i q)
+
+-- one call of `receive`, which takes a piece up to its first event, is the hand-over of the bytes that it takes. With `Split`: a piece handed over whole is as
+-- many calls as it has events, and one that asks for more; and a host that makes other calls between two of them hands the piece over in parts
+abbrev pub OneReceive : Type 1
+OneReceive =
+    (P A B O : Type 0) (L : Layer P A B O) (Peer : P → Type 0) (Good : A → Type 0) (Fits : B → Type 0) → Sound L Peer Good Fits
+    → (s : World P A O) → Ready Peer Good s → (i : ℕ) (p : List ℕ) → isShut (s .lines i .framing) ≡ false
+    → let c = L .receive i (s .lines i) (s .shared .state) p in
+    call L s (hand i (take (c .count) p)) ≡ putBack s i (answered L i (s .shared) c)
 
 -- ---- 5. This crate's `receive` is such a layer, whatever events, acts and other calls do
 abbrev pub Anyone : {X : Type 0} → X → Type 0

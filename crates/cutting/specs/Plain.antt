@@ -65,8 +65,11 @@ module _ {P A B O : Type 0} (L : Layer P A B O) where
 abbrev pub unread : {P A B O : Type 0} → World P A O → List (Call B O) → Sys (Wire P B) A
 unread s cs = record { lines = λ i. record { who = s .lines i .who; shut = isShut (s .lines i .framing); taken = s .lines i .taken; left = given i cs }; shared = s .shared .state }
 
--- a connection l against its wire w, of which all bytes were read
+-- a connection l against its wire w, of which all was read: every act was done, and while it is open the bytes left are a part of a message, with no whole
+-- one and no bad prefix among them
 pub record Left {P B : Type 0} (w : Wire P B) (l : Line P) : Type 0 where
+  pub done : pending (w .left) ≡ []
+  pub part : w .shut ≡ false → headOf (leading (w .left)) ≡ partly
   pub stands : l ≡ standing w (l .buffer)
   pub half : w .shut ≡ false → take (length (halfOf (leading (w .left)))) (l .buffer) ≡ halfOf (leading (w .left))
 

@@ -2,7 +2,7 @@
 use Prim.Native.Nat.{ℕ, _≤_}
 use mathlib.Core.Path.{_≡_, refl, sym, ap, _∙_, subst}
 use mathlib.Core.Bool.{Bool, true, false, cond}
-use mathlib.Core.List.{List, [], _∷_, _++_}
+use mathlib.Core.List.{List, [], _∷_, _++_, append-assoc}
 use native.Mathlib.Omega.{arith}
 use lib.ListN.{length}
 use Rattle.octets.proofs.Bools.{cond-ind}
@@ -45,12 +45,19 @@ after-more k (o ∷ os) ps = after-more (offered k o) os ps
 pub record Lasting (Q : List ℕ → List Offer → Type 0) : Type 0 where
   pub on : (k : List ℕ) (os ps : List Offer) → Q k os → Q (after k ps) (os ++ ps)
 
--- the store is what the offers made of the store k
-abbrev pub MadeFrom : List ℕ → List ℕ → List Offer → Type 0
-MadeFrom k now os = now ≡ after k os
+-- more was offered since `before`, and the store is what that made of the store k
+abbrev pub MadeSince : List ℕ → List Offer → List ℕ → List Offer → Type 0
+MadeSince k before now os = (ps : List Offer) × (os ≡ before ++ ps) × (now ≡ after k ps)
 
-pub made-lasting : (k : List ℕ) → Lasting (MadeFrom k)
-made-lasting k = record { on = λ now os ps e. ap (λ (x : List ℕ). after x ps) e ∙ sym (after-more k os ps) }
+pub made-lasting : (k : List ℕ) (before : List Offer) → Lasting (MadeSince k before)
+made-lasting k before =
+    record {
+      on = λ now os ps h. (
+        h .0 ++ ps,
+        ap (λ (x : List Offer). x ++ ps) (h .1) ∙ append-assoc before (h .0) ps,
+        ap (λ (x : List ℕ). after x ps) (h .2) ∙ sym (after-more k (h .0) ps),
+      );
+    }
 
 -- memory in form and room for a reply, and such a fact
 pub record Held (me : Peer) (Q : List ℕ → List Offer → Type 0) (a : Box) : Type 0 where
@@ -60,10 +67,10 @@ pub record Held (me : Peer) (Q : List ℕ → List Offer → Type 0) (a : Box) :
 module _ (me : Peer) (Q : List ℕ → List Offer → Type 0) (L : Lasting Q) where
   -- ---- a message
   -- what it leaves, with the contacts t, records k and reply buffer y before
-  record Keeps (k y : List ℕ) (os : List Offer) (d : Dealing) : Type 0 where
-    contacts : contactsForm (d .contacts) (me .place) ≡ true
-    records : d .records ≡ after k os
-    room : length (d .reply) ≡ length y
+  pub record Keeps (k y : List ℕ) (os : List Offer) (d : Dealing) : Type 0 where
+    pub contacts : contactsForm (d .contacts) (me .place) ≡ true
+    pub records : d .records ≡ after k os
+    pub room : length (d .reply) ≡ length y
 
   seen-after : (c : Conn) (t : List ℕ) → Fair (me .place) (c .peer) → contactsForm t (me .place) ≡ true → contactsForm (contactsAfter me c t) (me .place) ≡ true
   unfolding contactsAfter
@@ -75,7 +82,7 @@ module _ (me : Peer) (Q : List ℕ → List Offer → Type 0) (L : Lasting Q) wh
   answer-keeps (told.Refused r) d c t k y os p h g l = record { contacts = h; records = l .offers g; room = l .room }
   answer-keeps (told.Reply n) d c t k y os p h g l = record { contacts = seen-after c t p h; records = l .offers g; room = l .room }
 
-  dealing-keeps : (w : Who) (a : Box) (body : List ℕ) → Allowed me w → Good me a → Keeps (a .records) (a .reply) (offerIn w body) (dealing me w a body)
+  pub dealing-keeps : (w : Who) (a : Box) (body : List ℕ) → Allowed me w → Good me a → Keeps (a .records) (a .reply) (offerIn w body) (dealing me w a body)
   unfolding dealingOf served heard after
   dealing-keeps w a body p g = go (w .asking)
     where

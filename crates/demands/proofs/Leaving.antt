@@ -20,6 +20,7 @@ use Rattle.pieces.specs.Writable.{writable}
 use Rattle.writer.specs.declared.Written.the-variants as writer
 use Rattle.writer.specs.Writer.{answerOf, outAfter}
 use Rattle.node.specs.declared.Answer.the-variants.{Refused}
+use Rattle.host_calls.specs.Hosts.{ownId, lookupStart}
 use Rattle.node_promises.proofs.Refusals.{receive-refused, calls-refused, values-refused}
 use Rattle.lookup_runs.proofs.Refusals.{refusals}
 use Rattle.demands.specs.Demands.{RefusedLeaves}
@@ -40,6 +41,7 @@ write-leaves y m r = go (ltb (length y) leastReply) (not (writable m))
     go false false e = absurd (let z : _≡_ {A = ℕ} 0 1 = cc in omega arith)
 
 pub refused-leaves : (me : Peer) → RefusedLeaves me
+unfolding lookupStart
 refused-leaves me =
     record {
       receive = receive-refused me;
@@ -48,4 +50,5 @@ refused-leaves me =
       put = put-leaves;
       write = write-leaves;
       lookup = λ l c r. refusals .untouched c l r;
+      empties = λ t key limit. refusals .empty t (ownId me) (me .place) key limit;
     }

@@ -10,4 +10,7 @@ pub mod Leaving
 pub mod Never
 pub mod Hashing
 pub mod Beginning
+pub mod Queries
+pub mod Hearing
+pub mod Accepting
 pub mod Theorems

@@ -1,8 +1,8 @@
 -- Memory in form stays so, and then no call gives 0.
 use Prim.Native.Nat.{ℕ, _≤_}
-use mathlib.Core.Path.{_≡_, sym, _∙_, subst}
+use mathlib.Core.Path.{_≡_, sym, ap, _∙_, subst}
 use mathlib.Core.Logic.{⊎-elim}
-use mathlib.Core.Bool.{Bool, true, false, cond, not}
+use mathlib.Core.Bool.{Bool, true, false, cond, not, _||_}
 use mathlib.Core.List.{List}
 use native.Mathlib.Omega.{arith}
 use lib.Dec.{ltb}
@@ -33,6 +33,8 @@ use Rattle.lookup.specs.declared.Step.{Step}
 use Rattle.lookup.specs.declared.Lookup.{Lookup}
 use Rattle.lookup.specs.Lookup.{keyFits as lookupKeyFits, limitFits, idFits, marksOf, settled, begun, startOf}
 use Rattle.lookup_marks.specs.Marks.{isOver}
+use Rattle.lookup_runs.proofs.Refusals.{refusals}
+use Rattle.lookup_runs.proofs.Theorems.{claims}
 use Rattle.stream.specs.declared.Framing.{Framing}
 use Rattle.stream.specs.declared.Framing.the-variants.{Shut, Prefix, Body}
 use Rattle.stream.specs.declared.Held.the-variants.{Nothing, One, Two}
@@ -44,13 +46,15 @@ use Rattle.stream.specs.Stream.{isShut, inForm, runOf, endIn, endOf}
 use Rattle.stream.proofs.Steps.{call-runs}
 use Rattle.cutting.specs.World.{Line, Fine}
 use Rattle.replies.specs.Verdicts.{keyFits}
+use Rattle.node.specs.declared.Answer.{Answer}
 use Rattle.node.specs.declared.Answer.the-variants.{Refused}
 use Rattle.connections.specs.declared.Ended.{Ended}
+use Rattle.connections.specs.declared.Opened.{Opened}
 use Rattle.node.specs.declared.Gate.{Gate}
 use Rattle.host_calls.specs.declared.Nearby.{Nearby}
 use Rattle.connections.specs.declared.Told.{Told}
 use Rattle.connections.specs.declared.Told.the-variants as nodeTold
-use Rattle.connections.specs.Box.{ownFits, endConn}
+use Rattle.connections.specs.Box.{ownFits, openOf, endConn}
 use Rattle.node.specs.Node.{Out, takenOf, unless, receiveOf}
 use Rattle.host_calls.specs.Hosts.{seenOf, settleOf, removeOf, nearestTo, ownId, lookupStart}
 use Rattle.demands.specs.Box as box
@@ -58,7 +62,7 @@ use Rattle.demands.specs.Box.{Box, Who, connOf, Own, Allowed, Good}
 use Rattle.demands.specs.Demands.{NeverOutOfForm}
 use Rattle.demands.proofs.Connections.{conn-form, gate-shut, gate-open}
 use Rattle.demands.proofs.Receives.{let-through, runs-as}
-use Rattle.demands.proofs.Refusals.{Above, AnswerAbove, run-above, event-above}
+use Rattle.demands.proofs.Refusals.{Above, AnswerRaised, AnswerAbove, raised-above, run-raised, event-raised}
 use Rattle.demands.proofs.Sound.{sound}
 use Rattle.demands.proofs.Ready.{calls-ready}
 
@@ -76,20 +80,23 @@ module _ (me : Peer) where
       (takenOf me (connOf (l .who) (l .framing)) (l .buffer) bs (a .contacts) (a .records) (a .reply)) .got .answer))
       (sym (gate-shut me l a f e g)) (omega arith)
 
-  open-answer : Own me → (l : Line Who) (a : Box) (bs : List ℕ) → Fine (Allowed me) l → Good me a → isShut (l .framing) ≡ false
-      → AnswerAbove (receiveOf me (connOf (l .who) (l .framing)) (l .buffer) bs (a .contacts) (a .records) (a .reply) .got .answer)
+  pub open-answer : Own me → (l : Line Who) (a : Box) (bs : List ℕ) → Fine (Allowed me) l → Good me a → isShut (l .framing) ≡ false
+      → AnswerRaised (receiveOf me (connOf (l .who) (l .framing)) (l .buffer) bs (a .contacts) (a .records) (a .reply) .got .answer)
   open-answer w l a bs f g e =
       let o : streams.Out = runOf (l .framing) (l .buffer) bs in
-      subst (λ (x : Out). AnswerAbove (x .got .answer))
+      subst (λ (x : Out). AnswerRaised (x .got .answer))
       (sym (let-through me l bs (a .contacts) (a .records) (a .reply) (gate-open me w l a f e g)
       ∙ runs-as me l bs (a .contacts) (a .records) (a .reply) o (call-runs (l .framing) (l .buffer) bs (f .form) (f .room) e)))
-      (event-above me (o .got .answer) (connOf (l .who) (o .got .framing)) (o .got .taken) (o .buffer) (a .contacts) (a .records) (a .reply)
-      (run-above bs (l .framing) (l .buffer)))
+      (event-raised me (o .got .answer) (connOf (l .who) (o .got .framing)) (o .got .taken) (o .buffer) (a .contacts) (a .records) (a .reply)
+      (run-raised bs (l .framing) (l .buffer)))
 
   receive-never : Own me → (l : Line Who) (a : Box) (bs : List ℕ) → Fine (Allowed me) l → Good me a
       → receiveOf me (connOf (l .who) (l .framing)) (l .buffer) bs (a .contacts) (a .records) (a .reply) .got .answer ≡ Refused OutOfForm → ⊥
   receive-never w l a bs f g e =
-      let h : 1 ≤ 0 = subst AnswerAbove e (⊎-elim (shut-answer l a bs f g) (open-answer w l a bs f g) (either (isShut (l .framing)))) in omega arith
+      let x : Answer = receiveOf me (connOf (l .who) (l .framing)) (l .buffer) bs (a .contacts) (a .records) (a .reply) .got .answer in
+      let h : 1 ≤ 0 =
+      subst AnswerAbove e (⊎-elim (shut-answer l a bs f g) (λ o. raised-above x (open-answer w l a bs f g o)) (either (isShut (l .framing)))) in
+      omega arith
 
 -- ---- ending
 abbrev EndAbove : Ending → Type 0
@@ -132,6 +139,11 @@ RemoveAbove (removeAnswer.Refused r) = Above r
 abbrev ToldAbove : Told → Type 0
 ToldAbove nodeTold.Fine = Unit {0}
 ToldAbove (nodeTold.Refused r) = Above r
+
+open-above : (me : Peer) (id : List ℕ) (server asking : Bool) (addresses : List ℕ) → ToldAbove (openOf me id server asking addresses .told)
+unfolding openOf
+open-above me id server asking addresses =
+    cond-ind (λ (o : Opened). ToldAbove (o .told)) (not (ownFits me) || badPeer (me .place) id) _ _ (λ e. omega arith) (λ e. tt)
 
 outcome-above : (s : Sighting) → SeenAbove (outcomeOf s)
 outcome-above (sighting.Moved i) = tt
@@ -221,10 +233,12 @@ no-zero : 1 ≤ 0 → ⊥
 no-zero h = omega arith
 
 pub never-out-of-form : (me : Peer) → Own me → NeverOutOfForm me
+unfolding lookupStart
 never-out-of-form me w =
     record {
       kept = λ s r cs f. calls-ready (box.box me) (sound me w) cs s r f;
       receive = λ l a bs f g e. receive-never me w l a bs f g e;
+      opens = λ id server asking addresses e. no-zero (subst ToldAbove e (open-above me id server asking addresses));
       end = λ l f e. end-never me l f e;
       seen = λ a id client g e. no-zero (subst SeenAbove e (seen-above me (a .contacts) (g .contacts) id client));
       settle = λ a head id client answered g e. no-zero (subst SettleAbove e (settle-above me (a .contacts) (g .contacts) head id client answered));
@@ -233,4 +247,6 @@ never-out-of-form me w =
       put = λ a key value g e. never-0 (a .records) key value (g .records) e;
       find = λ a key g e. no-zero (subst FoundAbove e (find-above (a .records) key (g .records)));
       start = λ a key limit g e. no-zero (subst LookupAbove e (start-above me (a .contacts) (g .contacts) key limit));
+      lookup = λ t key limit s cs c v e. claims t (ownId me) (me .place) key limit s .never0 cs c v e;
+      empty = λ t key limit r e cs c. ap (λ (s : Step). s .answer) (refusals .later t (ownId me) (me .place) key limit r e cs c);
     }

@@ -73,7 +73,7 @@ module _ (me : Peer) where
   told-any (told.Refused r) d w f t = refl
   told-any (told.Reply n) d w f t = refl
 
-  dealing-any : (w : Who) (f : Framing) (body t k y : List ℕ) → dealingOf me (connOf w f) body t k y ≡ dealingOf me (connOf w fresh) body t k y
+  pub dealing-any : (w : Who) (f : Framing) (body t k y : List ℕ) → dealingOf me (connOf w f) body t k y ≡ dealingOf me (connOf w fresh) body t k y
   unfolding dealingOf served
   dealing-any w f body t k y =
       let d = dealOf me (w .peer) body t k y in

@@ -1,4 +1,4 @@
--- Which refusals each part gives: none but the tests of form gives 0. Assumes nothing of its own.
+-- Which refusals each part gives: 3 to 11 are raised on a connection, and none but the tests of form gives 0. Assumes nothing of its own.
 use Prim.Native.Nat.{ℕ, suc, _*_, _+_, _%_, _≤_}
 use mathlib.Core.Path.{sym, subst}
 use mathlib.Core.Bool.{not}
@@ -46,156 +46,173 @@ use Rattle.demands.proofs.Deal.{deal-is}
 abbrev pub Above : Refusal → Type 0
 Above r = 1 ≤ numberOf r
 
+-- "3 to 11 .. shut the connection when raised on it"
+abbrev pub Raised : Refusal → Type 0
+Raised r = (3 ≤ numberOf r) × (numberOf r ≤ 11)
+
 -- ---- the framing: 3 and 4
-abbrev LeadAbove : Lead → Type 0
-LeadAbove (On h) = Unit {0}
-LeadAbove (Length n) = Unit {0}
-LeadAbove (Bad r) = Above r
+abbrev LeadRaised : Lead → Type 0
+LeadRaised (On h) = Unit {0}
+LeadRaised (Length n) = Unit {0}
+LeadRaised (Bad r) = Raised r
 
-abbrev pub FramedAbove : stream.Answer → Type 0
-FramedAbove (framed.Message n) = Unit {0}
-FramedAbove (framed.Refused r) = Above r
-FramedAbove framed.More = Unit {0}
+abbrev pub FramedRaised : stream.Answer → Type 0
+FramedRaised (framed.Message n) = Unit {0}
+FramedRaised (framed.Refused r) = Raised r
+FramedRaised framed.More = Unit {0}
 
-limited-above : (n : ℕ) → LeadAbove (limited n)
+limited-raised : (n : ℕ) → LeadRaised (limited n)
 unfolding limited
-limited-above n = cond-ind LeadAbove (ltb bodyLimit n) _ _ (λ h. omega arith) (λ h. tt)
+limited-raised n = cond-ind LeadRaised (ltb bodyLimit n) _ _ (λ h. (omega arith, omega arith)) (λ h. tt)
 
-minimal-above : (z n : ℕ) → LeadAbove (minimal z n)
+minimal-raised : (z n : ℕ) → LeadRaised (minimal z n)
 unfolding minimal
-minimal-above z n = cond-ind LeadAbove (eqb z 0) _ _ (λ h. omega arith) (λ h. limited-above n)
+minimal-raised z n = cond-ind LeadRaised (eqb z 0) _ _ (λ h. (omega arith, omega arith)) (λ h. limited-raised n)
 
-prefix-above : (h : Held) (z : ℕ) → LeadAbove (prefixStep h z)
+prefix-raised : (h : Held) (z : ℕ) → LeadRaised (prefixStep h z)
 unfolding prefixStep
-prefix-above Nothing z = cond-ind LeadAbove (ltb z 128) _ _ (λ h. limited-above z) (λ h. tt)
-prefix-above (One a) z = cond-ind LeadAbove (ltb z 128) _ _ (λ h. minimal-above z (a % 128 + z * 128)) (λ h. tt)
-prefix-above (Two a b) z = cond-ind LeadAbove (ltb z 128) _ _ (λ h. minimal-above z (a % 128 + b % 128 * 128 + z * 16384)) (λ h. omega arith)
+prefix-raised Nothing z = cond-ind LeadRaised (ltb z 128) _ _ (λ h. limited-raised z) (λ h. tt)
+prefix-raised (One a) z = cond-ind LeadRaised (ltb z 128) _ _ (λ h. minimal-raised z (a % 128 + z * 128)) (λ h. tt)
+prefix-raised (Two a b) z = cond-ind LeadRaised (ltb z 128) _ _ (λ h. minimal-raised z (a % 128 + b % 128 * 128 + z * 16384)) (λ h. (omega arith, omega arith))
 
-abbrev StepAbove : Stepped → Type 0
-StepAbove s = FramedAbove (s .answer)
+abbrev StepRaised : Stepped → Type 0
+StepRaised s = FramedRaised (s .answer)
 
-led-above : (l : Lead) → LeadAbove l → StepAbove (led l)
-led-above (On h) a = tt
-led-above (Length n) a = cond-ind StepAbove (eqb n 0) _ _ (λ h. tt) (λ h. tt)
-led-above (Bad r) a = a
+led-raised : (l : Lead) → LeadRaised l → StepRaised (led l)
+led-raised (On h) a = tt
+led-raised (Length n) a = cond-ind StepRaised (eqb n 0) _ _ (λ h. tt) (λ h. tt)
+led-raised (Bad r) a = a
 
-step-above : (f : Framing) (b : ℕ) → StepAbove (stepOf f b)
-step-above Shut b = tt
-step-above (Prefix h) b = led-above (prefixStep h b) (prefix-above h b)
-step-above (Body want have) b = cond-ind StepAbove (eqb (suc have) want) _ _ (λ h. tt) (λ h. tt)
+step-raised : (f : Framing) (b : ℕ) → StepRaised (stepOf f b)
+step-raised Shut b = tt
+step-raised (Prefix h) b = led-raised (prefixStep h b) (prefix-raised h b)
+step-raised (Body want have) b = cond-ind StepRaised (eqb (suc have) want) _ _ (λ h. tt) (λ h. tt)
 
-after-above : (w : stream.Answer) (f : Framing) (m : List ℕ) (o : streams.Out) → FramedAbove w → FramedAbove (o .got .answer)
-    → FramedAbove (streams.after w f m o .got .answer)
-after-above (framed.Message n) f m o h g = h
-after-above (framed.Refused r) f m o h g = h
-after-above framed.More f m o h g = g
+after-raised : (w : stream.Answer) (f : Framing) (m : List ℕ) (o : streams.Out) → FramedRaised w → FramedRaised (o .got .answer)
+    → FramedRaised (streams.after w f m o .got .answer)
+after-raised (framed.Message n) f m o h g = h
+after-raised (framed.Refused r) f m o h g = h
+after-raised framed.More f m o h g = g
 
-pub run-above : (bs : List ℕ) (f : Framing) (m : List ℕ) → FramedAbove (runOf f m bs .got .answer)
+pub run-raised : (bs : List ℕ) (f : Framing) (m : List ℕ) → FramedRaised (runOf f m bs .got .answer)
 unfolding runOf
-run-above [] f m = tt
-run-above (b ∷ bs) f m =
-    after-above (stepOf f b .answer) (stepOf f b .framing) (storeOf f m b) (runOf (stepOf f b .framing) (storeOf f m b) bs) (step-above f b)
-    (run-above bs (stepOf f b .framing) (storeOf f m b))
+run-raised [] f m = tt
+run-raised (b ∷ bs) f m =
+    after-raised (stepOf f b .answer) (stepOf f b .framing) (storeOf f m b) (runOf (stepOf f b .framing) (storeOf f m b) bs) (step-raised f b)
+    (run-raised bs (stepOf f b .framing) (storeOf f m b))
 
 -- ---- the reader: 4 to 6
-abbrev ReadAbove : Reading → Type 0
-ReadAbove (reading.Refused r) = Above r
-ReadAbove (reading.Whole f) = Unit {0}
+abbrev ReadRaised : Reading → Type 0
+ReadRaised (reading.Refused r) = Raised r
+ReadRaised (reading.Whole f) = Unit {0}
 
-read-above : (body : List ℕ) → ReadAbove (readingOf body)
+read-raised : (body : List ℕ) → ReadRaised (readingOf body)
 unfolding readingOf
-read-above body =
-    cond-ind ReadAbove (ltb mostBody (length body)) _ _ (λ e. omega arith)
-    (λ e. cond-ind ReadAbove (not (wellMessage body)) _ _ (λ e. omega arith)
-    (λ e. cond-ind ReadAbove (ltb mostKind (fieldsOf body .kind)) _ _ (λ e. omega arith) (λ e. tt)))
+read-raised body =
+    cond-ind ReadRaised (ltb mostBody (length body)) _ _ (λ e. (omega arith, omega arith))
+    (λ e. cond-ind ReadRaised (not (wellMessage body)) _ _ (λ e. (omega arith, omega arith))
+    (λ e. cond-ind ReadRaised (ltb mostKind (fieldsOf body .kind)) _ _ (λ e. (omega arith, omega arith)) (λ e. tt)))
 
 -- ---- the store: 8 to 11
-abbrev PlanAbove : Plan → Type 0
-PlanAbove (Write i) = Unit {0}
-PlanAbove Keep = Unit {0}
-PlanAbove (Refuse r) = Above r
+abbrev PlanRaised : Plan → Type 0
+PlanRaised (Write i) = Unit {0}
+PlanRaised Keep = Unit {0}
+PlanRaised (Refuse r) = Raised r
 
-plan-above : (k key v : List ℕ) → PlanAbove (planOf k key v)
+plan-raised : (k key v : List ℕ) → PlanRaised (planOf k key v)
 unfolding planOf heldPlan
-plan-above k key v =
-    cond-ind PlanAbove (not (isKey key)) _ _ (λ e. omega arith)
-    (λ e. cond-ind PlanAbove (not (isRecipe v)) _ _ (λ e. omega arith)
-    (λ e. cond-ind PlanAbove (ltb (slotWith k key) (slotsOf k)) _ _
-    (λ e. cond-ind PlanAbove (same (valueOf (slot k (slotWith k key))) v) _ _ (λ e. tt)
-    (λ e. cond-ind PlanAbove (outranks (valueOf (slot k (slotWith k key))) v) _ _ (λ e. omega arith) (λ e. tt)))
-    (λ e. cond-ind PlanAbove (ltb (freeSlot k) (slotsOf k)) _ _ (λ e. tt) (λ e. omega arith))))
+plan-raised k key v =
+    cond-ind PlanRaised (not (isKey key)) _ _ (λ e. (omega arith, omega arith))
+    (λ e. cond-ind PlanRaised (not (isRecipe v)) _ _ (λ e. (omega arith, omega arith))
+    (λ e. cond-ind PlanRaised (ltb (slotWith k key) (slotsOf k)) _ _
+    (λ e. cond-ind PlanRaised (same (valueOf (slot k (slotWith k key))) v) _ _ (λ e. tt)
+    (λ e. cond-ind PlanRaised (outranks (valueOf (slot k (slotWith k key))) v) _ _ (λ e. (omega arith, omega arith)) (λ e. tt)))
+    (λ e. cond-ind PlanRaised (ltb (freeSlot k) (slotsOf k)) _ _ (λ e. tt) (λ e. (omega arith, omega arith)))))
 
 -- ---- the verdict: 7 to 11
-abbrev VerdictAbove : Verdict → Type 0
-VerdictAbove (replies m) = Unit {0}
-VerdictAbove (refuses r) = Above r
+abbrev VerdictRaised : Verdict → Type 0
+VerdictRaised (replies m) = Unit {0}
+VerdictRaised (refuses r) = Raised r
 
-echo-above : (p : Plan) (m : Message) → PlanAbove p → VerdictAbove (echoed (answerOf p) m)
+echo-raised : (p : Plan) (m : Message) → PlanRaised p → VerdictRaised (echoed (answerOf p) m)
 unfolding answerOf
-echo-above (Write i) m a = tt
-echo-above Keep m a = tt
-echo-above (Refuse r) m a = a
+echo-raised (Write i) m a = tt
+echo-raised Keep m a = tt
+echo-raised (Refuse r) m a = a
 
-put-above : (key : List ℕ) (h : Option Record) (k : List ℕ) → VerdictAbove (putVerdict key h k)
+put-raised : (key : List ℕ) (h : Option Record) (k : List ℕ) → VerdictRaised (putVerdict key h k)
 unfolding putVerdict offerAnswer
-put-above key none k = omega arith
-put-above key (some r) k =
-    cond-ind VerdictAbove (same (r .key) key) _ _ (λ e. echo-above (planOf k key (r .value)) _ (plan-above k key (r .value))) (λ e. omega arith)
+put-raised key none k = (omega arith, omega arith)
+put-raised key (some r) k =
+    cond-ind VerdictRaised (same (r .key) key) _ _ (λ e. echo-raised (planOf k key (r .value)) _ (plan-raised k key (r .value))) (λ e. (omega arith, omega arith))
 
-keyed-above : (key : List ℕ) (m : Message) → VerdictAbove (keyed key m)
+keyed-raised : (key : List ℕ) (m : Message) → VerdictRaised (keyed key m)
 unfolding keyed
-keyed-above key m = cond-ind VerdictAbove (keyFits key) _ _ (λ e. tt) (λ e. omega arith)
+keyed-raised key m = cond-ind VerdictRaised (keyFits key) _ _ (λ e. tt) (λ e. (omega arith, omega arith))
 
-verdict-above : (me who : Peer) (m : Message) (t k : List ℕ) → VerdictAbove (verdictOf me who m t k)
+verdict-raised : (me who : Peer) (m : Message) (t k : List ℕ) → VerdictRaised (verdictOf me who m t k)
 unfolding verdictOf
-verdict-above me who m t k =
-    cond-ind VerdictAbove (eqb (m .kind) putValue) _ _ (λ e. put-above (m .key) (m .held) k)
-    (λ e. cond-ind VerdictAbove (eqb (m .kind) getValue) _ _ (λ e. keyed-above (m .key) _)
-    (λ e. cond-ind VerdictAbove (eqb (m .kind) findNode) _ _ (λ e. keyed-above (m .key) _)
-    (λ e. cond-ind VerdictAbove (eqb (m .kind) ping) _ _ (λ e. tt) (λ e. omega arith))))
+verdict-raised me who m t k =
+    cond-ind VerdictRaised (eqb (m .kind) putValue) _ _ (λ e. put-raised (m .key) (m .held) k)
+    (λ e. cond-ind VerdictRaised (eqb (m .kind) getValue) _ _ (λ e. keyed-raised (m .key) _)
+    (λ e. cond-ind VerdictRaised (eqb (m .kind) findNode) _ _ (λ e. keyed-raised (m .key) _)
+    (λ e. cond-ind VerdictRaised (eqb (m .kind) ping) _ _ (λ e. tt) (λ e. (omega arith, omega arith)))))
 
 -- ---- a request: 4 to 11
-abbrev ToldAbove : Answered → Type 0
-ToldAbove (told.Refused r) = Above r
-ToldAbove (told.Reply n) = Unit {0}
+abbrev ToldRaised : Answered → Type 0
+ToldRaised (told.Refused r) = Raised r
+ToldRaised (told.Reply n) = Unit {0}
 
-by-verdict-above : (v : Verdict) (k next y : List ℕ) → VerdictAbove v → ToldAbove (byVerdict v k next y .told)
-by-verdict-above (replies m) k next y a = tt
-by-verdict-above (refuses r) k next y a = a
+by-verdict-raised : (v : Verdict) (k next y : List ℕ) → VerdictRaised v → ToldRaised (byVerdict v k next y .told)
+by-verdict-raised (replies m) k next y a = tt
+by-verdict-raised (refuses r) k next y a = a
 
-by-reading-above : (r : Reading) (me who : Peer) (m : Message) (t k y : List ℕ) → ReadAbove r → ToldAbove (byReading r me who m t k y .told)
-by-reading-above (reading.Refused r) me who m t k y a = a
-by-reading-above (reading.Whole f) me who m t k y a = by-verdict-above (verdictOf me who m t k) k _ y (verdict-above me who m t k)
+by-reading-raised : (r : Reading) (me who : Peer) (m : Message) (t k y : List ℕ) → ReadRaised r → ToldRaised (byReading r me who m t k y .told)
+by-reading-raised (reading.Refused r) me who m t k y a = a
+by-reading-raised (reading.Whole f) me who m t k y a = by-verdict-raised (verdictOf me who m t k) k _ y (verdict-raised me who m t k)
 
-deal-above : (me who : Peer) (body t k y : List ℕ) → ToldAbove (dealOf me who body t k y .told)
-deal-above me who body t k y =
-    subst (λ (d : Dealt). ToldAbove (d .told)) (sym (deal-is me who body t k y))
-    (by-reading-above (readingOf body) me who (messageOf body) t k y (read-above body))
+deal-raised : (me who : Peer) (body t k y : List ℕ) → ToldRaised (dealOf me who body t k y .told)
+deal-raised me who body t k y =
+    subst (λ (d : Dealt). ToldRaised (d .told)) (sym (deal-is me who body t k y))
+    (by-reading-raised (readingOf body) me who (messageOf body) t k y (read-raised body))
 
 -- ---- an event on a connection: 3 to 11
+abbrev pub AnswerRaised : Answer → Type 0
+AnswerRaised (Reply n) = Unit {0}
+AnswerRaised (Heard n f) = Unit {0}
+AnswerRaised (Refused r) = Raised r
+AnswerRaised More = Unit {0}
+
+heard-raised : (n : ℕ) (r : Reading) → ReadRaised r → AnswerRaised (heardAs n r)
+heard-raised n (reading.Whole f) a = tt
+heard-raised n (reading.Refused r) a = a
+
+served-raised : (x : Answered) (d : Dealt) (me : Peer) (c : Conn) (t : List ℕ) → ToldRaised x → AnswerRaised (byAnswer x d me c t .answer)
+served-raised (told.Refused r) d me c t a = a
+served-raised (told.Reply n) d me c t a = tt
+
+dealing-raised : (me : Peer) (c : Conn) (body t k y : List ℕ) → AnswerRaised (dealingOf me c body t k y .answer)
+unfolding dealingOf heard served
+dealing-raised me c body t k y =
+    let d = dealOf me (c .peer) body t k y in
+    cond-ind (λ (x : Dealing). AnswerRaised (x .answer)) (c .asking) _ _ (λ e. heard-raised (length body) (readingOf body) (read-raised body))
+    (λ e. served-raised (d .told) d me c t (deal-raised me (c .peer) body t k y))
+
+pub event-raised : (me : Peer) (w : stream.Answer) (c : Conn) (n : ℕ) (m t k y : List ℕ) → FramedRaised w
+    → AnswerRaised (byEvent w me c n m t k y .got .answer)
+event-raised me (framed.Message l) c n m t k y a = dealing-raised me c (take l m) t k y
+event-raised me (framed.Refused r) c n m t k y a = a
+event-raised me framed.More c n m t k y a = tt
+
+-- so none is 0
 abbrev pub AnswerAbove : Answer → Type 0
 AnswerAbove (Reply n) = Unit {0}
 AnswerAbove (Heard n f) = Unit {0}
 AnswerAbove (Refused r) = Above r
 AnswerAbove More = Unit {0}
 
-heard-above : (n : ℕ) (r : Reading) → ReadAbove r → AnswerAbove (heardAs n r)
-heard-above n (reading.Whole f) a = tt
-heard-above n (reading.Refused r) a = a
-
-served-above : (x : Answered) (d : Dealt) (me : Peer) (c : Conn) (t : List ℕ) → ToldAbove x → AnswerAbove (byAnswer x d me c t .answer)
-served-above (told.Refused r) d me c t a = a
-served-above (told.Reply n) d me c t a = tt
-
-dealing-above : (me : Peer) (c : Conn) (body t k y : List ℕ) → AnswerAbove (dealingOf me c body t k y .answer)
-unfolding dealingOf heard served
-dealing-above me c body t k y =
-    let d = dealOf me (c .peer) body t k y in
-    cond-ind (λ (x : Dealing). AnswerAbove (x .answer)) (c .asking) _ _ (λ e. heard-above (length body) (readingOf body) (read-above body))
-    (λ e. served-above (d .told) d me c t (deal-above me (c .peer) body t k y))
-
-pub event-above : (me : Peer) (w : stream.Answer) (c : Conn) (n : ℕ) (m t k y : List ℕ) → FramedAbove w
-    → AnswerAbove (byEvent w me c n m t k y .got .answer)
-event-above me (framed.Message l) c n m t k y a = dealing-above me c (take l m) t k y
-event-above me (framed.Refused r) c n m t k y a = a
-event-above me framed.More c n m t k y a = tt
+pub raised-above : (x : Answer) → AnswerRaised x → AnswerAbove x
+raised-above (Reply n) a = tt
+raised-above (Heard n f) a = tt
+raised-above (Refused r) a = omega (arith, a .0)
+raised-above More a = tt

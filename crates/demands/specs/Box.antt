@@ -48,10 +48,10 @@ use Rattle.node.specs.Node.{Dealing, dealingOf, receiveOf}
 use Rattle.host_calls.specs.Hosts.{seenOf, seenAfter, settleOf, settleAfter, removeOf, removeAfter, nearestTo, lookupStart, lookupReply, lookupFailure}
 
 -- ---- what there is to see
--- what came of an event on a connection: the reply's bytes and the sighting beside it; a message for the host; a refusal; an end
+-- what came of an event on a connection: the reply's bytes and the sighting beside it; a message for the host, and its view; a refusal; an end
 pub data Outcome : Type 0 where
   replied : List ℕ → Sight → Outcome
-  heard : List ℕ → Outcome
+  heard : List ℕ → Fields → Outcome
   refused : Refusal → Outcome
   ended : Ending → Outcome
 
@@ -204,7 +204,7 @@ noted i at (Heard n f) s body t k y os a =
       reply = y;
       lookups = a .lookups;
       inbox = setAt (a .inbox) i body;
-      log = a .log ++ (event i at (heard body) ∷ []);
+      log = a .log ++ (event i at (heard body f) ∷ []);
       offers = a .offers ++ os;
     }
 noted i at (Refused r) s body t k y os a =

@@ -1,16 +1,19 @@
 -- The three demands, as statements about a box that a start gave. Each stands under the words it says; proofs/Theorems.antt proves all of them
 -- (`first`, `second`, `third`). `Box.antt` says what a box in use is; `cutting` what hosts, pieces and the plain reading are.
-use Prim.Native.Nat.{ℕ, _≤_}
+use Prim.Native.Nat.{ℕ, _+_, _≤_, _<_}
 use mathlib.Core.Path.{_≡_}
 use mathlib.Core.Bool.{Bool, true, false}
-use mathlib.Core.List.{List, []}
+use mathlib.Core.List.{List, [], _∷_, _++_, map}
 use mathlib.Core.Option.{none, some}
-use lib.ListN.{length}
+use lib.ListN.{length, take, drop}
+use Rattle.octets.specs.Octets.{part}
 use Rattle.refusal.specs.declared.Refusal.{Refusal}
-use Rattle.refusal.specs.declared.Refusal.the-variants.{OutOfForm, Malformed}
+use Rattle.refusal.specs.declared.Refusal.the-variants.{OutOfForm, TooLong, Malformed, UnknownType}
 use Rattle.place.specs.Place.{placeOf}
 use Rattle.peer.specs.declared.Peer.{Peer}
+use Rattle.contacts.specs.Table.{slot}
 use Rattle.contacts.specs.Near.{nearestSlots}
+use Rattle.entries.specs.Entries.{contactEntry}
 use Rattle.contacts.proofs.TwentyNearest.{AreNearest}
 use Rattle.sightings_kept.specs.Promises.{Hashed}
 use Rattle.contact_calls.specs.declared.SeenOutcome.the-variants as seenAnswer
@@ -20,37 +23,41 @@ use Rattle.recipe.specs.Recipe.{outranks}
 use Rattle.records.specs.declared.Answer.the-variants as putTold
 use Rattle.records.specs.declared.Found.the-variants as findTold
 use Rattle.records.specs.Store.{putAnswer, putAfter, findOf}
-use Rattle.records_history.specs.History.{Has, got, after, cleared, Accepted, Unbeaten}
+use Rattle.records_history.specs.History.{Offer, after, cleared, Accepted, Unbeaten}
 use Rattle.records_history.specs.Claims.{FormIsBlind, HeldIsFound, JudgedFirst}
-use Rattle.message.specs.Limits.{mostBody, leastReply}
-use Rattle.message.specs.Message.{Message, messageOf, decode, encode}
+use Rattle.message.specs.Limits.{mostBody, mostKind, leastReply}
+use Rattle.message.specs.Message.{Record, Message, messageOf, decode, encode, frame}
 use Rattle.pieces.specs.Writable.{writable}
 use Rattle.message.specs.Claims.{SplitIsMerged}
-use Rattle.message.specs.View.{readingOf, meant}
+use Rattle.message.specs.View.{readingOf, fieldsOf, meant}
 use Rattle.message.specs.declared.Fields.{Fields}
 use Rattle.message.specs.declared.Reading.the-variants as reading
 use Rattle.writer.specs.declared.Written.the-variants as writer
 use Rattle.writer.specs.Writer.{answerOf, outAfter}
 use Rattle.lookup.specs.declared.Lookup.{Lookup}
 use Rattle.lookup.specs.declared.Answer.the-variants as lookupAnswer
-use Rattle.lookup_runs.specs.Runs.{Started, Call as Step, step}
-use Rattle.lookup_runs.specs.Claims.{Claims}
+use Rattle.lookup.specs.Lookup.{noLookup}
+use Rattle.lookup_runs.specs.Runs.{Started, Call as Step, step, outcome}
+use Rattle.lookup_runs.specs.Claims.{Viewed, Claims}
 use Rattle.stream.specs.declared.Framing.the-variants.{Shut}
 use Rattle.stream.specs.declared.Ending.the-variants as ends
-use Rattle.stream.specs.Stream.{fresh, isShut}
-use Rattle.cutting.specs.World.{Line, World, Call, given, calls, Fine, Ready, AllFit}
+use Rattle.stream.specs.Stream.{fresh, isShut, receiveOf as framedOf}
+use Rattle.cutting.specs.World.{putBack, Line, World, Call, hand, asks, given, joined, answered, call, calls, Fine, Ready, AllFit}
 use Rattle.cutting.specs.Plain.{ReadOut, plainly, unread}
+use Rattle.framing_back.specs.Claims.{FramesReadBack, hands, Arrives}
 use Rattle.replies.specs.declared.Answered.the-variants as told
+use Rattle.replies.specs.Replies.{putValue, getValue, findNode, lastEntry}
+use Rattle.replies.specs.Verdicts.{replies}
 use Rattle.answer.specs.Answers.{verdictOf, dealOf}
-use Rattle.answer_promises.specs.Promises.{Roomed, ReadsBack, AnsweredByFields, SentAsTyped, HeldIsServed}
+use Rattle.answer_promises.specs.Promises.{Roomed, ReadsBack, AnsweredByFields, SentAsTyped, Serves, HeldIsServed}
 use Rattle.connections.specs.declared.Conn.{Conn}
-use Rattle.node.specs.declared.Answer.the-variants.{Refused}
+use Rattle.node.specs.declared.Answer.the-variants.{Reply, Refused}
 use Rattle.connections.specs.declared.Told.the-variants as nodeTold
-use Rattle.connections.specs.Box.{startOf, endConn}
-use Rattle.node.specs.Node.{receiveOf}
-use Rattle.host_calls.specs.Hosts.{seenOf, settleOf, removeOf, nearestTo, lookupStart}
-use Rattle.node_promises.specs.Promises.{Refuses, CallsRefused, ValuesRefused}
-use Rattle.demands.specs.Box.{Box, Who, connOf, Turn, Fits, Ask, box, Own, Allowed, Good}
+use Rattle.connections.specs.Box.{startOf, openOf, endConn}
+use Rattle.node.specs.Node.{Out, receiveOf}
+use Rattle.host_calls.specs.Hosts.{seenOf, settleOf, removeOf, nearestTo, ownId, lookupStart}
+use Rattle.node_promises.specs.Promises.{Refuses, CallsRefused, ValuesRefused, MessageDone}
+use Rattle.demands.specs.Box.{event, heard, Box, Who, connOf, bodyIn, Turn, Fits, Ask, put, box, Own, Allowed, Good}
 
 -- ==== 1. "Whatever bytes a peer sends, in whatever amount, the box keeps to its memory and gives an answer. Every entry point takes any numbers and
 -- any buffers": that every function has a contract with no precondition, and meets it, is what the checker shows. Here is the rest.
@@ -65,12 +72,15 @@ pub record RefusedLeaves (me : Peer) : Type 0 where
   pub put : (k key value : List ℕ) (r : Refusal) → putAnswer k key value ≡ putTold.Refused r → putAfter k key value ≡ k
   pub write : (y : List ℕ) (m : Message) (r : Refusal) → answerOf y m ≡ writer.Refused r → outAfter y m ≡ y
   pub lookup : (l : Lookup) (c : Step) (r : Refusal) → step c l .answer ≡ lookupAnswer.Refused r → step c l .lookup ≡ l
+  -- document 01's one exception: "A refused start hands back an empty one"
+  pub empties : (t key : List ℕ) (limit : ℕ) (r : Refusal) → lookupStart me t key limit .answer ≡ lookupAnswer.Refused r → lookupStart me t key limit .lookup ≡ noLookup
 
 -- "refuses by the numbers in document 01", 0: memory once in form, and since changed by calls alone, is in form, and then no call gives 0
 pub record NeverOutOfForm (me : Peer) : Type 0 where
   pub kept : (s : World Who Box Ask) → Ready (Allowed me) (Good me) s → (cs : List (Call Turn Ask)) → AllFit Fits cs → Ready (Allowed me) (Good me) (calls (box me) s cs)
   pub receive : (l : Line Who) (a : Box) (bs : List ℕ) → Fine (Allowed me) l → Good me a
       → receiveOf me (connOf (l .who) (l .framing)) (l .buffer) bs (a .contacts) (a .records) (a .reply) .got .answer ≡ Refused OutOfForm → ⊥
+  pub opens : (id : List ℕ) (server asking : Bool) (addresses : List ℕ) → openOf me id server asking addresses .told ≡ nodeTold.Refused OutOfForm → ⊥
   pub end : (l : Line Who) → Fine (Allowed me) l → endConn me (connOf (l .who) (l .framing)) .answer ≡ ends.Refused OutOfForm → ⊥
   pub seen : (a : Box) (id : List ℕ) (client : Bool) → Good me a → seenOf me (a .contacts) id client ≡ seenAnswer.Refused OutOfForm → ⊥
   pub settle : (a : Box) (head id : List ℕ) (client answered : Bool) → Good me a → settleOf me (a .contacts) head id client answered ≡ settleAnswer.Refused OutOfForm → ⊥
@@ -79,16 +89,55 @@ pub record NeverOutOfForm (me : Peer) : Type 0 where
   pub put : (a : Box) (key value : List ℕ) → Good me a → putAnswer (a .records) key value ≡ putTold.Refused OutOfForm → ⊥
   pub find : (a : Box) (key : List ℕ) → Good me a → findOf (a .records) key ≡ findTold.Refused OutOfForm → ⊥
   pub start : (a : Box) (key : List ℕ) (limit : ℕ) → Good me a → lookupStart me (a .contacts) key limit .answer ≡ lookupAnswer.Refused OutOfForm → ⊥
+  -- next, failure, and reply with the reader's view, of a lookup that a start gave and that since then came back from calls
+  pub lookup : (t key : List ℕ) (limit : ℕ) → Started t (ownId me) (me .place) key limit → (cs : List Step) (c : Step) → Viewed c
+      → step c (outcome step (lookupStart me t key limit) cs .lookup) .answer ≡ lookupAnswer.Refused OutOfForm → ⊥
+  -- document 01's one exception: after a start that was refused "later steps give 0"
+  pub empty : (t key : List ℕ) (limit : ℕ) (r : Refusal) → lookupStart me t key limit .answer ≡ lookupAnswer.Refused r → (cs : List Step) (c : Step)
+      → step c (outcome step (lookupStart me t key limit) cs .lookup) .answer ≡ lookupAnswer.Refused OutOfForm
 
 pub record First (me : Peer) : Type 0 where
   pub refused : RefusedLeaves me
   pub formed : NeverOutOfForm me
 
--- ==== 2. "Reading yields the fields the bytes carry": the reader's view means what the plain decoding says, and 5 is given for just what has none
+-- ==== 2. "Reading yields the fields the bytes carry": over 16,384 bytes give 4; of the rest what doesn't decode gives 5, what decodes to a type above 5 gives 6,
+-- and all else is read, with fields that mean the message it decodes to. One of the four is so of every body, and no two
 pub record ReadsWell (body : List ℕ) : Type 0 where
-  pub whole : (f : Fields) → readingOf body ≡ reading.Whole f → decode body ≡ some (meant body f)
-  pub malformed : readingOf body ≡ reading.Refused Malformed → decode body ≡ none
-  pub only : length body ≤ mostBody → decode body ≡ none → readingOf body ≡ reading.Refused Malformed
+  pub long : mostBody < length body → readingOf body ≡ reading.Refused TooLong
+  pub malformed : length body ≤ mostBody → decode body ≡ none → readingOf body ≡ reading.Refused Malformed
+  pub unknown : length body ≤ mostBody → (m : Message) → decode body ≡ some m → mostKind < m .kind → readingOf body ≡ reading.Refused UnknownType
+  pub whole : length body ≤ mostBody → (m : Message) → decode body ≡ some m → m .kind ≤ mostKind
+      → (f : Fields) × (readingOf body ≡ reading.Whole f) × (meant body f ≡ m)
+
+-- "what is written": after a `write` of m that answers n, the buffer y has the message with its prefix, in n bytes, and its other bytes as they were
+pub record Writes (m : Message) (y : List ℕ) (n : ℕ) : Type 0 where
+  pub size : n ≡ length (frame (encode m))
+  pub stands : take n (outAfter y m) ≡ frame (encode m)
+  pub rest : drop n (outAfter y m) ≡ drop n y
+
+-- the message `says` is heard on connection i after n bytes of it: the world s is w then. The log has its bytes, a lookup can take them, and the next may come
+pub record Hears (says : Message) (i n : ℕ) (s w : World Who Box Ask) : Type 0 where
+  pub body : List ℕ
+  pub means : decode body ≡ some says
+  pub log : w .shared .state .log ≡ s .shared .state .log ++ (event i (s .lines i .taken + n) (heard body (fieldsOf body)) ∷ [])
+  pub inbox : w .shared .state .inbox i ≡ body
+  pub next : w .lines i .framing ≡ fresh
+
+-- the bytes that one box replies with, handed to another on a connection of its asking side, between messages, in any pieces
+abbrev pub BoxToBox : Peer → Peer → Type 0
+BoxToBox me you =
+    (who : Peer) → Roomed who → (body t k y : List ℕ) → leastReply ≤ length y → (n : ℕ) → dealOf me who body t k y .told ≡ told.Reply n
+    → (s : World Who Box Ask) → Ready (Allowed you) (Good you) s → (i : ℕ) → s .lines i .framing ≡ fresh → s .lines i .who .asking ≡ true
+    → (ps : List (List ℕ)) → joined ps ≡ take n (dealOf me who body t k y .reply)
+    → (says : Message) × (verdictOf me who (messageOf body) t k ≡ replies says) × Hears says i n s (calls (box you) s (hands i ps))
+
+-- what a query answers: the host's own gives the slots of the nearest contacts, and a peer's their entries, to which FIND_NODE may add one
+pub record Queries (me : Peer) : Type 0 where
+  pub host : (t key : List ℕ) → nearestTo me t key .told ≡ nodeTold.Fine → take (nearestTo me t key .closest .n) (nearestTo me t key .closest .at) ≡ nearestSlots t (placeOf key)
+  pub get : (who : Peer) (m r : Message) (t k : List ℕ) → m .kind ≡ getValue → verdictOf me who m t k ≡ replies r
+      → r .closer ≡ map (λ i. contactEntry (slot t i)) (nearestSlots t (placeOf (m .key)))
+  pub find : (who : Peer) (m r : Message) (t k : List ℕ) → m .kind ≡ findNode → verdictOf me who m t k ≡ replies r
+      → r .closer ≡ map (λ i. contactEntry (slot t i)) (nearestSlots t (placeOf (m .key))) ++ lastEntry me who t (placeOf (m .key))
 
 -- as a host begins: memory cleared, every connection shut, buffers that 1 doesn't refuse
 pub record Begun (s : World Who Box Ask) : Type 0 where
@@ -106,39 +155,102 @@ pub record Second (me : Peer) : Type 0 where
   pub split : SplitIsMerged
   -- "what is written reads back as the same fields"
   pub writes : (m : Message) → writable m ≡ true → decode (encode m) ≡ some m
+  pub written : (y : List ℕ) (m : Message) (n : ℕ) → answerOf y m ≡ writer.Done n → Writes m y n
+  -- with its length prefix: whatever follows, it is a whole message of that body; and handed over in any pieces, that message arrives
+  pub frames : FramesReadBack
+  pub arrives : (s : World Who Box Ask) → Ready (Allowed me) (Good me) s → (i : ℕ) → s .lines i .framing ≡ fresh → (body : List ℕ) → length body ≤ mostBody
+      → (ps : List (List ℕ)) → joined ps ≡ frame body → Arrives (box me) i body s (calls (box me) s (hands i ps))
   -- a reply is the message that the plain reading of the request calls for, it reads back as that message, and bytes after it stay
   pub replies : (who : Peer) → Roomed who → (body t k y : List ℕ) → leastReply ≤ length y → (n : ℕ) → dealOf me who body t k y .told ≡ told.Reply n
       → ReadsBack (verdictOf me who (messageOf body) t k) (dealOf me who body t k y) y n
   -- and goes by what the request says alone, however it is written
   pub answers : AnsweredByFields me
+  -- what a message is told is what its connection does: it replies so, or is refused so; or on the asking side the host hears it, with the reader's view
+  pub done : MessageDone
+  -- and what one box replies, another hears
+  pub boxes : (you : Peer) → Own you → BoxToBox me you
   -- "A query answers the twenty contacts nearest by XOR of SHA-256, or all when fewer, nearest first"
+  pub queries : Queries me
   pub nearest : (t key : List ℕ) → AreNearest t (placeOf key) (nearestSlots t (placeOf key))
   -- and that is the distance of SHA-256 of the ids: "memory once cleared, since then lent whole and changed by calls alone" holds each contact at its id's hash
   pub hashed : (s : World Who Box Ask) → Begun s → (cs : List (Call Turn Ask)) → AllFit Fits cs → Hashed (calls (box me) s cs .shared .state .contacts)
   -- "A lookup asks nobody twice. It reports complete only when the twenty nearest peers heard of that haven't failed, or all if fewer, have answered, and
-  -- no peer was turned away for want of room": over any calls since its start
-  pub lookup : (t own key : List ℕ) (limit : ℕ) → Started t (me .place) key limit → Claims t own (me .place) key limit
+  -- no peer was turned away for want of room": over the history of any calls since its start
+  pub lookup : (t key : List ℕ) (limit : ℕ) → Started t (ownId me) (me .place) key limit → Claims step t key limit (lookupStart me t key limit)
 
--- ==== 3. "Cutting changes nothing. Take the same start, buffers that 0 and 1 don't refuse, and the same order of completed messages, stream refusals,
+-- ==== 3. The words of its last sentence, which speaks of records
+-- what was offered to the store between two worlds of a run, typed or sent, in order
+abbrev pub since : World Who Box Ask → World Who Box Ask → List Offer
+since s w = drop (length (s .shared .state .offers)) (w .shared .state .offers)
+
+-- one call of `receive` on connection i, and the message that the piece completes
+abbrev pub receiveOn : Peer → World Who Box Ask → ℕ → List ℕ → Out
+receiveOn me s i p =
+    let l = s .lines i in
+    let a = s .shared .state in
+    receiveOf me (connOf (l .who) (l .framing)) (l .buffer) p (a .contacts) (a .records) (a .reply)
+
+abbrev pub completed : Peer → World Who Box Ask → ℕ → List ℕ → Message
+completed me s i p = messageOf (bodyIn (framedOf (s .lines i .framing) (s .lines i .buffer) p .got .answer) (receiveOn me s i p .buffer))
+
+-- "accepted .. sent": the last byte of a piece completes a PUT_VALUE of this key and value, and it gets a reply
+pub record Sent (me : Peer) (s : World Who Box Ask) (i : ℕ) (p key value : List ℕ) : Type 0 where
+  pub size : ℕ
+  pub reply : receiveOn me s i p .got .answer ≡ Reply size
+  pub all : receiveOn me s i p .got .taken ≡ length p
+  pub kind : completed me s i p .kind ≡ putValue
+  pub under : completed me s i p .key ≡ key
+  pub what : Record
+  pub held : completed me s i p .held ≡ some what
+  pub says : what .value ≡ value
+
+-- "accepted, typed or sent": by the call c on the world s
+pub data Accepts (me : Peer) (s : World Who Box Ask) (key value : List ℕ) (c : Call Turn Ask) : Type 0 where
+  typed : c ≡ asks (put key value) → putAnswer (s .shared .state .records) key value ≡ putTold.Taken → Accepts me s key value c
+  sent : (i : ℕ) (p : List ℕ) → c ≡ hand i p → Sent me s i p key value → Accepts me s key value c
+
+-- "the one found under its key": by `find`, and in the reply to every GET_VALUE
+pub record Finds (me : Peer) (k key value : List ℕ) : Type 0 where
+  pub at : ℕ
+  pub end : ℕ
+  pub find : findOf k key ≡ findTold.Held at end
+  pub there : part k at end ≡ value
+  pub asked : (who : Peer) (body t y : List ℕ) (m : Message) → length body ≤ mostBody → decode body ≡ some m → m .kind ≡ getValue → m .key ≡ key → leastReply ≤ length y
+      → Serves (dealOf me who body t k y) y key value
+
+-- "Cutting changes nothing. Take the same start, buffers that 0 and 1 don't refuse, and the same order of completed messages, stream refusals,
 -- opens, ends and other host calls on all connections. Hand over each connection's bytes once, before its end, in sequence, cut anywhere, empty pieces included."
 pub record Third (me : Peer) : Type 0 where
   -- two hosts that do so, each with its own cuts, end in the same world: replies, refusals and their places (all in the log), contacts, records,
   -- lookups, half-read bytes
   pub cut : (s : World Who Box Ask) → Ready (Allowed me) (Good me) s → (cs ds : List (Call Turn Ask)) → AllFit Fits cs → AllFit Fits ds
       → ((i : ℕ) → given i cs ≡ given i ds) → calls (box me) s cs .shared .order ≡ calls (box me) s ds .shared .order → calls (box me) s cs ≡ calls (box me) s ds
+  -- one call of `receive` is the hand-over of the bytes that it takes, up to the first event, and a piece is the same handed over in two: so other calls may come
+  -- between any two events
+  pub once : (s : World Who Box Ask) → Ready (Allowed me) (Good me) s → (i : ℕ) (p : List ℕ) → isShut (s .lines i .framing) ≡ false
+      → let c = box me .receive i (s .lines i) (s .shared .state) p in
+      call (box me) s (hand i (take (c .count) p)) ≡ putBack s i (answered (box me) i (s .shared) c)
+  pub split : (s : World Who Box Ask) → Ready (Allowed me) (Good me) s → (i : ℕ) (p q : List ℕ)
+      → call (box me) s (hand i (p ++ q)) ≡ call (box me) (call (box me) s (hand i p)) (hand i q)
   -- "Each message then gets the reply bytes, or the refusal at the byte position, that demand 2's plain reading gives when it takes messages whole"
   pub plain : (s : World Who Box Ask) → Ready (Allowed me) (Good me) s → ((i : ℕ) → isShut (s .lines i .framing) ≡ false → s .lines i .framing ≡ fresh)
       → s .shared .order ≡ [] → (cs : List (Call Turn Ask)) → AllFit Fits cs → ReadOut (plainly (box me) (unread s cs) (calls (box me) s cs .shared .order)) (calls (box me) s cs)
-  -- "A record once accepted, typed or sent, stays the one found under its key until a higher-ranking one is accepted": the store is what the offers of
-  -- all calls make of it, typed or sent; one held stays while none that outranks it is accepted; of those accepted none outranks what is held
-  pub offers : (s : World Who Box Ask) → Ready (Allowed me) (Good me) s → s .shared .state .offers ≡ [] → (cs : List (Call Turn Ask)) → AllFit Fits cs
-      → calls (box me) s cs .shared .state .records ≡ after (s .shared .state .records) (calls (box me) s cs .shared .state .offers)
-  pub stays : (s : World Who Box Ask) → Ready (Allowed me) (Good me) s → s .shared .state .offers ≡ [] → (cs : List (Call Turn Ask)) → AllFit Fits cs → (key v : List ℕ)
-      → got (s .shared .state .records) key ≡ Has v → Unbeaten key v (s .shared .state .records) (calls (box me) s cs .shared .state .offers)
-      → got (calls (box me) s cs .shared .state .records) key ≡ Has v
-  pub highest : (s : World Who Box Ask) → Ready (Allowed me) (Good me) s → s .shared .state .offers ≡ [] → (cs : List (Call Turn Ask)) → AllFit Fits cs → (key v : List ℕ)
-      → Accepted key v (s .shared .state .records) (calls (box me) s cs .shared .state .offers)
-      → (u : List ℕ) × (got (calls (box me) s cs .shared .state .records) key ≡ Has u) × (outranks v u ≡ false)
+  -- "A record once accepted, typed or sent, stays the one found under its key until a higher-ranking one is accepted": at any moment of a run, over any calls
+  -- after it. And so does one that is there at the start of a run
+  pub stays : (s : World Who Box Ask) → Ready (Allowed me) (Good me) s → (before : List (Call Turn Ask)) → AllFit Fits before → (c : Call Turn Ask) (key v : List ℕ)
+      → Accepts me (calls (box me) s before) key v c → (later : List (Call Turn Ask)) → AllFit Fits later
+      → let now = call (box me) (calls (box me) s before) c in
+      let end = calls (box me) now later in
+      Unbeaten key v (now .shared .state .records) (since now end) → Finds me (end .shared .state .records) key v
+  pub lasts : (s : World Who Box Ask) → Ready (Allowed me) (Good me) s → (cs : List (Call Turn Ask)) → AllFit Fits cs → (key v : List ℕ)
+      → Finds me (s .shared .state .records) key v → Unbeaten key v (s .shared .state .records) (since s (calls (box me) s cs))
+      → Finds me (calls (box me) s cs .shared .state .records) key v
+  -- the store is what the offers of all calls make of it, typed or sent; of those accepted none outranks what is found
+  pub offers : (s : World Who Box Ask) → Ready (Allowed me) (Good me) s → (cs : List (Call Turn Ask)) → AllFit Fits cs
+      → calls (box me) s cs .shared .state .records ≡ after (s .shared .state .records) (since s (calls (box me) s cs))
+  pub highest : (s : World Who Box Ask) → Ready (Allowed me) (Good me) s → (cs : List (Call Turn Ask)) → AllFit Fits cs → (key v : List ℕ)
+      → Accepted key v (s .shared .state .records) (since s (calls (box me) s cs))
+      → (u : List ℕ) × Finds me (calls (box me) s cs .shared .state .records) key u × (outranks v u ≡ false)
   -- and that is what is found, sent to who asks for it and compared with what comes, whatever the recipe rules say of it (document 02, ix: "Records already held
   -- stay held and are still served and ranked"); what comes, typed or sent, is judged before it is compared
   pub found : HeldIsFound

@@ -1,9 +1,14 @@
 pub mod Sums
+pub mod Members
 pub mod Marking
 pub mod Order
 pub mod Moves
 pub mod Sound
 pub mod Asking
-pub mod Answering
+pub mod Tracking
+pub mod Hearing
+pub mod Nearest
+pub mod Ending
 pub mod Theorems
+pub mod Fakes
 pub mod Refusals

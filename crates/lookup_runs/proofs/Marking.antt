@@ -1,21 +1,19 @@
 -- A mark set, seen in the list of marks and in searches. Assumes nothing.
-use Prim.Native.Nat.{ℕ, zero, suc, _+_, _≤_, _<_}
+use Prim.Native.Nat.{ℕ, zero, suc, _<_}
 use mathlib.Core.Path.{_≡_, refl, sym, ap, _∙_, subst}
-use mathlib.Core.Logic.{_⊎_, inl, inr, ⊎-elim}
-use mathlib.Core.Bool.{Bool, true, false, cond, not, _&&_, _||_}
-use mathlib.Core.List.{List, [], _∷_, _++_, map}
+use mathlib.Core.Bool.{Bool, true, false, cond, _||_}
+use mathlib.Core.List.{List, [], _∷_, map}
 use native.Mathlib.Omega.{arith}
 use lib.Dec.{eqb}
-use lib.ListN.{length, getD, take, drop, length-map, List·getD-map, List·getD-eq-default}
-use lib.Seq.{take-append-seam, length-take-le}
-use borrow.Author.Tests.{eqb-true, eqb-false}
-use Rattle.octets.specs.Octets.{same}
-use Rattle.octets.proofs.Bools.{cond-ind, and-l, and-r, or-e, or-l, or-r, either, not-both}
+use lib.ListN.{length, getD, take, drop, length-map, List·getD-map}
+use lib.Seq.{take-append-seam}
+use borrow.Author.Tests.{eqb-true}
+use Rattle.octets.proofs.Bools.{cond-ind, and-l, and-r, or-off}
 use Rattle.octets.proofs.Strings.{same-eq}
 use Rattle.place.specs.Place.{nearerTo}
-use Rattle.lookup_marks.specs.Marks.{idle, flying, answered, marked, twentyOf, pick, idleOf}
+use Rattle.lookup_marks.specs.Marks.{idle, flying, marked, twentyOf, pick, idleOf}
 use Rattle.lookup.specs.Lists.{firstIn, anyIn}
-use Rattle.lookup.specs.Lookup.{candidatesOf, markOf, marksOf, put, withMark, markAt, mark, flies, flyerOf, enter, nobody}
+use Rattle.lookup.specs.Lookup.{candidatesOf, markOf, put, withMark, markAt, mark, flies, flyerOf, enter, nobody}
 use Rattle.lookup_candidates.specs.declared.Candidate.{Candidate}
 use Rattle.lookup.specs.declared.Lookup.{Lookup}
 
@@ -82,46 +80,41 @@ flyer-flies p cs h =
     let q : flies p (getD cs (flyerOf p cs) nobody) ≡ true = first-passes (flies p) cs nobody h in
     (eqb-true _ flying (and-l (eqb (getD cs (flyerOf p cs) nobody .mark) flying) _ q), same-eq _ p (and-r (eqb (getD cs (flyerOf p cs) nobody .mark) flying) _ q))
 
--- ---- some candidate passes, after a mark is set: one passed before, or the marked one does now
+-- the candidate that a mark is set of
+pub at-mark : (i m : ℕ) (cs : List Candidate) → i < length cs → getD (markAt i m cs) i nobody ≡ withMark m (getD cs i nobody)
+unfolding markAt
+at-mark i m [] h = absurd (omega arith)
+at-mark zero m (c ∷ cs) h = refl
+at-mark (suc i) m (c ∷ cs) h = at-mark i m cs (omega arith)
+
+-- ---- some candidate passes
+or-swap : (a b c : Bool) → (a || (b || c)) ≡ (b || (a || c))
+or-swap true true c = refl
+or-swap true false c = refl
+or-swap false true c = refl
+or-swap false false c = refl
+
 module _ (q : Candidate → Bool) where
-  pub any-mark : (i m : ℕ) (cs : List Candidate) → anyIn q (markAt i m cs) ≡ true
-      → (anyIn q cs ≡ true) ⊎ ((i < length cs) × (q (withMark m (getD cs i nobody)) ≡ true))
+  -- after a mark is set of one that didn't pass; and of one that passes as it did
+  pub any-set : (i m : ℕ) (cs : List Candidate) → i < length cs → q (getD cs i nobody) ≡ false
+      → anyIn q (markAt i m cs) ≡ (q (withMark m (getD cs i nobody)) || anyIn q cs)
   unfolding anyIn markAt
-  any-mark i m [] h = inl h
-  any-mark zero m (c ∷ cs) h =
-      ⊎-elim (λ e. inr (omega arith, e)) (λ e. inl (or-r (q c) (anyIn q cs) e)) (or-e (q (withMark m c)) (anyIn q cs) h)
-  any-mark (suc i) m (c ∷ cs) h =
-      ⊎-elim (λ e. inl (or-l (q c) (anyIn q cs) e))
-      (λ e. ⊎-elim (λ f. inl (or-r (q c) (anyIn q cs) f)) (λ f. inr (omega (arith, f .0), f .1)) (any-mark i m cs e))
-      (or-e (q c) (anyIn q (markAt i m cs)) h)
+  any-set i m [] h e = absurd (omega arith)
+  any-set zero m (c ∷ cs) h e = ap (λ (b : Bool). q (withMark m c) || b) (sym (or-off (q c) (anyIn q cs) e))
+  any-set (suc i) m (c ∷ cs) h e =
+      ap (λ (b : Bool). q c || b) (any-set i m cs (omega arith) e) ∙ or-swap (q c) (q (withMark m (getD cs i nobody))) (anyIn q cs)
 
-  pub any-enter : (t : List ℕ) (c : Candidate) (cs : List Candidate) → anyIn q (enter t c cs) ≡ true → (q c ≡ true) ⊎ (anyIn q cs ≡ true)
-  unfolding anyIn enter
-  any-enter t c [] h = or-e (q c) false h
-  any-enter t c (d ∷ cs) h = go (any-enter t c cs) h
-    where
-      go : (anyIn q (enter t c cs) ≡ true → (q c ≡ true) ⊎ (anyIn q cs ≡ true)) → anyIn q (cond (nearerTo t (d .place) (c .place)) (d ∷ enter t c cs) (c ∷ d ∷ cs)) ≡ true
-          → (q c ≡ true) ⊎ ((q d || anyIn q cs) ≡ true)
-      go ih =
-          cond-ind (λ (l : List Candidate). anyIn q l ≡ true → (q c ≡ true) ⊎ ((q d || anyIn q cs) ≡ true)) (nearerTo t (d .place) (c .place)) (d ∷ enter t c cs) (c ∷ d ∷ cs)
-          (λ e h. ⊎-elim (λ f. inr (or-l (q d) (anyIn q cs) f)) (λ f. ⊎-elim (λ g. inl g) (λ g. inr (or-r (q d) (anyIn q cs) g)) (ih f)) (or-e (q d) (anyIn q (enter t c cs)) h))
-          (λ e h. or-e (q c) (q d || anyIn q cs) h)
-
-  -- and what passes, whatever its mark, still does
-  pub any-marked : ((m : ℕ) (c : Candidate) → q (withMark m c) ≡ q c) → (i m : ℕ) (cs : List Candidate) → anyIn q (markAt i m cs) ≡ anyIn q cs
+  pub any-unset : (i m : ℕ) (cs : List Candidate) → q (withMark m (getD cs i nobody)) ≡ q (getD cs i nobody) → anyIn q (markAt i m cs) ≡ anyIn q cs
   unfolding anyIn markAt
-  any-marked k i m [] = refl
-  any-marked k zero m (c ∷ cs) = ap (λ (b : Bool). b || anyIn q cs) (k m c)
-  any-marked k (suc i) m (c ∷ cs) = ap (λ (b : Bool). q c || b) (any-marked k i m cs)
+  any-unset i m [] e = refl
+  any-unset zero m (c ∷ cs) e = ap (λ (b : Bool). b || anyIn q cs) e
+  any-unset (suc i) m (c ∷ cs) e = ap (λ (b : Bool). q c || b) (any-unset i m cs e)
 
-  pub any-entered : (t : List ℕ) (c : Candidate) (cs : List Candidate) → (q c ≡ true) ⊎ (anyIn q cs ≡ true) → anyIn q (enter t c cs) ≡ true
+  -- after one comes in
+  pub any-entered : (t : List ℕ) (c : Candidate) (cs : List Candidate) → anyIn q (enter t c cs) ≡ (q c || anyIn q cs)
   unfolding anyIn enter
-  any-entered t c [] (inl e) = or-l (q c) false e
-  any-entered t c [] (inr e) = absurd (not-both false e refl)
-  any-entered t c (d ∷ cs) h = go (λ z. any-entered t c cs z)
-    where
-      go : ((q c ≡ true) ⊎ (anyIn q cs ≡ true) → anyIn q (enter t c cs) ≡ true) → anyIn q (cond (nearerTo t (d .place) (c .place)) (d ∷ enter t c cs) (c ∷ d ∷ cs)) ≡ true
-      go ih =
-          cond-ind (λ (l : List Candidate). anyIn q l ≡ true) (nearerTo t (d .place) (c .place)) (d ∷ enter t c cs) (c ∷ d ∷ cs)
-          (λ e. ⊎-elim (λ f. or-r (q d) _ (ih (inl f))) (λ f. ⊎-elim (λ g. or-l (q d) _ g) (λ g. or-r (q d) _ (ih (inr g))) (or-e (q d) (anyIn q cs) f)) h)
-          (λ e. ⊎-elim (λ f. or-l (q c) _ f) (λ f. or-r (q c) _ f) h)
+  any-entered t c [] = refl
+  any-entered t c (d ∷ cs) =
+      let ih : anyIn q (enter t c cs) ≡ (q c || anyIn q cs) = any-entered t c cs in
+      cond-ind (λ (l : List Candidate). anyIn q l ≡ (q c || (q d || anyIn q cs))) (nearerTo t (d .place) (c .place)) (d ∷ enter t c cs) (c ∷ d ∷ cs)
+      (λ e. ap (λ (b : Bool). q d || b) ih ∙ or-swap (q d) (q c) (anyIn q cs)) (λ e. refl)

@@ -1,15 +1,14 @@
 -- The candidates stand nearest first, so that no two share a place; one mark set and one candidate more keep that. Assumes nothing.
-use Prim.Native.Nat.{ℕ, zero, suc, _+_, _≤_, _<_}
+use Prim.Native.Nat.{ℕ, zero, suc, _≤_, _<_}
 use mathlib.Core.Path.{_≡_, refl, sym, ap, _∙_, subst}
-use mathlib.Core.Logic.{_⊎_, inl, inr, ⊎-elim}
-use mathlib.Core.Bool.{Bool, true, false, cond, not, _&&_, _||_}
+use mathlib.Core.Logic.{_⊎_, ⊎-elim}
+use mathlib.Core.Bool.{true, false, _&&_}
 use mathlib.Core.List.{List, [], _∷_}
 use native.Mathlib.Omega.{arith}
-use lib.Dec.{leb, ltb}
+use lib.Dec.{leb}
 use lib.ListN.{length}
 use borrow.Author.Tests.{le-leb, lt-ltb}
-use Rattle.octets.specs.Octets.{Bytes, same}
-use Rattle.octets.specs.Search.{allOf}
+use Rattle.octets.specs.Octets.{Bytes}
 use Rattle.octets.proofs.Bools.{cond-ind, and-l, and-r, and-i, all-rest, all-one-more, or-l, or-r, either, not-both, to-false}
 use Rattle.octets.proofs.Strings.{same-eq, same-yes}
 use Rattle.place.specs.Place.{distance, nearerTo}
@@ -18,8 +17,8 @@ use Rattle.lookup_marks.specs.Marks.{failed}
 use Rattle.lookup.specs.Lists.{anyIn}
 use Rattle.lookup.specs.Lookup.{idMost, wellMade, follow, nearestFirst, withMark, markAt, liesAt, known, enter}
 use Rattle.lookup_candidates.specs.declared.Candidate.{Candidate}
-use Rattle.lookup_runs.specs.Runs.{one}
-use Rattle.lookup_runs.proofs.Sums.{sumOf, sum-nil, sum-cons}
+use Rattle.lookup_runs.proofs.Sums.{sumOf, sum-nil, sum-cons, one}
+use Rattle.lookup_runs.proofs.Members.{In, here, there}
 
 -- how far a candidate is from the target
 abbrev pub dist : List ℕ → Candidate → ℕ
@@ -98,7 +97,7 @@ follow-first t d [] h = first-nil t
 follow-first t d (c ∷ cs) h = first-in t c cs (follow-made t d c cs h) (follow-rest t d c cs h)
 
 -- ---- no two share a place
-unfoldable Beyond : List ℕ → ℕ → List Candidate → Type 0
+unfoldable pub Beyond : List ℕ → ℕ → List Candidate → Type 0
 Beyond t x [] = Unit {0}
 Beyond t x (c ∷ cs) = (x < dist t c) × Beyond t x cs
 
@@ -108,6 +107,21 @@ beyond t x d [] h f = tt
 beyond t x d (c ∷ cs) h f =
     let n : dist t d < dist t c = nearer-out t (d .place) (c .place) (follow-near t d c cs f) in
     (omega arith, beyond t x c cs (omega arith) (follow-rest t d c cs f))
+
+-- each is nearer than all after it
+unfoldable pub Rising : List ℕ → List Candidate → Type 0
+Rising t [] = Unit {0}
+Rising t (c ∷ cs) = Beyond t (dist t c) cs × Rising t cs
+
+pub rising : (t : List ℕ) (cs : List Candidate) → nearestFirst t cs ≡ true → Rising t cs
+unfolding Rising
+rising t [] h = tt
+rising t (c ∷ cs) h = (beyond t (dist t c) c cs (omega arith) (first-rest t c cs h), rising t cs (follow-first t c cs (first-rest t c cs h)))
+
+-- and each is well made
+pub all-made : (t : List ℕ) {c : Candidate} {cs : List Candidate} → nearestFirst t cs ≡ true → In c cs → wellMade c ≡ true
+all-made t {c} h (here {l}) = first-made t c l h
+all-made t h (there {y} {l} m) = all-made t (follow-first t y l (first-rest t y l h)) m
 
 one-no : (p : List ℕ) (c : Candidate) → (c .place ≡ p → ⊥) → one p c ≡ 0
 one-no p c h = cond-ind (λ (n : ℕ). n ≡ 0) (liesAt p c) 1 0 (λ e. absurd (h (same-eq (c .place) p e))) (λ e. refl)

@@ -1,42 +1,34 @@
 -- The theorems of specs/Refusals.antt. Assumes nothing.
 use Prim.Native.Nat.{ℕ}
-use mathlib.Core.Path.{_≡_, refl, sym, ap, _∙_, subst}
+use mathlib.Core.Path.{_≡_, refl, ap, _∙_}
 use mathlib.Core.Logic.{_⊎_, inl, inr, ⊎-elim}
-use mathlib.Core.Bool.{Bool, true, false, cond, not}
+use mathlib.Core.Bool.{true, not}
 use mathlib.Core.List.{List, [], _∷_}
 use lib.Dec.{leb, ltb}
 use Rattle.octets.specs.Search.{allOf}
-use Rattle.octets.proofs.Bools.{cond-ind, cond-yes}
+use Rattle.octets.proofs.Bools.{cond-ind, cond-yes, not-both}
 use Rattle.refusal.specs.declared.Refusal.{Refusal}
 use Rattle.refusal.specs.declared.Refusal.the-variants.{OutOfForm, BreaksRules, BadPeer, BadConcurrency}
 use Rattle.contacts.specs.Form.{inForm as inFormTable}
 use Rattle.message.specs.declared.Fields.{Fields}
-use Rattle.lookup_marks.specs.Marks.{flying, failed, isOver, idleOf, flightsOf}
+use Rattle.lookup_marks.specs.Marks.{failed, isOver, idleOf, flightsOf}
 use Rattle.parts.specs.Parts.{isView}
-use Rattle.lookup.specs.Lookup.{marksOf, inForm, mark, gives, refuses, ends, settled, nextOf, idFits, whomOf, reported, failureOf, heardFrom, replyOf, noLookup, begun, keyFits, limitFits, startOf}
+use Rattle.lookup.specs.Lookup.{marksOf, inForm, mark, refuses, settled, nextOf, idFits, whomOf, reported, failureOf, heardFrom, replyOf, noLookup, begun, keyFits, limitFits, startOf}
 use Rattle.lookup.specs.declared.Lookup.{Lookup}
 use Rattle.lookup.specs.declared.Step.{Step}
-use Rattle.lookup.specs.declared.Answer.{Answer}
-use Rattle.lookup.specs.declared.Answer.the-variants.{Refused, Complete, CutShort, Wait, Ask, Going}
+use Rattle.lookup.specs.declared.Answer.the-variants.{Refused}
 use Rattle.lookup.specs.declared.Whom.{Whom}
 use Rattle.lookup.specs.declared.Whom.the-variants.{Nobody, At}
-use Rattle.lookup_runs.specs.Runs.{Call, goNext, goReply, goFail, step, run, Accepted}
+use Rattle.lookup_runs.specs.Runs.{accepted, Call, goNext, goReply, goFail, step, outcome}
 use Rattle.lookup_runs.specs.Refusals.{Refusals}
+use Rattle.lookup_runs.proofs.Moves.{settled-accepted}
 
 -- a step hands l back, or is no refusal
 abbrev Leaves : Lookup → Step → Type 0
-Leaves l s = (s .lookup ≡ l) ⊎ Accepted (s .answer)
+Leaves l s = (s .lookup ≡ l) ⊎ (accepted (s .answer) ≡ true)
 
 left : (l : Lookup) (s : Step) (r : Refusal) → Leaves l s → s .answer ≡ Refused r → s .lookup ≡ l
-left l s r h e = ⊎-elim (λ k. k) (λ a. absurd (subst Accepted e a)) h
-
--- ---- over or going is no refusal
-ends-accepted : (l : Lookup) → Accepted (ends l .answer)
-ends-accepted l = cond-ind Accepted (l .turned) (CutShort _) (Complete _) (λ e. tt) (λ e. tt)
-
-settled-accepted : (l : Lookup) → Accepted (settled l .answer)
-unfolding settled
-settled-accepted l = cond-ind (λ (s : Step). Accepted (s .answer)) (isOver (marksOf l)) (ends l) (gives l Going) (λ e. ends-accepted l) (λ e. tt)
+left l s r h e = ⊎-elim (λ k. k) (λ a. absurd (not-both (accepted (s .answer)) a (ap accepted e))) h
 
 -- ---- any call
 next-leaves : (l : Lookup) → Leaves l (nextOf l)
@@ -45,7 +37,7 @@ next-leaves l =
     cond-ind (Leaves l) (not (inForm l)) _ _ (λ e. inl refl)
     (λ f. cond-ind (Leaves l) (isOver (marksOf l)) _ _ (λ e. inl refl)
     (λ o. cond-ind (Leaves l) (leb (l .limit) (flightsOf (marksOf l))) _ _ (λ e. inl refl)
-    (λ g. cond-ind (Leaves l) (ltb (idleOf (marksOf l)) (l .count)) _ _ (λ e. inr tt) (λ e. inl refl))))
+    (λ g. cond-ind (Leaves l) (ltb (idleOf (marksOf l)) (l .count)) _ _ (λ e. inr refl) (λ e. inl refl))))
 
 reported-leaves : (l : Lookup) (w : Whom) (after : ℕ → Lookup) → Leaves l (reported l w after)
 reported-leaves l (Nobody r) after = inl refl
@@ -93,15 +85,18 @@ step-none (goReply own ours id body v) =
     (λ e. refl) (λ e. ap (λ (w : Whom). reported noLookup w (heardFrom ours body (v .kind) noLookup)) (whom-none own ours id))
 step-none (goFail own ours id) = ap (λ (w : Whom). reported noLookup w (λ i. mark i failed noLookup)) (whom-none own ours id)
 
-run-none : (cs : List Call) → run cs noLookup ≡ noLookup
-unfolding run
-run-none [] = refl
-run-none (c ∷ cs) = ap (λ (s : Step). run cs (s .lookup)) (step-none c) ∙ run-none cs
+stays-none : (cs : List Call) (s : Step) → s .lookup ≡ noLookup → outcome step s cs .lookup ≡ noLookup
+unfolding outcome
+stays-none [] s e = e
+stays-none (c ∷ cs) s e = stays-none cs (step c (s .lookup)) (ap (λ (l : Lookup). step c l .lookup) e ∙ ap (λ (x : Step). x .lookup) (step-none c))
+
+start-none : (t own ours key : List ℕ) (limit : ℕ) (r : Refusal) → startOf t own ours key limit .answer ≡ Refused r → startOf t own ours key limit .lookup ≡ noLookup
+start-none t own ours key limit r e = left noLookup (startOf t own ours key limit) r (start-leaves t own ours key limit) e
 
 pub refusals : Refusals
 refusals =
     record {
       untouched = λ c l r e. left l (step c l) r (step-leaves c l) e;
-      empty = λ t own ours key limit r e. left noLookup (startOf t own ours key limit) r (start-leaves t own ours key limit) e;
-      later = λ cs c. ap (step c) (run-none cs) ∙ step-none c;
+      empty = λ t own ours key limit r e. start-none t own ours key limit r e;
+      later = λ t own ours key limit r e cs c. ap (step c) (stays-none cs (startOf t own ours key limit) (start-none t own ours key limit r e)) ∙ step-none c;
     }

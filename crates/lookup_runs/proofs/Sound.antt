@@ -1,36 +1,37 @@
 -- Form is kept: a started lookup is in form, and every call leaves it so. Assumes nothing.
-use Prim.Native.Nat.{ℕ, zero, suc, _+_, _-_, _≤_, _<_}
-use mathlib.Core.Path.{_≡_, refl, sym, ap, _∙_, subst}
-use mathlib.Core.Bool.{Bool, true, false, cond, not, _&&_}
+use Prim.Native.Nat.{ℕ, suc, _+_, _-_, _≤_, _<_}
+use mathlib.Core.Path.{_≡_, refl, sym, ap, ap₂, _∙_, subst}
+use mathlib.Core.Bool.{Bool, true, false, not, _||_}
 use mathlib.Core.List.{List, [], _∷_, _++_, map, append-nil}
 use native.Mathlib.Omega.{arith}
 use lib.Dec.{leb, ltb}
-use lib.ListN.{length, getD, take, drop, replicate, length-append, length-take, length-drop, length-map, length-replicate, drop-of-length-le}
-use lib.Seq.{sets, sets-eq, take-append-seam}
+use lib.ListN.{length, getD, drop, replicate, length-append, length-take, length-drop, length-map, length-replicate, drop-of-length-le}
+use lib.Seq.{sets-eq, take-append-seam}
 use borrow.Author.Tests.{le-leb, leb-true, ltb-true, not-false}
 use Rattle.octets.specs.Octets.{Bytes, same}
-use Rattle.octets.specs.Search.{allOf}
-use Rattle.octets.proofs.Bools.{cond-ind, and-l, and-r, all-one-more, all-none}
+use Rattle.octets.proofs.Bools.{cond-ind, and-l, and-r, all-one-more, all-none, not-both}
 use Rattle.place.specs.Place.{distance}
 use Rattle.sha256.specs.Sha256.{sha256}
+use Rattle.refusal.specs.declared.Refusal.{Refusal}
+use Rattle.refusal.specs.declared.Refusal.the-variants.{OutOfForm, BreaksRules, BadPeer, BadConcurrency}
 use Rattle.sha256.proofs.Laws.{length-sha256, bytes-sha256}
 use Rattle.contacts.specs.Table.{slotsOf, slot, used, place}
 use Rattle.contacts.specs.Form.{inForm as inFormTable}
-use Rattle.contacts.specs.Contact.{entryId}
 use Rattle.contacts.specs.Near.{far, nearestSlots}
 use Rattle.contact_table.proofs.Cuts.{slot-whole, place-size, bytes-place}
-use Rattle.contact_form.proofs.FormFacts.{InForm, form-elim}
+use Rattle.contact_form.proofs.FormFacts.{form-elim}
 use Rattle.contact_form.proofs.EntryFacts.{entry-id-most, form-entry}
 use Rattle.contacts.proofs.TwentyNearest.{nearest-are, nearest-strict}
 use Rattle.lookup_marks.specs.Marks.{idle, flying, answered, failed}
-use Rattle.lookup.specs.Lookup.{room, idMost, keyMost, limitMost, candidatesOf, wellMade, follow, nearestFirst, inForm, turnAway, put, mark, idFits, padded, fresh, known, enter, meet, hear, hearAll, nobody, contactAt, firstOnes, begun, keyFits, limitFits, startOf}
+use Rattle.lookup.specs.Lists.{anyIn}
+use Rattle.lookup.specs.Lookup.{room, idMost, keyMost, limitMost, candidatesOf, wellMade, follow, nearestFirst, inForm, turnAway, put, mark, idFits, padded, fresh, known, enter, meet, hear, hearAll, nobody, contactAt, firstOnes, begun, refuses, settled, noLookup, keyFits, limitFits, startOf}
 use Rattle.lookup_candidates.specs.declared.Candidate.{Candidate}
 use Rattle.lookup.specs.declared.Lookup.{Lookup}
 use Rattle.lookup.specs.declared.Step.{Step}
 use Rattle.lookup.proofs.Form.{Formed, formed, form-of}
 use Rattle.lookup.proofs.Hearing.{enter-length}
 use Rattle.lookup.proofs.Starting.{nearest-few}
-use Rattle.lookup_runs.specs.Runs.{Started, Call, step, run}
+use Rattle.lookup_runs.specs.Runs.{accepted, Started, Call, step, outcome}
 use Rattle.lookup_runs.proofs.Marking.{length-mark, marked-candidates, put-candidates}
 use Rattle.lookup_runs.proofs.Order.{Placed, AllPlaced, placed-nil, placed-cons, placed-mark, placed-enter, dist, follow-in, follow-nil, first-in, first-nil, near, order-mark, order-enter}
 use Rattle.lookup_runs.proofs.Moves.{Move, stays, asks, fails, answers, moved}
@@ -122,20 +123,51 @@ unfolding hearAll
 sound-all ours [] l s = s
 sound-all ours (id ∷ ids) l s = sound-all ours ids (hear ours id l) (sound-hear ours id l s)
 
+-- ---- the target stays
+hear-target : (ours id : List ℕ) (l : Lookup) → hear ours id l .target ≡ l .target
+unfolding hear meet
+hear-target ours id l =
+    cond-ind P (not (idFits id)) l _ (λ e. refl)
+    (λ f. cond-ind P (same (sha256 id) ours) l _ (λ e. refl)
+    (λ o. cond-ind P (known (sha256 id) (candidatesOf l)) l _ (λ e. refl)
+    (λ k. cond-ind P (ltb (l .count) room) (put l (enter (l .target) (fresh id) (candidatesOf l))) (turnAway l) (λ e. refl) (λ e. refl))))
+  where
+    P : Lookup → Type 0
+    P k = k .target ≡ l .target
+
+all-target : (ours : List ℕ) (ids : List (List ℕ)) (l : Lookup) → hearAll ours ids l .target ≡ l .target
+unfolding hearAll
+all-target ours [] l = refl
+all-target ours (id ∷ ids) l = all-target ours ids (hear ours id l) ∙ hear-target ours id l
+
+step-target : (c : Call) (l : Lookup) → Sound l → step c l .lookup .target ≡ l .target
+step-target c l s = go (moved c l (s .long))
+  where
+    go : Move c l (step c l) → step c l .lookup .target ≡ l .target
+    go (stays e q n) = ap (λ (k : Lookup). k .target) e
+    go (asks i n h g e q) = ap (λ (k : Lookup). k .target) e
+    go (fails id i f h p e q a) = ap (λ (k : Lookup). k .target) e
+    go (answers own ours id body v i ec k h p e q a) = ap (λ (k : Lookup). k .target) e ∙ all-target ours _ (mark i answered l)
+
 -- ---- any call
 pub sound-step : (c : Call) (l : Lookup) → Sound l → Sound (step c l .lookup)
 sound-step c l s = go (moved c l (s .long))
   where
     go : Move c l (step c l) → Sound (step c l .lookup)
-    go (stays e q) = subst Sound (sym e) s
-    go (asks i h g e q) = subst Sound (sym e) (sound-mark i flying l (omega arith) s)
-    go (fails i h e q) = subst Sound (sym e) (sound-mark i failed l (omega arith) s)
-    go (answers own ours id body v i ec k h p e q) = subst Sound (sym e) (sound-all ours _ (mark i answered l) (sound-mark i answered l (omega arith) s))
+    go (stays e q n) = subst Sound (sym e) s
+    go (asks i n h g e q) = subst Sound (sym e) (sound-mark i flying l (omega arith) s)
+    go (fails id i f h p e q a) = subst Sound (sym e) (sound-mark i failed l (omega arith) s)
+    go (answers own ours id body v i ec k h p e q a) = subst Sound (sym e) (sound-all ours _ (mark i answered l) (sound-mark i answered l (omega arith) s))
 
-pub sound-run : (cs : List Call) (l : Lookup) → Sound l → Sound (run cs l)
-unfolding run
-sound-run [] l s = s
-sound-run (c ∷ cs) l s = sound-run cs (step c l .lookup) (sound-step c l s)
+pub sound-outcome : (cs : List Call) (s : Step) → Sound (s .lookup) → Sound (outcome step s cs .lookup)
+unfolding outcome
+sound-outcome [] s h = h
+sound-outcome (c ∷ cs) s h = sound-outcome cs (step c (s .lookup)) (sound-step c (s .lookup) h)
+
+pub outcome-target : (cs : List Call) (s : Step) → Sound (s .lookup) → outcome step s cs .lookup .target ≡ s .lookup .target
+unfolding outcome
+outcome-target [] s h = refl
+outcome-target (c ∷ cs) s h = outcome-target cs (step c (s .lookup)) (sound-step c (s .lookup) h) ∙ step-target c (s .lookup) h
 
 -- ---- a start
 padded-whole : (n : ℕ) (p : List ℕ) → length p ≡ n → padded n p ≡ p
@@ -195,6 +227,17 @@ module _ (t ours x : List ℕ) (ht : Bytes t) (table : inFormTable t ours ≡ tr
   unfolding firstOnes
   first-placed = contacts-placed (nearestSlots t x) (nearest-are t x hx .held)
 
+  -- they lie where the contacts do
+  contacts-lie : (p : List ℕ) (ls : List ℕ) → AllGood ls → known p (map (contactAt t) ls) ≡ anyIn (λ i. same (place (slot t i)) p) ls
+  unfolding anyIn
+  contacts-lie p [] g = refl
+  contacts-lie p (d ∷ ls) g =
+      ap₂ (λ (a b : Bool). a || b) (ap (λ (q : List ℕ). same q p) (place-is d (g 0 (omega arith)))) (contacts-lie p ls (λ i h. g (suc i) (omega arith)))
+
+  pub first-lie : (p : List ℕ) → known p (firstOnes t x) ≡ anyIn (λ i. same (place (slot t i)) p) (nearestSlots t x)
+  unfolding firstOnes
+  first-lie p = contacts-lie p (nearestSlots t x) (nearest-are t x hx .held)
+
   pub first-few : length (firstOnes t x) ≤ 20
   unfolding firstOnes
   first-few = omega (arith, length-map (nearestSlots t x) (contactAt t), nearest-few t x)
@@ -202,10 +245,34 @@ module _ (t ours x : List ℕ) (ht : Bytes t) (table : inFormTable t ours ≡ tr
 pub begun-candidates : (t key : List ℕ) (limit : ℕ) → candidatesOf (begun t key limit) ≡ firstOnes t (sha256 key)
 begun-candidates t key limit = take-append-seam (firstOnes t (sha256 key)) (replicate (room - length (firstOnes t (sha256 key))) nobody)
 
+-- ---- a start that isn't refused: what it tests, and what it gives
+pub record Taken (t own ours key : List ℕ) (limit : ℕ) : Type 0 where
+  pub table : inFormTable t ours ≡ true
+  pub keyed : keyFits key ≡ true
+  pub limited : limitFits limit ≡ true
+  pub gave : startOf t own ours key limit ≡ settled (begun t key limit)
+
+pub taken : (t own ours key : List ℕ) (limit : ℕ) → Started t own ours key limit → Taken t own ours key limit
+unfolding startOf
+taken t own ours key limit s =
+    cond-ind P (not (inFormTable t ours)) (refuses noLookup OutOfForm) _ (λ e. no OutOfForm)
+    (λ a. cond-ind P (not (keyFits key)) (refuses noLookup BreaksRules) _ (λ e. no BreaksRules)
+    (λ b. cond-ind P (not (idFits own)) (refuses noLookup BadPeer) _ (λ e. no BadPeer)
+    (λ c. cond-ind P (not (limitFits limit)) (refuses noLookup BadConcurrency) (settled (begun t key limit)) (λ e. no BadConcurrency)
+    (λ d q. record { table = not-false (inFormTable t ours) a; keyed = not-false (keyFits key) b; limited = not-false (limitFits limit) d; gave = q }))))
+    refl
+  where
+    P : Step → Type 0
+    P x = startOf t own ours key limit ≡ x → Taken t own ours key limit
+
+    no : (r : Refusal) → startOf t own ours key limit ≡ refuses noLookup r → Taken t own ours key limit
+    no r q = absurd (not-both (accepted (startOf t own ours key limit .answer)) (s .taken) (ap (λ (x : Step). accepted (x .answer)) q))
+
 -- a started lookup is in form
-pub sound-start : (t ours key : List ℕ) (limit : ℕ) → Started t ours key limit → Sound (begun t key limit)
-sound-start t ours key limit s =
-    let few : length (firstOnes t (sha256 key)) ≤ 20 = first-few t ours (sha256 key) (s .bytes) (s .table) (length-sha256 key) in
+pub sound-start : (t own ours key : List ℕ) (limit : ℕ) → Started t own ours key limit → Sound (begun t key limit)
+sound-start t own ours key limit st =
+    let s : Taken t own ours key limit = taken t own ours key limit st in
+    let few : length (firstOnes t (sha256 key)) ≤ 20 = first-few t ours (sha256 key) (st .bytes) (s .table) (length-sha256 key) in
     record {
       form = form-of (begun t key limit) (record {
         sizeLow = leb-true 1 (length key) (and-l (leb 1 (length key)) _ (s .keyed));
@@ -214,10 +281,10 @@ sound-start t ours key limit s =
         limitHigh = leb-true limit limitMost (and-r (leb 1 limit) _ (s .limited));
         fits = omega arith;
         order = subst (λ (cs : List Candidate). nearestFirst (sha256 key) cs ≡ true) (sym (begun-candidates t key limit))
-            (first-order t ours (sha256 key) (s .bytes) (s .table) (length-sha256 key));
+            (first-order t ours (sha256 key) (st .bytes) (s .table) (length-sha256 key));
       });
       long = length-append (firstOnes t (sha256 key)) (replicate (room - length (firstOnes t (sha256 key))) nobody)
           ∙ omega (arith, length-replicate (room - length (firstOnes t (sha256 key))) nobody);
       target = length-sha256 key;
-      placed = subst AllPlaced (sym (begun-candidates t key limit)) (first-placed t ours (sha256 key) (s .bytes) (s .table) (length-sha256 key));
+      placed = subst AllPlaced (sym (begun-candidates t key limit)) (first-placed t ours (sha256 key) (st .bytes) (s .table) (length-sha256 key));
     }

@@ -1,16 +1,16 @@
 -- A weight summed over the candidates: one mark set, one candidate more, and counts as such sums. Assumes nothing.
 use Prim.Native.Nat.{ℕ, zero, suc, _+_, _≤_, _<_}
-use mathlib.Core.Path.{_≡_, refl, sym, ap, ap₂, _∙_}
-use mathlib.Core.Bool.{Bool, true, false, cond, not}
-use mathlib.Core.List.{List, [], _∷_, _++_, map}
+use mathlib.Core.Path.{_≡_, refl, ap, ap₂, _∙_}
+use mathlib.Core.Bool.{Bool, cond, not}
+use mathlib.Core.List.{List, [], _∷_, map}
 use native.Mathlib.Omega.{arith}
 use lib.Dec.{eqb}
-use lib.ListN.{length, getD, take}
+use lib.ListN.{length, getD}
 use Rattle.octets.specs.Search.{count}
 use Rattle.octets.proofs.Bools.{cond-ind}
 use Rattle.place.specs.Place.{nearerTo}
-use Rattle.lookup_marks.specs.Marks.{idle, flying, marked, flightsOf, sentOf}
-use Rattle.lookup.specs.Lookup.{markOf, withMark, markAt, enter}
+use Rattle.lookup_marks.specs.Marks.{idle, flying, flightsOf, sentOf}
+use Rattle.lookup.specs.Lookup.{markOf, withMark, markAt, liesAt, enter}
 use Rattle.lookup_candidates.specs.declared.Candidate.{Candidate}
 
 unfoldable pub sumOf : (Candidate → ℕ) → List Candidate → ℕ
@@ -46,6 +46,15 @@ pub sum-le : (v w : Candidate → ℕ) → ((c : Candidate) → v c ≤ w c) →
 unfolding sumOf
 sum-le v w h [] = omega arith
 sum-le v w h (c ∷ cs) = omega (arith, h c, sum-le v w h cs)
+
+pub sum-same : (v w : Candidate → ℕ) → ((c : Candidate) → v c ≡ w c) → (cs : List Candidate) → sumOf v cs ≡ sumOf w cs
+unfolding sumOf
+sum-same v w h [] = refl
+sum-same v w h (c ∷ cs) = ap₂ (λ (a b : ℕ). a + b) (h c) (sum-same v w h cs)
+
+-- 1 for the candidate at p
+abbrev pub one : List ℕ → Candidate → ℕ
+one p c = cond (liesAt p c) 1 0
 
 -- a count of ranks whose marks pass is such a sum
 abbrev pub weigh : (ℕ → Bool) → Candidate → ℕ

@@ -7,11 +7,12 @@ use Rattle.refusal.specs.declared.Refusal.the-variants.{OutOfForm}
 use Rattle.lookup.specs.Lookup.{refuses, noLookup, startOf}
 use Rattle.lookup.specs.declared.Lookup.{Lookup}
 use Rattle.lookup.specs.declared.Answer.the-variants.{Refused}
-use Rattle.lookup_runs.specs.Runs.{Call, step, run}
+use Rattle.lookup_runs.specs.Runs.{Call, step, outcome}
 
 pub record Refusals : Type 0 where
   -- a refused call leaves the lookup as it was
   pub untouched : (c : Call) (l : Lookup) (r : Refusal) → step c l .answer ≡ Refused r → step c l .lookup ≡ l
   -- "A refused start hands back an empty one with limit 0, so later steps give 0."
   pub empty : (t own ours key : List ℕ) (limit : ℕ) (r : Refusal) → startOf t own ours key limit .answer ≡ Refused r → startOf t own ours key limit .lookup ≡ noLookup
-  pub later : (cs : List Call) (c : Call) → step c (run cs noLookup) ≡ refuses noLookup OutOfForm
+  pub later : (t own ours key : List ℕ) (limit : ℕ) (r : Refusal) → startOf t own ours key limit .answer ≡ Refused r → (cs : List Call) (c : Call)
+      → step c (outcome step (startOf t own ours key limit) cs .lookup) ≡ refuses noLookup OutOfForm

@@ -1,21 +1,21 @@
 -- The theorems of the reader: it gives the message that the definitions give, at positions inside the body, and refuses with 5 just what is malformed.
 -- Assumes nothing.
 use Prim.Native.Nat.{ℕ, zero, suc, _≤_, _<_}
-use mathlib.Core.Path.{_≡_, refl, subst}
+use mathlib.Core.Path.{_≡_, refl, ap, _∙_, subst}
 use mathlib.Core.List.{List, [], _∷_, map}
 use mathlib.Core.Bool.{Bool, true, false, cond, not}
 use mathlib.Core.Option.{none, some}
 use native.Mathlib.Omega.{arith}
 use lib.ListN.{length, take}
 use lib.Dec.{ltb}
-use borrow.Author.Tests.{ltb-true, ltb-false, le-ltb}
+use borrow.Author.Tests.{ltb-true, ltb-false, lt-ltb, le-ltb}
 use Rattle.refusal.specs.declared.Refusal.the-variants.{TooLong, Malformed, UnknownType}
 use Rattle.wire.specs.Wire.{fields, fieldsAt, fieldsIn, spans, firstOf, walk}
 use Rattle.wire.specs.Items.{cut}
 use Rattle.wire.specs.declared.Span.{Span}
 use Rattle.wire.proofs.Scan.{walked}
 use Rattle.message.specs.Limits.{mostBody, mostKind, mostHeard}
-use Rattle.message.specs.Message.{Peer, messageOf, wellMessage, decode}
+use Rattle.message.specs.Message.{Peer, Message, messageOf, wellMessage, decode}
 use Rattle.message.specs.View.{fieldsOf, readingOf, idAt, closerAt, providersAt, addressesAt, heardAt, peerMeant, meant}
 use Rattle.message.specs.declared.Fields.{Fields}
 use Rattle.message.specs.declared.Reading.{Reading}
@@ -100,6 +100,34 @@ module _ (s : List ℕ) where
       go r q (bad e h w) = absurd (let z : _≡_ {A = ℕ} 0 1 = cc in omega arith)
       go r q (unknown e h w k) = (rw w, omega (arith, kind-meant s))
       go r q (whole e h w k) = absurd (let z : _≡_ {A = ℕ} 0 1 = cc in omega arith)
+
+  -- ---- and the other way: what is too long gives 4, and of the rest what decodes to a message of another type gives 6, and what decodes to a known one is
+  -- read as that message
+  pub long-read : mostBody < length s → readingOf s ≡ Refused TooLong
+  unfolding readingOf
+  long-read h = rw (lt-ltb mostBody (length s) h)
+
+  decoded-is : (m : Message) → decode s ≡ some m → (wellMessage s ≡ true) × (messageOf s ≡ m)
+  unfolding decode
+  decoded-is m e = go (wellMessage s) refl
+    where
+      go : (b : Bool) → wellMessage s ≡ b → (wellMessage s ≡ true) × (messageOf s ≡ m)
+      go true q = (q, let z : some (messageOf s) ≡ some m = rw q at e in cc)
+      go false q = absurd (let y : none ≡ some m = rw q at e in let z : _≡_ {A = ℕ} 0 1 = cc in omega arith)
+
+  pub unknown-read : (m : Message) → length s ≤ mostBody → decode s ≡ some m → mostKind < m .kind → readingOf s ≡ Refused UnknownType
+  unfolding readingOf
+  unknown-read m h e k =
+      let d = decoded-is m e in
+      let j : mostKind < fieldsOf s .kind = omega (arith, kind-meant s, ap (λ (x : Message). x .kind) (d .1), k) in
+      rw (le-ltb mostBody (length s) h, d .0, lt-ltb mostKind (fieldsOf s .kind) j)
+
+  pub whole-read : (m : Message) → length s ≤ mostBody → decode s ≡ some m → m .kind ≤ mostKind → (readingOf s ≡ Whole (fieldsOf s)) × (meant s (fieldsOf s) ≡ m)
+  unfolding readingOf
+  whole-read m h e k =
+      let d = decoded-is m e in
+      let j : fieldsOf s .kind ≤ mostKind = omega (arith, kind-meant s, ap (λ (x : Message). x .kind) (d .1), k) in
+      (rw (le-ltb mostBody (length s) h, d .0, le-ltb mostKind (fieldsOf s .kind) j), all-meant s (d .0) ∙ d .1)
 
   -- ---- the walks
 

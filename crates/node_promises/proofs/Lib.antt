@@ -1,3 +1,4 @@
 pub mod Cases
 pub mod Refusals
+pub mod Doing
 pub mod Keeping

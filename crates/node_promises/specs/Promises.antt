@@ -1,8 +1,8 @@
--- What the box's calls promise, as statements; proofs/Refusals.antt and proofs/Keeping.antt prove each.
+-- What the box's calls promise, as statements; proofs/Refusals.antt, proofs/Doing.antt and proofs/Keeping.antt prove each.
 use Prim.Native.Nat.{ℕ}
 use mathlib.Core.Path.{_≡_}
 use mathlib.Core.Logic.{_⊎_}
-use mathlib.Core.Bool.{Bool, true, false}
+use mathlib.Core.Bool.{Bool, true, false, cond}
 use mathlib.Core.List.{List}
 use lib.ListN.{length}
 use Rattle.octets.specs.Octets.{Bytes}
@@ -11,19 +11,25 @@ use Rattle.refusal.specs.declared.Refusal.the-variants as no
 use Rattle.peer.specs.declared.Peer.{Peer}
 use Rattle.contacts.specs.Form.{inForm as contactsForm}
 use Rattle.records.specs.Store.{inForm as recordsForm}
+use Rattle.sightings.specs.Sightings.{sightingOf, seenTable}
 use Rattle.contact_calls.specs.declared.SeenOutcome.the-variants as seen
 use Rattle.contact_calls.specs.declared.SettleOutcome.the-variants as settle
 use Rattle.contact_calls.specs.declared.RemoveOutcome.the-variants as remove
+use Rattle.message.specs.View.{readingOf}
+use Rattle.message.specs.declared.Fields.{Fields}
+use Rattle.message.specs.declared.Reading.the-variants as reading
+use Rattle.replies.specs.declared.Answered.the-variants as told
+use Rattle.answer.specs.Answers.{dealOf}
 use Rattle.stream.specs.declared.Framing.the-variants as framing
 use Rattle.stream.specs.declared.Ending.the-variants as ends
 use Rattle.stream.specs.Stream.{isShut}
 use Rattle.connections.specs.declared.Conn.{Conn}
 use Rattle.connections.specs.declared.Told.the-variants as tells
-use Rattle.node.specs.declared.Answer.the-variants.{Refused}
-use Rattle.node.specs.declared.Sight.the-variants.{NotSeen}
+use Rattle.node.specs.declared.Answer.the-variants.{Reply, Heard, Refused}
+use Rattle.node.specs.declared.Sight.the-variants.{NotSeen, Seen}
 use Rattle.node.specs.declared.Gate.the-variants.{Open, Closed}
 use Rattle.connections.specs.Box.{nobody, startOf, withFraming, openOf, connForm, endConn}
-use Rattle.node.specs.Node.{Out, gateOf, receiveOf}
+use Rattle.node.specs.Node.{untouched, dealingOf, Out, gateOf, receiveOf}
 use Rattle.host_calls.specs.Hosts.{seenOf, seenAfter, settleOf, settleAfter, removeOf, removeAfter, nearestTo}
 
 -- ---- 1. Refused calls change nothing
@@ -71,7 +77,27 @@ pub record ValuesRefused : Type 0 where
   pub ending : (me : Peer) (c : Conn) → connForm me c ≡ false → (endConn me c .conn ≡ c) × (endConn me c .answer ≡ ends.Refused no.OutOfForm)
   pub nearby : (me : Peer) (t key : List ℕ) (r : Refusal) → nearestTo me t key .told ≡ tells.Refused r → nearestTo me t key .closest .n ≡ 0
 
--- ---- 2. Form is kept
+-- ---- 2. What a whole message does, in four cases that leave none out
+pub record MessageDone : Type 0 where
+  -- on the answering side: a request that is refused does nothing; one that is answered gets that reply, "then a server-mode sender is seen"
+  pub refuses : (me : Peer) (c : Conn) (body t k y : List ℕ) (r : Refusal) → c .asking ≡ false → dealOf me (c .peer) body t k y .told ≡ told.Refused r
+      → dealingOf me c body t k y ≡ untouched (Refused r) t k y
+  pub replies : (me : Peer) (c : Conn) (body t k y : List ℕ) (n : ℕ) → c .asking ≡ false → dealOf me (c .peer) body t k y .told ≡ told.Reply n
+      → dealingOf me c body t k y
+      ≡ record {
+        answer = Reply n;
+        sight = cond (c .server) (Seen (sightingOf t (me .place) (c .peer .place))) NotSeen;
+        contacts = cond (c .server) (seenTable t (me .place) (c .peer)) t;
+        records = dealOf me (c .peer) body t k y .records;
+        reply = dealOf me (c .peer) body t k y .reply;
+      }
+  -- "On the asking side it goes to the host": with the view that the reader gives, "no reply, no sighting"; or it is refused as the reader refuses it
+  pub declines : (me : Peer) (c : Conn) (body t k y : List ℕ) (r : Refusal) → c .asking ≡ true → readingOf body ≡ reading.Refused r
+      → dealingOf me c body t k y ≡ untouched (Refused r) t k y
+  pub hears : (me : Peer) (c : Conn) (body t k y : List ℕ) (f : Fields) → c .asking ≡ true → readingOf body ≡ reading.Whole f
+      → dealingOf me c body t k y ≡ untouched (Heard (length body) f) t k y
+
+-- ---- 3. Form is kept
 -- a peer whose arrays have the lengths that they are declared with, and whose place is bytes
 pub record Made (p : Peer) : Type 0 where
   pub lensLong : length (p .lens) ≡ 4

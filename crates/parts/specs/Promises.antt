@@ -2,20 +2,22 @@
 use Prim.Native.Nat.{ℕ, suc}
 use mathlib.Core.Path.{_≡_}
 use mathlib.Core.Bool.{true, false}
-use mathlib.Core.List.{List, [], _∷_}
-use mathlib.Core.Option.{none, some}
+use mathlib.Core.List.{List, [], _∷_, map}
+use mathlib.Core.Option.{Option, none, some}
 use lib.ListN.{length, take}
 use Rattle.refusal.specs.declared.Refusal.{Refusal}
 use Rattle.wire.specs.Wire.{walk}
+use Rattle.wire.specs.Items.{cut}
 use Rattle.wire.specs.declared.Span.{Span}
 use Rattle.wire.specs.declared.Found.{Found}
 use Rattle.wire.specs.declared.Found.the-variants.{At as FoundAt, Nothing as FoundNothing}
-use Rattle.message.specs.Message.{messageOf}
-use Rattle.message.specs.View.{readingOf, closerAt, providersAt, idAt, connectionAt, addressesAt}
+use Rattle.message.specs.Message.{Record, messageOf}
+use Rattle.message.specs.View.{readingOf, closerAt, providersAt, idAt, connectionAt, addressesAt, peerMeant}
 use Rattle.message.specs.declared.Fields.{Fields}
 use Rattle.message.specs.declared.Reading.the-variants.{Whole, Refused as Unread}
 use Rattle.parts.specs.declared.Number.the-variants.{Is}
-use Rattle.parts.specs.declared.Part.the-variants.{At as PartAt}
+use Rattle.parts.specs.declared.Part.{Part}
+use Rattle.parts.specs.declared.Part.the-variants.{At as PartAt, Refused as PartRefused}
 use Rattle.parts.specs.declared.Entry.{Entry}
 use Rattle.parts.specs.declared.Entry.the-variants.{At as EntryAt, Nothing as NoEntry, Refused as EntryRefused}
 use Rattle.parts.specs.Parts.{isView, positionsOf, kindOf, keyOf, recordKeyOf, recordValueOf, closerOf, providerOf, peerIdOf, peerConnectionOf, peerAddressOf, keyBytes, recordKeyBytes, recordValueBytes, numberRefusal, partRefusal, entryRefusal}
@@ -38,10 +40,34 @@ entryFound (EntryAt p) = FoundAt p
 entryFound NoEntry = FoundNothing
 entryFound (EntryRefused r) = FoundNothing
 
--- what the body says; its peers, from 0 and then from each end, are all of them, and so are a peer's addresses from its start on
+-- an answer points at these bytes of the body; and for a part that need not be there, it points at none exactly where there is none
+abbrev pub PointsAt : List ℕ → Part → List ℕ → Type 0
+PointsAt s (PartAt p) b = cut s p ≡ b
+PointsAt s (PartRefused r) b = ⊥
+
+abbrev pub MayPointAt : List ℕ → Entry → Option (List ℕ) → Type 0
+MayPointAt s (EntryAt p) (some b) = cut s p ≡ b
+MayPointAt s (EntryAt p) none = ⊥
+MayPointAt s NoEntry (some b) = ⊥
+MayPointAt s NoEntry none = Unit {0}
+MayPointAt s (EntryRefused r) b = ⊥
+
+abbrev pub keyIn : Option Record → Option (List ℕ)
+keyIn none = none
+keyIn (some r) = some (r .key)
+
+abbrev pub valueIn : Option Record → Option (List ℕ)
+valueIn none = none
+valueIn (some r) = some (r .value)
+
+-- what the body says; its peers, from 0 and then from each end, are all of them, and so are a peer's addresses from its start on. `peerMeant` is the peer
+-- with the id, addresses and connection at these positions
 pub record Meant (s : List ℕ) (v : Fields) : Type 0 where
   pub kind : kindOf s v ≡ Is (messageOf s .kind)
-  pub key : keyBytes s v ≡ messageOf s .key
+  pub key : PointsAt s (keyOf s v) (messageOf s .key)
+  pub recordKey : MayPointAt s (recordKeyOf s v) (keyIn (messageOf s .held))
+  pub recordValue : MayPointAt s (recordValueOf s v) (valueIn (messageOf s .held))
+  pub keyCut : keyBytes s v ≡ messageOf s .key
   pub bare : v .held .there ≡ false → messageOf s .held ≡ none
   pub held : v .held .there ≡ true → messageOf s .held ≡ some (record { key = recordKeyBytes s v; value = recordValueBytes s v })
   pub closer : walk (suc (length s)) (λ from. entryFound (closerOf s v from)) 0 ≡ closerAt s
@@ -49,6 +75,8 @@ pub record Meant (s : List ℕ) (v : Fields) : Type 0 where
   pub id : (p : Span) → peerIdOf s v p ≡ PartAt (idAt s p)
   pub connection : (p : Span) → peerConnectionOf s v p ≡ Is (connectionAt s p)
   pub addresses : (p : Span) → walk (suc (length (take (p .end) s))) (λ from. entryFound (peerAddressOf s v p from)) (p .at) ≡ addressesAt s p
+  pub closerPeers : map (peerMeant s) (closerAt s) ≡ messageOf s .closer
+  pub providerPeers : map (peerMeant s) (providersAt s) ≡ messageOf s .providers
 
 abbrev pub ViewsMean : Type 0
 ViewsMean = (s : List ℕ) (v : Fields) → isView s v ≡ true → Meant s v

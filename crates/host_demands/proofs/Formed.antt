@@ -1,0 +1,133 @@
+-- On memory that stands for a world that is ready, no call gives 0. Assumes nothing.
+use Prim.Native.Nat.{ℕ}
+use mathlib.Core.Path.{_≡_, refl, sym, ap, _∙_, subst}
+use mathlib.Core.Bool.{Bool, not, _||_}
+use mathlib.Core.List.{List}
+use native.Mathlib.Omega.{arith}
+use Rattle.octets.proofs.Bools.{cond-ind}
+use Rattle.refusal.specs.declared.Refusal.the-variants.{OutOfForm}
+use Rattle.peer.specs.declared.Peer.{Peer}
+use Rattle.peer.specs.Peers.{badPeer}
+use Rattle.contact_calls.specs.declared.SeenOutcome.{SeenOutcome}
+use Rattle.contact_calls.specs.declared.SeenOutcome.the-variants as seen
+use Rattle.contact_calls.specs.declared.SettleOutcome.{SettleOutcome}
+use Rattle.contact_calls.specs.declared.SettleOutcome.the-variants as settle
+use Rattle.contact_calls.specs.declared.RemoveOutcome.{RemoveOutcome}
+use Rattle.contact_calls.specs.declared.RemoveOutcome.the-variants as remove
+use Rattle.records.specs.declared.Answer as stored
+use Rattle.records.specs.declared.Answer.the-variants as put
+use Rattle.records.specs.declared.Found.{Found}
+use Rattle.records.specs.declared.Found.the-variants as found
+use Rattle.lookup.specs.declared.Answer as lookup
+use Rattle.lookup.specs.declared.Answer.the-variants as steps
+use Rattle.stream.specs.declared.Ending.{Ending}
+use Rattle.stream.specs.declared.Ending.the-variants as ending
+use Rattle.cutting.specs.World.{World}
+use Rattle.connections.specs.declared.Opened.{Opened}
+use Rattle.connections.specs.declared.Told.{Told}
+use Rattle.connections.specs.declared.Told.the-variants as told
+use Rattle.connections.specs.Box.{ownFits, openOf}
+use Rattle.node.specs.declared.Answer.{Answer}
+use Rattle.node.specs.declared.Answer.the-variants.{Reply, Heard, Refused, More}
+use Rattle.flat.specs.Flat.{peerSize, peerIn, saysYes}
+use Rattle.host_numbers.specs.Numbers.{toldCode}
+use Rattle.host_answers.specs.Answers.{seenNumber, settleNumber, removeNumber, putNumber, findNumber}
+use Rattle.host_state.specs.State.{endingCode, answerNumber}
+use Rattle.host_steps.specs.Steps.{stepNumber}
+use Rattle.host.specs.Host.{lent, lentBoth}
+use Rattle.demands.specs.Box.{Box, Who, Ask}
+use Rattle.demands.specs.Demands.{NeverOutOfForm}
+use Rattle.demands.proofs.Never.{never-out-of-form}
+use Rattle.host_demands.specs.Calls.{Memory, History, Lent, leavesAll, worldIn, historyOf}
+use Rattle.host_demands.specs.Hosted.{Started, ReadyFor, FollowsAll, after, NeverZero, Formed}
+use Rattle.host_demands.proofs.Numbers.{number-zero}
+use Rattle.host_demands.proofs.Connections.{lent-enough, both-enough}
+use Rattle.host_demands.proofs.Asking.{long-enough}
+use Rattle.host_demands.proofs.Running.{all-calls}
+
+-- ---- what 0 says
+seen-zero : (x : SeenOutcome) → seenNumber x ≡ 0 → x ≡ seen.Refused OutOfForm
+seen-zero (seen.Moved i) e = absurd (omega (arith, e))
+seen-zero (seen.Joined i) e = absurd (omega (arith, e))
+seen-zero (seen.Probe h) e = absurd (omega (arith, e))
+seen-zero (seen.Refused r) e = ap seen.Refused (number-zero r e)
+
+settle-zero : (x : SettleOutcome) → settleNumber x ≡ 0 → x ≡ settle.Refused OutOfForm
+settle-zero settle.Kept e = absurd (omega (arith, e))
+settle-zero settle.Swapped e = absurd (omega (arith, e))
+settle-zero (settle.Refused r) e = ap settle.Refused (number-zero r e)
+
+remove-zero : (x : RemoveOutcome) → removeNumber x ≡ 0 → x ≡ remove.Refused OutOfForm
+remove-zero remove.Gone e = absurd (omega (arith, e))
+remove-zero (remove.Refused r) e = ap remove.Refused (number-zero r e)
+
+told-zero : (x : Told) → toldCode x ≡ 0 → x ≡ told.Refused OutOfForm
+told-zero told.Fine e = absurd (omega (arith, e))
+told-zero (told.Refused r) e = ap told.Refused (number-zero r e)
+
+put-zero : (x : stored.Answer) → putNumber x ≡ 0 → x ≡ put.Refused OutOfForm
+put-zero put.Taken e = absurd (omega (arith, e))
+put-zero (put.Refused r) e = ap put.Refused (number-zero r e)
+
+find-zero : (x : Found) → findNumber x ≡ 0 → x ≡ found.Refused OutOfForm
+find-zero (found.Held a b) e = absurd (omega (arith, e))
+find-zero found.NotHeld e = absurd (omega (arith, e))
+find-zero (found.Refused r) e = ap found.Refused (number-zero r e)
+
+step-zero : (x : lookup.Answer) → stepNumber x ≡ 0 → x ≡ steps.Refused OutOfForm
+step-zero (steps.Refused r) e = ap steps.Refused (number-zero r e)
+step-zero (steps.Complete n) e = absurd (omega (arith, e))
+step-zero (steps.CutShort n) e = absurd (omega (arith, e))
+step-zero steps.Wait e = absurd (omega (arith, e))
+step-zero (steps.Ask i) e = absurd (omega (arith, e))
+step-zero steps.Going e = absurd (omega (arith, e))
+
+end-zero : (x : Ending) → endingCode x ≡ 0 → x ≡ ending.Refused OutOfForm
+end-zero ending.Clean e = absurd (omega (arith, e))
+end-zero (ending.Refused r) e = ap ending.Refused (number-zero r e)
+
+answer-zero : (x : Answer) → answerNumber x ≡ 0 → x ≡ Refused OutOfForm
+answer-zero (Reply n) e = absurd (omega (arith, e))
+answer-zero (Heard n f) e = absurd (omega (arith, e))
+answer-zero (Refused r) e = ap Refused (number-zero r e)
+answer-zero More e = absurd (omega (arith, e))
+
+-- an open gives 64 or 12
+open-never : (me : Peer) (id : List ℕ) (server asking : Bool) (addresses : List ℕ) → toldCode (openOf me id server asking addresses .told) ≡ 0 → ⊥
+unfolding openOf
+open-never me id server asking addresses =
+    cond-ind (λ (o : Opened). toldCode (o .told) ≡ 0 → ⊥) (not (ownFits me) || badPeer (me .place) id) _ _ (λ e z. omega (arith, z)) (λ e z. omega (arith, z))
+
+module _ (me : List ℕ) (S : Started me) where
+  abbrev us : Peer
+  us = peerIn me
+
+  never-zero : (m : Memory) (h : History) → Lent m → ReadyFor me (worldIn m h) → NeverZero me m
+  never-zero m h len r =
+      let never : NeverOutOfForm us = never-out-of-form us (S .own) in
+      let w : World Who Box Ask = worldIn m h in
+      let a : Box = w .shared .state in
+      record {
+        opens = λ i id server asking addresses buffer e. open-never us id (saysYes server) (saysYes asking) addresses (sym (both i 0 _) ∙ e);
+        receives = λ i piece e. never .receive (w .lines i) a piece (r .lines i) (r .good) (answer-zero _ (sym (both i 0 _) ∙ e));
+        ends = λ i e. never .end (w .lines i) (r .lines i) (end-zero _ (sym (both i 0 _) ∙ e));
+        put = λ key value e. never .put a key value (r .good) (put-zero _ e);
+        find = λ key e. never .find a key (r .good) (find-zero _ e);
+        seen = λ id client addresses e. never .seen a id (saysYes client) (r .good) (seen-zero _ (sym (enough 0 _) ∙ e));
+        settle = λ head id client addresses answered e. never .settle a head id (saysYes client) (saysYes answered) (r .good) (settle-zero _ (sym (enough 0 _) ∙ e));
+        remove = λ id e. never .remove a id (r .good) (remove-zero _ (sym (enough 0 _) ∙ e));
+        nearest = λ key e. never .nearest a key (r .good) (told-zero _ (sym (enough 0 _) ∙ e));
+        start = λ j key limit e. never .start a key limit (r .good) (step-zero _ (sym (long-enough me S m h len j 0 _) ∙ e));
+      }
+    where
+      enough : (x y : ℕ) → lent peerSize me x y ≡ y
+      enough x y = lent-enough peerSize me x y (S .room)
+
+      both : (i x y : ℕ) → lentBoth me (m .conns i) x y ≡ y
+      both i x y = both-enough me (m .conns i) x y (S .room) (len .conns i)
+
+  pub formed : Formed me
+  formed m h cs len r f =
+      let w : World Who Box Ask = after me (worldIn m h) m cs in
+      let g : FollowsAll me m (worldIn m h) cs = all-calls me S m (worldIn m h) cs len r refl f in
+      never-zero (leavesAll me m cs) (historyOf w) (g .lent) (subst (ReadyFor me) (sym (g .stands)) (g .ready))

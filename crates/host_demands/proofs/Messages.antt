@@ -1,0 +1,120 @@
+-- A message for a lookup stands at the start of the receive buffer, and its view is the reader's. Assumes nothing.
+use Prim.Native.Nat.{ℕ, zero, suc, _≤_}
+use mathlib.Core.Path.{_≡_, refl, sym, ap, _∙_}
+use mathlib.Core.Bool.{Bool, true, false, cond, not}
+use mathlib.Core.List.{List, [], _∷_}
+use native.Mathlib.Omega.{arith}
+use lib.ListN.{length, set, take, drop, drop-of-length-le}
+use lib.Seq.{sets, length-sets}
+use lib.Dec.{ltb}
+use Rattle.octets.proofs.Bools.{cond-ind}
+use Rattle.peer.specs.declared.Peer.{Peer}
+use Rattle.message.specs.Limits.{mostBody, mostKind}
+use Rattle.message.specs.Message.{wellMessage}
+use Rattle.message.specs.View.{fieldsOf, readingOf}
+use Rattle.message.specs.declared.Reading.{Reading}
+use Rattle.stream.specs.declared.Answer as stream
+use Rattle.stream.specs.declared.Answer.the-variants as framed
+use Rattle.stream.specs.Stream as streams
+use Rattle.stream.specs.Stream.{receiveOf as framedOf}
+use Rattle.replies.specs.declared.Answered.{Answered}
+use Rattle.replies.specs.declared.Answered.the-variants as told
+use Rattle.replies.specs.Verdicts.{Dealt}
+use Rattle.answer.specs.Answers.{dealOf}
+use Rattle.connections.specs.declared.Conn.{Conn}
+use Rattle.connections.specs.Box.{withFraming}
+use Rattle.node.specs.declared.Gate.{Gate}
+use Rattle.node.specs.declared.Gate.the-variants.{Open, Closed}
+use Rattle.node.specs.declared.Sight.{Sight}
+use Rattle.node.specs.declared.Sight.the-variants.{NotSeen}
+use Rattle.node.specs.declared.Answer.{Answer}
+use Rattle.node.specs.declared.Answer.the-variants.{Reply, Heard, Refused, More}
+use Rattle.node.specs.Node.{Dealing, Out, byAnswer, heardAs, heard, served, dealingOf, byEvent, unless, gateOf, takenOf, receiveOf}
+use Rattle.demands.specs.Box.{bodyIn}
+
+-- a message that is heard: it is the body, which stands in m, and has the body's view. Nobody was seen by it, nor by a refusal
+abbrev pub HeardFits : Answer → Sight → List ℕ → List ℕ → Type 0
+HeardFits (Reply n) s body m = Unit {0}
+HeardFits (Heard n f) s body m = (take n m ≡ body) × (f ≡ fieldsOf body) × (s ≡ NotSeen)
+HeardFits (Refused r) s body m = s ≡ NotSeen
+HeardFits More s body m = Unit {0}
+
+take-length : (v : ℕ) (m : List ℕ) → take (length (take v m)) m ≡ take v m
+take-length zero m = refl
+take-length (suc v) [] = refl
+take-length (suc v) (b ∷ m) = ap (λ (x : List ℕ). b ∷ x) (take-length v m)
+
+read-fits : (v : ℕ) (m : List ℕ) → HeardFits (heardAs (length (take v m)) (readingOf (take v m))) NotSeen (take v m) m
+unfolding readingOf
+read-fits v m =
+    let body : List ℕ = take v m in
+    go (ltb mostBody (length body)) _ _ (λ e. refl)
+    (λ e. go (not (wellMessage body)) _ _ (λ e. refl) (λ e. go (ltb mostKind (fieldsOf body .kind)) _ _ (λ e. refl) (λ e. (take-length v m, refl, refl))))
+  where
+    go : (b : Bool) (x y : Reading) → (b ≡ true → HeardFits (heardAs (length (take v m)) x) NotSeen (take v m) m)
+        → (b ≡ false → HeardFits (heardAs (length (take v m)) y) NotSeen (take v m) m) → HeardFits (heardAs (length (take v m)) (cond b x y)) NotSeen (take v m) m
+    go = cond-ind (λ (r : Reading). HeardFits (heardAs (length (take v m)) r) NotSeen (take v m) m)
+
+served-fits : (me : Peer) (x : Answered) (d : Dealt) (c : Conn) (t body m : List ℕ) → HeardFits (byAnswer x d me c t .answer) (byAnswer x d me c t .sight) body m
+served-fits me (told.Refused r) d c t body m = refl
+served-fits me (told.Reply n) d c t body m = tt
+
+dealing-fits : (me : Peer) (c : Conn) (v : ℕ) (m t k y : List ℕ) → HeardFits (dealingOf me c (take v m) t k y .answer) (dealingOf me c (take v m) t k y .sight) (take v m) m
+unfolding dealingOf heard served
+dealing-fits me c v m t k y =
+    let d = dealOf me (c .peer) (take v m) t k y in
+    cond-ind (λ (x : Dealing). HeardFits (x .answer) (x .sight) (take v m) m) (c .asking) _ _ (λ e. read-fits v m)
+    (λ e. served-fits me (d .told) d c t (take v m) m)
+
+pub event-fits : (me : Peer) (w : stream.Answer) (c : Conn) (n : ℕ) (m t k y : List ℕ)
+    → HeardFits (byEvent w me c n m t k y .got .answer) (byEvent w me c n m t k y .got .sight) (bodyIn w (byEvent w me c n m t k y .buffer)) (byEvent w me c n m t k y .buffer)
+event-fits me (framed.Message v) c n m t k y = dealing-fits me c v m t k y
+event-fits me (framed.Refused r) c n m t k y = refl
+event-fits me framed.More c n m t k y = tt
+
+-- ---- whatever is handed in
+abbrev pub ViewFits : Answer → List ℕ → Type 0
+ViewFits (Reply n) m = Unit {0}
+ViewFits (Heard n f) m = f ≡ fieldsOf (take n m)
+ViewFits (Refused r) m = Unit {0}
+ViewFits More m = Unit {0}
+
+own-view : (x : Answer) (s : Sight) (body m : List ℕ) → HeardFits x s body m → ViewFits x m
+own-view (Reply n) s body m h = tt
+own-view (Heard n f) s body m h = h .1 ∙ ap fieldsOf (sym (h .0))
+own-view (Refused r) s body m h = tt
+own-view More s body m h = tt
+
+pub receive-view : (me : Peer) (c : Conn) (m bs t k y : List ℕ) → ViewFits (receiveOf me c m bs t k y .got .answer) (receiveOf me c m bs t k y .buffer)
+unfolding receiveOf takenOf
+receive-view me c m bs t k y = go (gateOf me c m t k y)
+  where
+    f : streams.Out
+    f = framedOf (c .framing) m bs
+
+    o : Out
+    o = byEvent (f .got .answer) me (withFraming c (f .got .framing)) (f .got .taken) (f .buffer) t k y
+
+    go : (g : Gate) → ViewFits (unless g c m t k y o .got .answer) (unless g c m t k y o .buffer)
+    go (Closed r) = tt
+    go Open =
+        own-view (o .got .answer) (o .got .sight) (bodyIn (f .got .answer) (o .buffer)) (o .buffer)
+        (event-fits me (f .got .answer) (withFraming c (f .got .framing)) (f .got .taken) (f .buffer) t k y)
+
+-- ---- the numbers past the first two in out, whatever these are
+sets-past : (x : ℕ) (l : List ℕ) (i : ℕ) (r : List ℕ) → sets (x ∷ l) (suc i) r ≡ x ∷ sets l i r
+sets-past x l i [] = refl
+sets-past x l i (v ∷ r) = sets-past x (set l i v) (suc i) r
+
+no-second : (x : ℕ) (r : List ℕ) → drop 2 (sets (x ∷ []) 2 r) ≡ []
+no-second x r =
+    let short : length (sets (x ∷ []) 2 r) ≤ 2 = omega (arith, length-sets (x ∷ []) 2 r) in
+    drop-of-length-le (sets (x ∷ []) 2 r) short
+
+pub first-two : (out : List ℕ) (a b c d : ℕ) (r : List ℕ) → drop 2 (sets out 0 (a ∷ b ∷ r)) ≡ drop 2 (sets out 0 (c ∷ d ∷ r))
+first-two [] a b c d r = refl
+first-two (x ∷ []) a b c d r = no-second a r ∙ sym (no-second c r)
+first-two (x ∷ y ∷ out) a b c d r = past a b ∙ sym (past c d)
+  where
+    past : (p q : ℕ) → drop 2 (sets (p ∷ q ∷ out) 2 r) ≡ sets out 0 r
+    past p q = ap (drop 2) (sets-past p (q ∷ out) 1 r ∙ ap (λ (l : List ℕ). p ∷ l) (sets-past q out 0 r))

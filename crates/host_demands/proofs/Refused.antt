@@ -1,0 +1,188 @@
+-- A call that returns a refusal's number leaves contacts, records, reply and lookups as they were, whatever the memory. Assumes nothing.
+use Prim.Native.Nat.{ℕ, _<_}
+use mathlib.Core.Path.{_≡_, refl, sym, ap, _∙_}
+use mathlib.Core.Bool.{Bool, true, false, cond}
+use mathlib.Core.List.{List}
+use native.Mathlib.Omega.{arith}
+use lib.ListN.{length}
+use lib.Seq.{sets}
+use lib.Dec.{eqb, ltb}
+use borrow.Author.Tests.{eqb-true}
+use Rattle.peer.specs.declared.Peer.{Peer}
+use Rattle.contact_calls.specs.declared.SeenOutcome.{SeenOutcome}
+use Rattle.contact_calls.specs.declared.SeenOutcome.the-variants as seen
+use Rattle.contact_calls.specs.declared.SettleOutcome.{SettleOutcome}
+use Rattle.contact_calls.specs.declared.SettleOutcome.the-variants as settle
+use Rattle.contact_calls.specs.declared.RemoveOutcome.{RemoveOutcome}
+use Rattle.contact_calls.specs.declared.RemoveOutcome.the-variants as remove
+use Rattle.records.specs.declared.Answer as stored
+use Rattle.records.specs.declared.Answer.the-variants as put
+use Rattle.records.specs.Store.{putAnswer, putAfter}
+use Rattle.lookup.specs.declared.Step.{Step}
+use Rattle.lookup.specs.declared.Answer as lookup
+use Rattle.lookup.specs.declared.Answer.the-variants as steps
+use Rattle.node.specs.declared.Answer.{Answer}
+use Rattle.node.specs.declared.Answer.the-variants.{Reply, Heard, Refused, More}
+use Rattle.node.specs.Node.{Out}
+use Rattle.node_promises.specs.Promises.{Unchanged}
+use Rattle.flat.specs.Flat.{peerSize, connSize, peerIn, connIn, saysYes}
+use Rattle.flat_lookup.specs.FlatLookup.{flatSize, lookupBytes}
+use Rattle.host_calls.specs.Hosts.{seenOf, seenAfter, settleOf, settleAfter, removeOf, removeAfter}
+use Rattle.host_answers.specs.Answers.{seenNumber, settleNumber, removeNumber, putNumber}
+use Rattle.host_state.specs.State.{answerNumber}
+use Rattle.host_steps.specs.Steps.{stepNumber, stepMemory, isRefused}
+use Rattle.host.specs.Host.{lent, lentBoth, tooShort}
+use Rattle.demands.specs.Demands.{RefusedLeaves}
+use Rattle.demands.proofs.Leaving.{refused-leaves}
+use Rattle.host_demands.specs.Calls as host
+use Rattle.host_demands.specs.Calls.{Memory, returns, receivedBy, nextStep, replyStep, heardStep, failureStep}
+use Rattle.host_demands.specs.Hosted.{Keeps, RefusedKeeps}
+
+-- memory too short changes nothing; else what the inner call says
+if-short : {A : Type 0} (b : Bool) (x y : A) (n : ℕ) → cond b 0 n < 64 → (n < 64 → y ≡ x) → cond b x y ≡ x
+if-short true x y n h k = refl
+if-short false x y n h k = k h
+
+lent-kept : {A : Type 0} (size : ℕ) (s : List ℕ) (x y : A) (n : ℕ) → lent size s 0 n < 64 → (n < 64 → y ≡ x) → lent size s x y ≡ x
+unfolding lent
+lent-kept size s x y n h k = if-short (ltb (length s) size) x y n h k
+
+both-kept : {A : Type 0} (me conn : List ℕ) (x y : A) (n : ℕ) → lentBoth me conn 0 n < 64 → (n < 64 → y ≡ x) → lentBoth me conn x y ≡ x
+both-kept me conn x y n h k = lent-kept peerSize me x (lent connSize conn x y) (lent connSize conn 0 n) h (λ g. lent-kept connSize conn x y n g k)
+
+module _ (me : List ℕ) (m : Memory) where
+  abbrev us : Peer
+  us = peerIn me
+
+  abbrev leaving : RefusedLeaves us
+  leaving = refused-leaves us
+
+  -- ---- receive
+  module _ (i : ℕ) (piece : List ℕ) where
+    abbrev o : Out
+    o = receivedBy me m i piece
+
+    unchanged : answerNumber (o .got .answer) < 64 → Unchanged (m .contacts) (m .records) (m .reply) o
+    unchanged h = go (o .got .answer) refl h
+      where
+        go : (x : Answer) → o .got .answer ≡ x → answerNumber x < 64 → Unchanged (m .contacts) (m .records) (m .reply) o
+        go (Reply n) e l = absurd (omega (arith, l))
+        go (Heard n f) e l = absurd (omega (arith, l))
+        go (Refused r) e l = leaving .receive (connIn (m .conns i)) (m .buffers i) piece (m .contacts) (m .records) (m .reply) r e .unchanged
+        go More e l = absurd (omega (arith, l))
+
+    receive-keeps : returns me m (host.receives i piece) < 64 → Keeps me m (host.receives i piece)
+    receive-keeps h =
+        record {
+          contacts = both-kept me (m .conns i) (m .contacts) (o .contacts) (answerNumber (o .got .answer)) h (λ l. unchanged l .contacts);
+          records = both-kept me (m .conns i) (m .records) (o .records) (answerNumber (o .got .answer)) h (λ l. unchanged l .records);
+          reply = both-kept me (m .conns i) (m .reply) (o .reply) (answerNumber (o .got .answer)) h (λ l. unchanged l .reply);
+          lookups = λ e j. refl;
+        }
+
+  -- ---- records and contacts
+  put-kept : (key value : List ℕ) → putNumber (putAnswer (m .records) key value) < 64 → putAfter (m .records) key value ≡ m .records
+  put-kept key value h = go (putAnswer (m .records) key value) refl h
+    where
+      go : (x : stored.Answer) → putAnswer (m .records) key value ≡ x → putNumber x < 64 → putAfter (m .records) key value ≡ m .records
+      go put.Taken e l = absurd (omega (arith, l))
+      go (put.Refused r) e l = leaving .put (m .records) key value r e
+
+  seen-kept : (id : List ℕ) (client : Bool) (addresses : List ℕ) → seenNumber (seenOf us (m .contacts) id client) < 64
+      → seenAfter us (m .contacts) id client addresses ≡ m .contacts
+  seen-kept id client addresses h = go (seenOf us (m .contacts) id client) refl h
+    where
+      go : (x : SeenOutcome) → seenOf us (m .contacts) id client ≡ x → seenNumber x < 64 → seenAfter us (m .contacts) id client addresses ≡ m .contacts
+      go (seen.Moved i) e l = absurd (omega (arith, l))
+      go (seen.Joined i) e l = absurd (omega (arith, l))
+      go (seen.Probe k) e l = leaving .calls .probes us (m .contacts) id client addresses k e
+      go (seen.Refused r) e l = leaving .calls .sees us (m .contacts) id client addresses r e
+
+  settle-kept : (head id : List ℕ) (client : Bool) (addresses : List ℕ) (answered : Bool) → settleNumber (settleOf us (m .contacts) head id client answered) < 64
+      → settleAfter us (m .contacts) head id client addresses answered ≡ m .contacts
+  settle-kept head id client addresses answered h = go (settleOf us (m .contacts) head id client answered) refl h
+    where
+      go : (x : SettleOutcome) → settleOf us (m .contacts) head id client answered ≡ x → settleNumber x < 64
+          → settleAfter us (m .contacts) head id client addresses answered ≡ m .contacts
+      go settle.Kept e l = absurd (omega (arith, l))
+      go settle.Swapped e l = absurd (omega (arith, l))
+      go (settle.Refused r) e l = leaving .calls .settles us (m .contacts) head id client addresses answered r e
+
+  remove-kept : (id : List ℕ) → removeNumber (removeOf us (m .contacts) id) < 64 → removeAfter us (m .contacts) id ≡ m .contacts
+  remove-kept id h = go (removeOf us (m .contacts) id) refl h
+    where
+      go : (x : RemoveOutcome) → removeOf us (m .contacts) id ≡ x → removeNumber x < 64 → removeAfter us (m .contacts) id ≡ m .contacts
+      go remove.Gone e l = absurd (omega (arith, l))
+      go (remove.Refused r) e l = leaving .calls .removes us (m .contacts) id r e
+
+  -- ---- lookups
+  step-kept : (x : List ℕ) (s : Step) → stepNumber (s .answer) < 64 → stepMemory x s ≡ x
+  step-kept x s h = go (s .answer) h
+    where
+      go : (a : lookup.Answer) → stepNumber a < 64 → cond (isRefused a) x (sets x 0 (lookupBytes (s .lookup))) ≡ x
+      go (steps.Refused r) l = refl
+      go (steps.Complete n) l = absurd (omega (arith, l))
+      go (steps.CutShort n) l = absurd (omega (arith, l))
+      go steps.Wait l = absurd (omega (arith, l))
+      go (steps.Ask i) l = absurd (omega (arith, l))
+      go steps.Going l = absurd (omega (arith, l))
+
+  put-back : (j : ℕ) (x : List ℕ) → x ≡ m .lookups j → (k : ℕ) → cond (eqb k j) x (m .lookups k) ≡ m .lookups k
+  put-back j x e k = go (eqb k j) refl
+    where
+      go : (b : Bool) → eqb k j ≡ b → cond b x (m .lookups k) ≡ m .lookups k
+      go true q = e ∙ ap (m .lookups) (sym (eqb-true k j q))
+      go false q = refl
+
+pub refused-keeps : (me : List ℕ) → RefusedKeeps me
+refused-keeps me m (host.opens i id server asking addresses buffer) h = record { contacts = refl; records = refl; reply = refl; lookups = λ e j. refl }
+refused-keeps me m (host.receives i piece) h = receive-keeps me m i piece h
+refused-keeps me m (host.ends i) h = record { contacts = refl; records = refl; reply = refl; lookups = λ e j. refl }
+refused-keeps me m (host.put key value) h = record { contacts = refl; records = put-kept me m key value h; reply = refl; lookups = λ e j. refl }
+refused-keeps me m (host.find key) h = record { contacts = refl; records = refl; reply = refl; lookups = λ e j. refl }
+refused-keeps me m (host.seen id client addresses) h =
+    record {
+      contacts = lent-kept peerSize me (m .contacts) _ _ h (seen-kept me m id (saysYes client) addresses);
+      records = refl;
+      reply = refl;
+      lookups = λ e j. refl;
+    }
+refused-keeps me m (host.settle head id client addresses answered) h =
+    record {
+      contacts = lent-kept peerSize me (m .contacts) _ _ h (settle-kept me m head id (saysYes client) addresses (saysYes answered));
+      records = refl;
+      reply = refl;
+      lookups = λ e j. refl;
+    }
+refused-keeps me m (host.remove id) h =
+    record { contacts = lent-kept peerSize me (m .contacts) _ _ h (remove-kept me m id); records = refl; reply = refl; lookups = λ e j. refl }
+refused-keeps me m (host.nearest key) h = record { contacts = refl; records = refl; reply = refl; lookups = λ e j. refl }
+refused-keeps me m (host.lookupStarts j key limit) h = record { contacts = refl; records = refl; reply = refl; lookups = λ e k. absurd (e j key limit refl) }
+refused-keeps me m (host.lookupNext j) h =
+    record {
+      contacts = refl;
+      records = refl;
+      reply = refl;
+      lookups = λ e. put-back me m j _ (lent-kept flatSize (m .lookups j) (m .lookups j) _ _ h (step-kept me m (m .lookups j) (nextStep me m j)));
+    }
+refused-keeps me m (host.lookupReplies j id body view) h =
+    record {
+      contacts = refl;
+      records = refl;
+      reply = refl;
+      lookups = λ e. put-back me m j _ (if-short (tooShort me (m .lookups j)) (m .lookups j) _ _ h (step-kept me m (m .lookups j) (replyStep me m j id body view)));
+    }
+refused-keeps me m (host.lookupHears i j id) h =
+    record {
+      contacts = refl;
+      records = refl;
+      reply = refl;
+      lookups = λ e. put-back me m j _ (if-short (tooShort me (m .lookups j)) (m .lookups j) _ _ h (step-kept me m (m .lookups j) (heardStep me m i j id)));
+    }
+refused-keeps me m (host.lookupFails j id) h =
+    record {
+      contacts = refl;
+      records = refl;
+      reply = refl;
+      lookups = λ e. put-back me m j _ (if-short (tooShort me (m .lookups j)) (m .lookups j) _ _ h (step-kept me m (m .lookups j) (failureStep me m j id)));
+    }
