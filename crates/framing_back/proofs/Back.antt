@@ -22,8 +22,9 @@ use Rattle.cutting.specs.World.{Did, here, putBack, Line, Shared, World, Layer,
 use Rattle.cutting.proofs.Heads.{Ran, RanWhole, head-run}
 use Rattle.cutting.proofs.Order.{here-back, back-back, back-here}
 use Rattle.cutting.proofs.World.{Well, lands, play, play-all, handed-all}
-use Rattle.framing_back.specs.Claims.{ReadWhole, FramesReadBack, hands, Arrives, FramesArrive}
+use Rattle.framing_back.specs.Claims.{ReadWhole, FramesReadBack, hands, Arrives, FramesArrive, Claims}
 use Rattle.framing_back.proofs.Prefix.{prefix-back}
+use Rattle.framing_back.proofs.Varints.{prefix-is-varint}
 
 -- ---- at the start of any bytes
 module _ (body rest : List ℕ) (h : length body ≤ mostBody) where
@@ -114,3 +115,6 @@ module _ {P A B O : Type 0} (L : Layer P A B O) where
 
 pub frames-arrive : FramesArrive
 frames-arrive P A B O L Peer Good Fits S s r i f body h ps e = arrives L S s r i f body h ps e
+
+pub claims : Claims
+claims = record { prefix = prefix-is-varint; back = frames-read-back; arrive = frames-arrive }

@@ -1,2 +1,3 @@
 pub mod Prefix
+pub mod Varints
 pub mod Back

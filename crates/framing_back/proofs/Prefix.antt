@@ -19,7 +19,7 @@ use Rattle.stream.specs.Stream as stream
 use Rattle.stream.specs.Stream.{bodyLimit, limited, prefixStep, prefixed, onward, prefixOf}
 
 -- ---- one byte of a prefix
-within : (n : ℕ) → n ≤ bodyLimit → limited n ≡ Length n
+pub within : (n : ℕ) → n ≤ bodyLimit → limited n ≡ Length n
 unfolding limited
 within n h = rw (le-ltb bodyLimit n h)
 
@@ -27,23 +27,23 @@ closes : (z n : ℕ) → 0 < z → n ≤ bodyLimit → stream.minimal z n ≡ Le
 unfolding stream.minimal
 closes z n p h = let q : z ≡ 0 → ⊥ = λ e. omega arith in rw (ne-eqb z 0 q) (within n h)
 
-first-last : (z : ℕ) → z < 128 → prefixStep Nothing z ≡ Length z
+pub first-last : (z : ℕ) → z < 128 → prefixStep Nothing z ≡ Length z
 unfolding prefixStep
 first-last z h = rw (lt-ltb z 128 h) (within z (omega arith))
 
-first-on : (a : ℕ) → 128 ≤ a → prefixStep Nothing a ≡ On (One a)
+pub first-on : (a : ℕ) → 128 ≤ a → prefixStep Nothing a ≡ On (One a)
 unfolding prefixStep
 first-on a h = rw (le-ltb a 128 h)
 
-second-last : (a z n : ℕ) → 0 < z → z < 128 → n ≤ bodyLimit → a % 128 + z * 128 ≡ n → prefixStep (One a) z ≡ Length n
+pub second-last : (a z n : ℕ) → 0 < z → z < 128 → n ≤ bodyLimit → a % 128 + z * 128 ≡ n → prefixStep (One a) z ≡ Length n
 unfolding prefixStep
 second-last a z n p h l e = rw (lt-ltb z 128 h, e) (closes z n p l)
 
-second-on : (a b : ℕ) → 128 ≤ b → prefixStep (One a) b ≡ On (Two a b)
+pub second-on : (a b : ℕ) → 128 ≤ b → prefixStep (One a) b ≡ On (Two a b)
 unfolding prefixStep
 second-on a b h = rw (le-ltb b 128 h)
 
-third-last : (a b z n : ℕ) → 0 < z → z < 128 → n ≤ bodyLimit → a % 128 + b % 128 * 128 + z * 16384 ≡ n → prefixStep (Two a b) z ≡ Length n
+pub third-last : (a b z n : ℕ) → 0 < z → z < 128 → n ≤ bodyLimit → a % 128 + b % 128 * 128 + z * 16384 ≡ n → prefixStep (Two a b) z ≡ Length n
 unfolding prefixStep
 third-last a b z n p h l e = rw (lt-ltb z 128 h, e) (closes z n p l)
 

@@ -4,3 +4,4 @@ pub mod Meaning
 pub mod Occurrences
 pub mod Views
 pub mod Vectors
+pub mod Claims

@@ -1,5 +1,5 @@
 -- The parts at a view's positions are what the body says, and they lie inside it. Assumes nothing.
-use Prim.Native.Nat.{ℕ, _≤_, _<_}
+use Prim.Native.Nat.{ℕ, _<_}
 use mathlib.Core.Path.{_≡_, refl, sym, ap, ap₂, _∙_}
 use mathlib.Core.List.{List, [], _∷_, _++_, map, flatten as joined}
 use mathlib.Core.Bool.{Bool, true, _&&_}
@@ -14,9 +14,9 @@ use Rattle.wire.proofs.Reach.{Inside, AllInside, earlier, spans-inside}
 use Rattle.wire.proofs.Within.{items-well, items-values, items-parts, in-well, in-values, in-parts, in-inside}
 use Rattle.message.specs.Message.{peerOf, merged, messageOf, wellFormed, wellMessage}
 use Rattle.message.specs.View.{allSpans, fieldsOf, idAt, addressesAt, connectionAt, closerAt, providersAt, heldMeant, peerMeant, meant}
+pub use Rattle.message.specs.Claims.{Cuttable, FieldsIn}
 use Rattle.message.specs.Claims.{Shown, AbsentIsShown}
 use Rattle.message.specs.Inner.{wellIn, wellFields}
-use Rattle.message.specs.declared.Fields.{Fields}
 use Rattle.message.proofs.Occurrences.{each-well, held-key, held-value, merged-meant}
 
 -- ---- a peer
@@ -84,11 +84,6 @@ module _ (s : List ℕ) where
 
 -- ---- positions inside the body
 
--- a part that a caller can cut out
-pub record Cuttable (hi : ℕ) (p : Span) : Type 0 where
-  pub ordered : p .at ≤ p .end
-  pub ends : p .end ≤ hi
-
 pub last-cuttable : (lo hi : ℕ) (d : Span) (ps : List Span) → Cuttable hi d → AllInside lo hi ps → Cuttable hi (lastOf d ps)
 unfolding lastOf
 last-cuttable lo hi d [] c a = c
@@ -106,12 +101,6 @@ last-shown : (lo hi : ℕ) (ps : List Span) → AllInside lo hi ps → Shown (la
 unfolding lastOf
 last-shown lo hi [] a = refl
 last-shown lo hi (p ∷ ps) a = last-past lo hi p ps (omega (arith, a .0 .starts)) (a .1)
-
--- the key's part, and the record's
-pub record FieldsIn (hi : ℕ) (m : Fields) : Type 0 where
-  pub key : Cuttable hi (m .key)
-  pub record-key : Cuttable hi (m .held .key)
-  pub record-value : Cuttable hi (m .held .value)
 
 module _ (s : List ℕ) where
   append-inside : (l m : List Span) → AllInside 0 (length s) l → AllInside 0 (length s) m → AllInside 0 (length s) (l ++ m)

@@ -1,2 +1,3 @@
 pub mod Writable
+pub mod Claims
 pub mod Inner

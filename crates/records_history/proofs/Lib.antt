@@ -3,3 +3,4 @@ pub mod Kept
 pub mod Stays
 pub mod Holding
 pub mod Blind
+pub mod Claims

@@ -1,7 +1,8 @@
--- What a store does with the value that it holds under a key, whatever the recipe rules say of that value: document 02, (ix), "Records already held stay held and
--- are still served and ranked". proofs/Holding.antt and Blind.antt show each. That it stays until a higher-ranking one is accepted is `holds-on` (proofs/Stays.antt).
+-- What becomes of a store over any puts, and what it does with the value that it holds under a key. proofs/Stays.antt, Holding.antt and Blind.antt show each,
+-- proofs/Claims.antt all of them.
 use Prim.Native.Nat.{ℕ, _+_, _*_, _<_}
 use mathlib.Core.Path.{_≡_}
+use mathlib.Core.Logic.{_⊎_}
 use mathlib.Core.Bool.{true, false, cond}
 use mathlib.Core.List.{List}
 use lib.ListN.{length}
@@ -12,7 +13,28 @@ use Rattle.records.specs.Limits.{valueAt, slotSize}
 use Rattle.records.specs.Store.{slotsOf, slot, valueOf, isKey, holds, inForm, findOf, putAnswer, putAfter}
 use Rattle.records.specs.declared.Found.the-variants.{Held}
 use Rattle.records.specs.declared.Answer.the-variants.{Taken, Refused}
-use Rattle.records_history.specs.History.{Has, got}
+use Rattle.records_history.specs.History.{Has, got, Offer, accepts, offered, after, cleared, Accepted, Unbeaten}
+
+-- ---- over any list of puts, on any bytes
+
+-- "memory once cleared" is in form, and a store that is stays so
+pub record FormIsKept : Type 0 where
+  pub start : (n : ℕ) → inForm (cleared n) ≡ true
+  pub kept : (t : List ℕ) (os : List Offer) → inForm t ≡ true → inForm (after t os) ≡ true
+
+-- what is found under a key
+pub record HighestIsFound : Type 0 where
+  -- a value that is accepted is the one found under its key, and a put for one key changes no other
+  pub accepted : (t : List ℕ) (o : Offer) → accepts t o ≡ true → got (offered t o) (o .key) ≡ Has (o .value)
+  pub others : (t k v k′ : List ℕ) → (k ≡ k′ → ⊥) → got (putAfter t k v) k′ ≡ got t k′
+  -- of all that were accepted none ranks higher than the one found, and that is one of them, or was held from the start
+  pub highest : (k v t : List ℕ) (os : List Offer) → Accepted k v t os → (u : List ℕ) × (got (after t os) k ≡ Has u) × (outranks v u ≡ false)
+  pub origin : (k u t : List ℕ) (os : List Offer) → got (after t os) k ≡ Has u → (got t k ≡ Has u) ⊎ Accepted k u t os
+  -- "stays the one found under its key until a higher-ranking one is accepted"
+  pub stays : (k v t : List ℕ) (os : List Offer) → got t k ≡ Has v → Unbeaten k v t os → got (after t os) k ≡ Has v
+
+-- ---- of the value that is held under a key, whatever the recipe rules say of it: document 02, (ix), "Records already held stay held and are still served and
+-- ranked"
 
 -- form never looks into a value: stores of one size, whose slots have the same bytes before the value, are both in form or both out of it
 abbrev pub FormIsBlind : Type 0
@@ -31,3 +53,10 @@ pub record JudgedFirst : Type 0 where
   pub broken : (t k v : List ℕ) → inForm t ≡ true → isKey k ≡ true → isRecipe v ≡ false → putAnswer t k v ≡ Refused BrokenRecipe
   pub ranked : (t k u v : List ℕ) → inForm t ≡ true → got t k ≡ Has u → isRecipe v ≡ true
       → (putAnswer t k v ≡ cond (outranks u v) (Refused Outranked) Taken) × (got (putAfter t k v) k ≡ Has (cond (outranks u v) u v))
+
+pub record Claims : Type 0 where
+  pub form : FormIsKept
+  pub highest : HighestIsFound
+  pub blind : FormIsBlind
+  pub found : HeldIsFound
+  pub judged : JudgedFirst

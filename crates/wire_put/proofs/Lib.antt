@@ -1,3 +1,4 @@
 pub mod Digits
 pub mod Putting
+pub mod Shortest
 pub mod RoundTrip

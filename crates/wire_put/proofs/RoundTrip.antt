@@ -16,7 +16,9 @@ use Rattle.wire.specs.declared.Varint.the-variants.{Value}
 use Rattle.wire.specs.declared.Field.the-variants.{Number, Bytes}
 use Rattle.wire.proofs.Reading.{field-end, field-good, end-in}
 use Rattle.wire.proofs.Scan.{at-done, at-on}
+use Rattle.wire_put.specs.Claims.{AllGood, Claims}
 use Rattle.wire_put.proofs.Digits.{digits-last, digits-more, fewer, digits-short, minimal-pos}
+use Rattle.wire_put.proofs.Shortest.{shortest}
 
 -- ---- a varint is read back, whatever follows it
 varint-last : (k v : ℕ) (post : List ℕ) → v < 128 → varint (suc k) (digits (suc k) v ++ post) ≡ Value v (length (digits (suc k) v))
@@ -99,17 +101,6 @@ read-bytes s at f b post p q h a =
     let z : f ≡ 0 → ⊥ = λ x. omega arith in
     r .0 ∙ rw (ne-eqb f 0 z, read-varint s (at + length (minimal t)) v (b ++ post) h (r .1), e₁, sym (end-in s (at + length (minimal t ++ minimal v)) v fit), e₂)
 
--- ---- what a writer may write
-abbrev pub Good : Item → Type 0
-Good (num f v) = (0 < f) × (f < 2 ^ 29) × (v < 2 ^ 64)
-Good (bytes f b) = (0 < f) × (f < 2 ^ 29)
-Good skipped = ⊥
-Good bad = ⊥
-
-abbrev pub AllGood : List Item → Type 0
-AllGood [] = Unit {0}
-AllGood (i ∷ is) = Good i × AllGood is
-
 -- the bytes of a field that is written at a place
 field-part : (s : List ℕ) (at f : ℕ) (b post : List ℕ) → At s at (written1 (bytes f b)) post
     → part s (at + length (tagged (f * 8 + 2) (length b))) (at + length (written1 (bytes f b))) ≡ b
@@ -146,6 +137,14 @@ seen s at (bad ∷ is) h g a = absurd (g .0)
 pub read-back : (is : List Item) → AllGood is → length (written is) < 2 ^ 64 → items (written is) ≡ is
 unfolding items fields
 read-back is g h = seen (written is) 0 is h g (record { pre = []; whole = sym (append-nil _); place = refl })
+
+pub claims : Claims
+claims =
+    record {
+      varints = λ v pre post h. read-varint (pre ++ (minimal v ++ post)) (length pre) v post h (record { pre = pre; whole = refl; place = refl });
+      shortest = shortest;
+      fields = read-back;
+    }
 
 -- ---- lists of items
 pub good-append : (a b : List Item) → AllGood a → AllGood b → AllGood (a ++ b)

@@ -1,0 +1,33 @@
+-- The largest sizes of document 01: nothing within the limits is larger, and something is as large. proofs/Largest.antt shows each.
+use Prim.Native.Nat.{ℕ, _≤_, _<_}
+use mathlib.Core.Path.{_≡_}
+use mathlib.Core.List.{List, []}
+use mathlib.Core.Bool.{true}
+use lib.ListN.{length}
+use Rattle.octets.specs.Search.{every}
+use Rattle.wire.specs.Items.{bytes, written1}
+use Rattle.message.specs.Limits.{mostKind}
+use Rattle.message.specs.Message.{Peer, Record, Message, encodePeer, encodeRecord, encode}
+use Rattle.pieces.specs.Writable.{peerFits, recordFits, heldFits}
+
+-- n is the largest size of those within the limits
+pub record Largest {A : Type 0} (Fits : A → Type 0) (size : A → ℕ) (n : ℕ) : Type 0 where
+  pub most : (a : A) → Fits a → size a ≤ n
+  pub one : (a : A) × Fits a × (size a ≡ n)
+
+-- the body of a GET_VALUE reply: a type, a record if any, and up to twenty peers
+pub record GetValueBody (m : Message) : Type 0 where
+  pub kind : m .kind ≤ mostKind
+  pub key : m .key ≡ []
+  pub held : heldFits (m .held) ≡ true
+  pub closer : every peerFits (m .closer) ≡ true
+  pub twenty : length (m .closer) ≤ 20
+  pub providers : m .providers ≡ []
+
+pub record Claims : Type 0 where
+  -- "A peer is then at most 595 bytes with tag and length": as a field f, whose tag is one byte
+  pub peer : (f : ℕ) → f < 16 → Largest (λ (p : Peer). peerFits p ≡ true) (λ p. length (written1 (bytes f (encodePeer p)))) 595
+  -- a record 2,185
+  pub held : Largest (λ (r : Record). recordFits r ≡ true) (λ r. length (written1 (bytes 3 (encodeRecord r)))) 2185
+  -- "the largest GET_VALUE reply body is 2 + 2,185 + 20 x 595 = 14,087"
+  pub reply : Largest GetValueBody (λ m. length (encode m)) 14087
