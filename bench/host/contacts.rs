@@ -206,7 +206,7 @@ fn plain_sighting(table: &mut [u8], ours: &[u8; 32], id: &[u8], p: &[u8; 32], ad
             table[i * SLOT + 3..i * SLOT + 8].copy_from_slice(&peer[3..8]);
             table[i * SLOT + 104..i * SLOT + SLOT].copy_from_slice(&peer[104..]);
         }
-        return (255, i);
+        return (64, i);
     }
     let b = bucket(p, ours);
     let tail = tail_of(table, ours, b);
@@ -219,7 +219,7 @@ fn plain_sighting(table: &mut [u8], ours: &[u8; 32], id: &[u8], p: &[u8; 32], ad
     };
     peer[0] = tail + 1;
     table[i * SLOT..i * SLOT + SLOT].copy_from_slice(&peer);
-    (254, i)
+    (65, i)
 }
 
 fn plain_seen(table: &mut [u8], ours: &[u8; 32], id: &[u8], client: bool, addresses: &[u8]) -> (u8, usize) {
@@ -480,7 +480,7 @@ impl Sightings {
         let k = self.next;
         self.next = if k + 1 == self.ids.len() { 0 } else { k + 1 };
         let (code, slot) = see(&mut self.table, &self.ours, &self.ids[k], &self.places[k]);
-        if code == 254 {
+        if code == 65 {
             self.table[slot * SLOT..slot * SLOT + SLOT].fill(0);
         }
         slot as u64 * 256 + code as u64

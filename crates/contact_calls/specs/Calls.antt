@@ -2,10 +2,10 @@
 -- answer does to the table: a refusal does nothing.
 use Prim.Native.Nat.{ℕ}
 use mathlib.Core.Bool.{Bool, not, cond}
-use mathlib.Core.List.{List, [], _∷_}
+use mathlib.Core.List.{List}
 use Rattle.place.specs.Place.{placeOf}
 use Rattle.refusal.specs.declared.Refusal.{Refusal}
-use Rattle.refusal.specs.declared.Refusal.the-variants.{OutOfForm, BadPeer, NoContactSlot, NoLongerFits, Client}
+use Rattle.refusal.specs.declared.Refusal.the-variants.{OutOfForm, BadPeer, BucketFull, NoContactSlot, NoLongerFits, Client}
 use Rattle.refusal.specs.Refusal.{numberOf}
 use Rattle.contacts.specs.Form.{inForm}
 use Rattle.peer.specs.declared.Peer.{Peer}
@@ -74,18 +74,20 @@ afterRemove t ours p (remove.Refused r) = t
 unfoldable pub removeCallTable : List ℕ → List ℕ → List ℕ → List ℕ
 removeCallTable t ours id = afterRemove t ours (placeOf id) (removeCall t ours id)
 
--- ---- the number that each answer refuses with; none where it doesn't. 13 names the head by its slot
-unfoldable pub seenNumber : SeenOutcome → List ℕ
-seenNumber (seen.Moved i) = []
-seenNumber (seen.Joined i) = []
-seenNumber (seen.Probe h) = 13 ∷ []
-seenNumber (seen.Refused r) = numberOf r ∷ []
+-- ---- the number of each answer, which a host is told: a refusal's own, or one from 64 up
+-- 64 moved, 65 joined; a bucket that is full is a refusal, beside which its head is named
+abbrev pub seenNumber : SeenOutcome → ℕ
+seenNumber (seen.Moved i) = 64
+seenNumber (seen.Joined i) = 65
+seenNumber (seen.Probe h) = numberOf BucketFull
+seenNumber (seen.Refused r) = numberOf r
 
-unfoldable pub settleNumber : SettleOutcome → List ℕ
-settleNumber settle.Kept = []
-settleNumber settle.Swapped = []
-settleNumber (settle.Refused r) = numberOf r ∷ []
+-- 64 kept, 65 swapped
+abbrev pub settleNumber : SettleOutcome → ℕ
+settleNumber settle.Kept = 64
+settleNumber settle.Swapped = 65
+settleNumber (settle.Refused r) = numberOf r
 
-unfoldable pub removeNumber : RemoveOutcome → List ℕ
-removeNumber remove.Gone = []
-removeNumber (remove.Refused r) = numberOf r ∷ []
+abbrev pub removeNumber : RemoveOutcome → ℕ
+removeNumber remove.Gone = 64
+removeNumber (remove.Refused r) = numberOf r

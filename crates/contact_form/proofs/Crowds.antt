@@ -12,7 +12,8 @@ use Rattle.octets.specs.Search.{count}
 use Rattle.octets.proofs.Bools.{either, and-l, and-r, to-false}
 use Rattle.contact_table.specs.Table.{bucketSize, slotsOf, slot, used}
 use Rattle.contact_form.specs.Form.{rank, slotBucket, inForm}
-use Rattle.contact_form.proofs.FormFacts.{InForm, form-elim, form-rank}
+use Rattle.contact_form.specs.Claims.{InForm}
+use Rattle.contact_form.proofs.FormFacts.{form-elim, form-rank}
 
 -- ---- counting, for octets
 count-suc : (p : ℕ → Bool) (n : ℕ) → count (suc n) p ≡ count n p + cond (p n) 1 0
@@ -73,7 +74,7 @@ count-values (suc m) n p f low one =
     under l ne = omega arith
 
 -- ---- a bucket
-abbrev pub ofBucket : List ℕ → List ℕ → ℕ → ℕ → Bool
+abbrev ofBucket : List ℕ → List ℕ → ℕ → ℕ → Bool
 ofBucket t o b i = used (slot t i) && eqb (slotBucket (slot t i) o) b
 
 pub form-twenty : (t o : List ℕ) (b : ℕ) → inForm t o ≡ true → count (slotsOf t) (ofBucket t o b) ≤ bucketSize

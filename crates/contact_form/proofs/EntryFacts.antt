@@ -11,7 +11,8 @@ use Rattle.contact_table.specs.Table.{slotsOf, slot, used, idSize, addressCount
 use Rattle.contact_form.specs.Form.{inForm}
 use Rattle.contact_table.specs.Contact.{entryId, entryAddress, entryCount, entryAddressesTo, entryAddresses}
 use Rattle.contact_table.proofs.Cuts.{slot-whole, slot-size}
-use Rattle.contact_form.proofs.FormFacts.{Fields, form-elim}
+use Rattle.contact_form.specs.Claims.{Fields, Entry}
+use Rattle.contact_form.proofs.FormFacts.{form-elim}
 
 -- what is never over its limit
 pub entry-id-most : (s : List ℕ) → length (entryId s) ≤ longestId
@@ -57,12 +58,7 @@ module _ (s : List ℕ) (whole : length s ≡ 616) (f : Fields s) where
   unfolding entryAddresses addresses
   entry-addresses-whole = ap (entryAddressesTo s) entry-count-whole ∙ to-whole (addressCount s) (omega arith)
 
--- in one record, for a used slot of a table in form
-pub record Entry (s : List ℕ) : Type 0 where
-  pub sameId : entryId s ≡ id s
-  pub sameAddresses : entryAddresses s ≡ addresses s
-  pub idSome : 1 ≤ length (entryId s)
-
+-- of a used slot of a table in form
 pub form-entry : (t o : List ℕ) → inForm t o ≡ true → (i : ℕ) → i < slotsOf t → used (slot t i) ≡ true → Entry (slot t i)
 form-entry t o y i l u =
     let f : Fields (slot t i) = form-elim t o y .fields i l u in

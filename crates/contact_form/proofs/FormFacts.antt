@@ -1,4 +1,4 @@
--- Being in form as a record of facts, both ways, and what follows from it. Assumes nothing.
+-- Being in form and the facts that it is, both ways, and what follows. Assumes nothing.
 use Prim.Native.Nat.{ℕ, zero, suc, _+_, _<_, _≤_}
 use mathlib.Core.Path.{_≡_, refl, sym, ap, _∙_}
 use mathlib.Core.Logic.{⊎-elim}
@@ -17,17 +17,10 @@ use Rattle.place.specs.Place.{bucketOf}
 use Rattle.place.proofs.Buckets.{bucket-self, bucket-lt}
 use Rattle.contact_table.specs.Table.{bucketSize, slotsOf, slot, mark, used, spare, idSize, addressCount, addressSize, place, longestId, longestAddress, addressRooms}
 use Rattle.contact_form.specs.Form.{buckets, rank, slotBucket, addressFits, fieldsFit, tied, justBelow, apart, leads, good, goodOrFree, inForm}
+use Rattle.contact_form.specs.Claims.{Fields, InForm}
 use Rattle.contact_table.proofs.Cuts.{slot-whole, place-size, bytes-place, used-mark}
 
 -- ---- the fields of a slot
-pub record Fields (s : List ℕ) : Type 0 where
-  pub ranked : mark s ≤ bucketSize
-  pub spared : spare s ≡ 0
-  pub idLeast : 1 ≤ idSize s
-  pub idMost : idSize s ≤ longestId
-  pub few : addressCount s ≤ addressRooms
-  pub sizes : (k : ℕ) → k < addressCount s → (1 ≤ addressSize s k) × (addressSize s k ≤ longestAddress)
-
 module _ (s : List ℕ) where
   address-elim : (k : ℕ) → addressFits s k ≡ true → (1 ≤ addressSize s k) × (addressSize s k ≤ longestAddress)
   unfolding addressFits
@@ -69,19 +62,6 @@ module _ (s : List ℕ) where
       all-none)))))
 
 -- ---- the table
-pub record InForm (t o : List ℕ) : Type 0 where
-  pub fields : (i : ℕ) → i < slotsOf t → used (slot t i) ≡ true → Fields (slot t i)
-  pub bucket : (i : ℕ) → i < slotsOf t → used (slot t i) ≡ true → slotBucket (slot t i) o < buckets
-  -- no place twice
-  pub once : (i j : ℕ) → i < slotsOf t → j < slotsOf t → used (slot t i) ≡ true → used (slot t j) ≡ true
-      → place (slot t i) ≡ place (slot t j) → i ≡ j
-  -- no tie
-  pub untied : (i j : ℕ) → i < slotsOf t → j < slotsOf t → used (slot t i) ≡ true → used (slot t j) ≡ true
-      → slotBucket (slot t j) o ≡ slotBucket (slot t i) o → rank (slot t j) ≡ rank (slot t i) → i ≡ j
-  -- no gap
-  pub below : (i : ℕ) → i < slotsOf t → used (slot t i) ≡ true → (rank (slot t i) ≡ 0 → ⊥)
-      → (j : ℕ) × (j < slotsOf t) × (used (slot t j) ≡ true) × (slotBucket (slot t j) o ≡ slotBucket (slot t i) o) × (rank (slot t j) + 1 ≡ rank (slot t i))
-
 module _ (t o : List ℕ) where
   good-at : inForm t o ≡ true → (i : ℕ) → i < slotsOf t → used (slot t i) ≡ true → good t o i ≡ true
   unfolding inForm goodOrFree

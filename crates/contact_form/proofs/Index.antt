@@ -21,7 +21,8 @@ use Rattle.contact_table.specs.Table.{bucketSize, slotsOf, slot, mark, used, pl
 use Rattle.contact_form.specs.Form.{buckets, rank, slotBucket, fieldsFit, inForm}
 use Rattle.contact_form.specs.Inner.{indexSize, fine, keyOf, keyOr, Indexed, otherPlace, otherBefore, entryFits}
 use Rattle.contact_table.proofs.Cuts.{used-mark, mark-used, mark-free}
-use Rattle.contact_form.proofs.FormFacts.{Fields, fields-elim, fields-intro, InForm, form-elim, form-intro}
+use Rattle.contact_form.specs.Claims.{Fields, InForm}
+use Rattle.contact_form.proofs.FormFacts.{fields-elim, fields-intro, form-elim, form-intro}
 
 -- ---- a slot by itself, and its key
 module _ (s o : List ℕ) where

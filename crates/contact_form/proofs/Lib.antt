@@ -4,3 +4,4 @@ pub mod EntryFacts
 mod FieldTests
 mod Pairs
 mod Index
+pub mod Claims

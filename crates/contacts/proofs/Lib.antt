@@ -2,3 +2,4 @@ pub mod Sorting
 pub mod TwentyNearest
 mod Pairs
 mod Shifts
+pub mod Claims

@@ -19,22 +19,9 @@ use Rattle.contacts.specs.Table.{slotsOf, slot, used, place}
 use Rattle.contacts.specs.Near.{nearestCount, far, insert, sortOnto, usedBelow, sorted, nearestSlots}
 use Rattle.contacts.specs.Inner.{kept}
 use Rattle.contact_table.proofs.Cuts.{slot-whole, place-size, bytes-place}
-use Rattle.contact_form.proofs.FormFacts.{InForm}
+use Rattle.contact_form.specs.Claims.{InForm}
+use Rattle.contacts.specs.Claims.{AreNearest}
 use Rattle.contacts.proofs.Sorting.{All, none, more, all-at, all-map, all-take, all-insert, asc-at, sorted-asc, sorted-suc, length-insert, nearest-kept}
-
--- l is the list of the twenty slots of the table t that are nearest to x
-pub record AreNearest (t x l : List ℕ) : Type 0 where
-  -- used slots of the table
-  pub held : (i : ℕ) → i < length l → (getD l i 0 < slotsOf t) × (used (slot t (getD l i 0)) ≡ true)
-  -- none twice
-  pub once : (i j : ℕ) → i < length l → j < length l → getD l i 0 ≡ getD l j 0 → i ≡ j
-  -- nearest first
-  pub order : (i j : ℕ) → i ≤ j → j < length l → far t x (getD l i 0) ≤ far t x (getD l j 0)
-  -- none nearer left out
-  pub nearer : (k : ℕ) → k < slotsOf t → used (slot t k) ≡ true → ((i : ℕ) → i < length l → getD l i 0 ≡ k → ⊥)
-      → (i : ℕ) → i < length l → far t x (getD l i 0) ≤ far t x k
-  -- twenty, or all
-  pub size : length l ≡ min nearestCount (count (slotsOf t) (λ i. used (slot t i)))
 
 -- ---- an element of a list
 data In (k : ℕ) : List ℕ → Type 0 where

@@ -1,5 +1,6 @@
 // The contact table's form test, its twenty nearest and its sightings, for C and Rust.
 use contact_calls::SeenOutcome;
+use refusal::Refusal;
 ghost use mathlib.Core.Path.{_≡_};
 ghost use mathlib.Core.List.{[], _∷_};
 ghost use Rattle.place.specs.Place.{placeOf};
@@ -7,8 +8,8 @@ ghost use Rattle.contacts.specs.Form.{inForm};
 ghost use Rattle.contacts.specs.Near.{nearestOf};
 ghost use Rattle.peer.specs.Peers.{peerOf};
 ghost use Rattle.sightings.specs.Sightings.{sightingOf, seenTable};
-ghost use Rattle.contact_calls.specs.Calls.{outcomeOf, seenCall, seenCallTable};
-ghost use Rattle.contacts_c.specs.Codes.{codeOf, namedBy};
+ghost use Rattle.contact_calls.specs.Calls.{outcomeOf, seenCall, seenCallTable, seenNumber};
+ghost use Rattle.contacts_c.specs.Codes.{namedBy};
 
 // Whether a table is in form, where our place is `ours`. A C program declares it so:
 //
@@ -55,12 +56,15 @@ struct Answer {
 }
 
 fn answer_of(o: SeenOutcome) -> Answer
-    ensures { λ r. ⌜ (r .code ≡ codeOf o) × (r .slot ≡ namedBy o) ⌝ }
+    ensures { λ r. ⌜ (r .code ≡ seenNumber o) × (r .slot ≡ namedBy o) ⌝ }
 {
     match o {
-        SeenOutcome::Moved(i) => Answer { code: 255, slot: i },
-        SeenOutcome::Joined(i) => Answer { code: 254, slot: i },
-        SeenOutcome::Probe(h) => Answer { code: 13, slot: h },
+        SeenOutcome::Moved(i) => Answer { code: 64, slot: i },
+        SeenOutcome::Joined(i) => Answer { code: 65, slot: i },
+        SeenOutcome::Probe(h) => Answer {
+            code: refusal::number(Refusal::BucketFull),
+            slot: h,
+        },
         SeenOutcome::Refused(r) => Answer {
             code: refusal::number(r),
             slot: 0,
@@ -68,7 +72,7 @@ fn answer_of(o: SeenOutcome) -> Answer
     }
 }
 
-// A peer is seen, as a host calls it. Returns 255 where it moved, 254 where it joined, else the number of the refusal, and stores the slot
+// A peer is seen, as a host calls it. Returns 64 where it moved, 65 where it joined, else the number of the refusal, and stores the slot
 // that the answer names. A C program declares it so:
 //
 //     uint8_t starterbell_contacts_seen(uint8_t *table, size_t length, const uint8_t ours[32], const uint8_t *id, size_t id_length, bool client,
@@ -82,7 +86,7 @@ pub extern "C" fn starterbell_contacts_seen(
     addresses: &[u8],
     slot: &mut [usize; 1],
 ) -> u8
-    ensures { λ r. ⌜ (r ≡ codeOf (seenCall (now (table .entry)) (now (ours .entry)) (now (id .entry)) client)) × (now (table .exit) ≡ seenCallTable (now (table .entry)) (now (ours .entry)) (now (id .entry)) client (now (addresses .entry))) × (now (slot .exit) ≡ namedBy (seenCall (now (table .entry)) (now (ours .entry)) (now (id .entry)) client) ∷ []) ⌝ }
+    ensures { λ r. ⌜ (r ≡ seenNumber (seenCall (now (table .entry)) (now (ours .entry)) (now (id .entry)) client)) × (now (table .exit) ≡ seenCallTable (now (table .entry)) (now (ours .entry)) (now (id .entry)) client (now (addresses .entry))) × (now (slot .exit) ≡ namedBy (seenCall (now (table .entry)) (now (ours .entry)) (now (id .entry)) client) ∷ []) ⌝ }
 {
     let told = answer_of(contact_calls::seen(table, ours, id, client, addresses));
     let named = [told.slot];
@@ -100,7 +104,7 @@ pub extern "C" fn starterbell_sighting(
     addresses: &[u8],
     slot: &mut [usize; 1],
 ) -> u8
-    ensures { λ r. ⌜ (r ≡ codeOf (outcomeOf (sightingOf (now (table .entry)) (now (ours .entry)) (now (place .entry))))) × (now (table .exit) ≡ seenTable (now (table .entry)) (now (ours .entry)) (peerOf (now (id .entry)) (now (place .entry)) (now (addresses .entry)))) × (now (slot .exit) ≡ namedBy (outcomeOf (sightingOf (now (table .entry)) (now (ours .entry)) (now (place .entry)))) ∷ []) ⌝ }
+    ensures { λ r. ⌜ (r ≡ seenNumber (outcomeOf (sightingOf (now (table .entry)) (now (ours .entry)) (now (place .entry))))) × (now (table .exit) ≡ seenTable (now (table .entry)) (now (ours .entry)) (peerOf (now (id .entry)) (now (place .entry)) (now (addresses .entry)))) × (now (slot .exit) ≡ namedBy (outcomeOf (sightingOf (now (table .entry)) (now (ours .entry)) (now (place .entry)))) ∷ []) ⌝ }
 {
     let p = peer::peer_of(id, *place, addresses);
     let told = answer_of(contact_calls::seen_outcome(sightings::seen(table, ours, p)));

@@ -22,7 +22,8 @@ use Rattle.host_calls.specs.declared.Nearby.{Nearby}
 use Rattle.host_calls.specs.Hosts.{seenOf, seenAfter, settleOf, settleAfter, removeOf, removeAfter, nearestTo}
 use Rattle.flat.specs.Flat.{peerIn, connIn, saysYes, connBytes}
 use Rattle.host_numbers.specs.Numbers.{toldCode}
-use Rattle.host_answers.specs.Answers.{seenNumber, seenNumbers, settleNumber, removeNumber, nearestNumbers, writeNumber, writeNumbers}
+use Rattle.contact_calls.specs.Calls.{seenNumber, settleNumber, removeNumber}
+use Rattle.host_answers.specs.Answers.{seenNumbers, nearestNumbers, writeNumber, writeNumbers}
 use Rattle.host_state.specs.State.{boxAfter, endingCode, endedMemory}
 use Rattle.host.specs.Host.{lent, lentBoth, startCode, startMemory, openFor, openCode, openMemory, endCode, endMemory, seenCode, seenContacts, seenOut, settleCode, settleContacts, removeCode, removeContacts, nearestCode, nearestOut}
 

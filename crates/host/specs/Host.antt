@@ -16,7 +16,8 @@ use Rattle.host_calls.specs.Hosts.{seenOf, seenAfter, settleOf, settleAfter, re
 use Rattle.flat.specs.Flat.{peerSize, connSize, peerIn, connIn, saysYes, connBytes}
 use Rattle.flat_lookup.specs.FlatLookup.{flatSize, lookupIn}
 use Rattle.host_numbers.specs.Numbers.{toldCode, viewIn}
-use Rattle.host_answers.specs.Answers.{seenNumber, seenNumbers, settleNumber, removeNumber, nearestNumbers}
+use Rattle.contact_calls.specs.Calls.{seenNumber, settleNumber, removeNumber}
+use Rattle.host_answers.specs.Answers.{seenNumbers, nearestNumbers}
 use Rattle.host_state.specs.State.{boxAfter, endingCode, endedMemory, answerNumber, receivedNumbers, receivedMemory, nothingTaken}
 use Rattle.host_steps.specs.Steps.{stepNumber, stepNumbers, stepMemory, startedMemory}
 

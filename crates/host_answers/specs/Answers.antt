@@ -8,10 +8,6 @@ use lib.Dec.{ltb}
 use Rattle.refusal.specs.Refusal.{numberOf}
 use Rattle.contact_calls.specs.declared.SeenOutcome.{SeenOutcome}
 use Rattle.contact_calls.specs.declared.SeenOutcome.the-variants as seen
-use Rattle.contact_calls.specs.declared.SettleOutcome.{SettleOutcome}
-use Rattle.contact_calls.specs.declared.SettleOutcome.the-variants as settle
-use Rattle.contact_calls.specs.declared.RemoveOutcome.{RemoveOutcome}
-use Rattle.contact_calls.specs.declared.RemoveOutcome.the-variants as remove
 use Rattle.records.specs.declared.Answer as records
 use Rattle.records.specs.declared.Answer.the-variants as offer
 use Rattle.records.specs.declared.Found.{Found}
@@ -29,29 +25,12 @@ use Rattle.flat.specs.Flat.{saysYes}
 use Rattle.host_numbers.specs.Numbers.{unlessRefused, viewNumbers}
 
 -- ---- contacts
--- 64 moved, 65 joined, 13 with the bucket's head
-abbrev pub seenNumber : SeenOutcome → ℕ
-seenNumber (seen.Moved i) = 64
-seenNumber (seen.Joined i) = 65
-seenNumber (seen.Probe h) = 13
-seenNumber (seen.Refused r) = numberOf r
-
--- the slot goes to out
+-- seen, settle and remove have their numbers in contact_calls (specs/Calls). Of seen, the slot goes to out
 abbrev pub seenNumbers : List ℕ → SeenOutcome → List ℕ
 seenNumbers out (seen.Moved i) = sets out 0 (i ∷ [])
 seenNumbers out (seen.Joined i) = sets out 0 (i ∷ [])
 seenNumbers out (seen.Probe h) = sets out 0 (h ∷ [])
 seenNumbers out (seen.Refused r) = out
-
--- 64 kept, 65 swapped
-abbrev pub settleNumber : SettleOutcome → ℕ
-settleNumber settle.Kept = 64
-settleNumber settle.Swapped = 65
-settleNumber (settle.Refused r) = numberOf r
-
-abbrev pub removeNumber : RemoveOutcome → ℕ
-removeNumber remove.Gone = 64
-removeNumber (remove.Refused r) = numberOf r
 
 -- how many there are and the twenty slots go to out
 abbrev pub nearestNumbers : List ℕ → Nearby → List ℕ

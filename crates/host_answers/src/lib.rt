@@ -6,12 +6,14 @@ use host_calls::Nearby;
 use message::Reading;
 use node::Told;
 use records::Found;
+use refusal::Refusal;
 use wire::Span;
 use writer::Written;
 ghost use mathlib.Core.Path.{_≡_};
 ghost use Rattle.host_numbers.specs.Numbers.{toldCode};
-ghost use Rattle.host_answers.specs.Answers.{seenNumber, seenNumbers, settleNumber, removeNumber, nearestNumbers, putNumber, findNumber, findNumbers, readNumber};
-ghost use Rattle.host_answers.specs.Answers.{readNumbers, entryFrom, laterOf, addressFrom, partNumber, peerNumbers, addressNumbers, writeNumber, writeNumbers};
+ghost use Rattle.contact_calls.specs.Calls.{seenNumber, settleNumber, removeNumber};
+ghost use Rattle.host_answers.specs.Answers.{seenNumbers, nearestNumbers, putNumber, findNumber, findNumbers, readNumber, readNumbers};
+ghost use Rattle.host_answers.specs.Answers.{entryFrom, laterOf, addressFrom, partNumber, peerNumbers, addressNumbers, writeNumber, writeNumbers};
 
 // ---- contacts
 
@@ -30,7 +32,7 @@ pub fn seen_answer(out: &mut [u64], o: SeenOutcome) -> u32
         }
         SeenOutcome::Probe(h) => {
             host_numbers::put_number(out, h);
-            13
+            host_numbers::code_of(Refusal::BucketFull)
         }
         SeenOutcome::Refused(r) => host_numbers::code_of(r),
     }

@@ -16,7 +16,8 @@ use Rattle.octets.proofs.Stores.{take-sets, drop-sets, getD-sets-before}
 use Rattle.place.specs.Place.{bucketOf}
 use Rattle.contacts.specs.Table.{slotsOf, slot, putSlot, mark, used, spare, idSize, addressCount, addressSize, place}
 use Rattle.contacts.specs.Form.{inForm}
-use Rattle.contact_form.proofs.FormFacts.{Fields, form-elim, form-intro}
+use Rattle.contact_form.specs.Claims.{Fields}
+use Rattle.contact_form.proofs.FormFacts.{form-elim, form-intro}
 use Rattle.peer.specs.declared.Peer.{Peer}
 use Rattle.peer.specs.Peers.{peerOf}
 use Rattle.peer.proofs.Lists.{size-most, size-least}

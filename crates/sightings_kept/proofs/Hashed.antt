@@ -21,9 +21,9 @@ use Rattle.sightings.specs.Sightings.{held, newcomer, sightingOf, afterSighting
 use Rattle.contact_order.proofs.Tests.{held-lt, held-is, at-used, at-place}
 use Rattle.sightings.proofs.Dropping.{none-free, drop-free}
 use Rattle.sightings.proofs.Calls.{fits-held}
-use Rattle.sightings_kept.specs.Promises.{Fair, SameContact, Others, Hashed, HashedPeer}
+use Rattle.sightings_kept.specs.Promises.{Fair, SameContact, Others, HeldSeen, NewSeen, Freed, Hashed, HashedPeer}
 use Rattle.sightings_kept.proofs.Ordered.{from-form}
-use Rattle.sightings_kept.proofs.Theorems.{full-changes-nothing, no-slot-changes-nothing, stale-same, not-held-same, HeldSeen, NewSeen, Freed, frees, joins, seen-held, seen-new, remove-frees, settle-answered, settle-silent, HeadGone}
+use Rattle.sightings_kept.proofs.Theorems.{full-changes-nothing, no-slot-changes-nothing, stale-same, not-held-same, frees, joins, seen-held, seen-new, remove-frees, settle-answered, settle-silent}
 
 -- a slot that says the same of a contact
 same-hashed : (s v : List ℕ) → SameContact s v → (used v ≡ true → place v ≡ placeOf (id v)) → used s ≡ true → place s ≡ placeOf (id s)

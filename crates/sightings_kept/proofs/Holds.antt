@@ -7,19 +7,19 @@ use mathlib.Core.List.{List}
 use native.Mathlib.Nat.{not-suc-le-zero, eq-or-lt-of-le, le-of-suc-le-suc}
 use native.Mathlib.Omega.{arith}
 use lib.Dec.{ltb, leb, eqb}
-use borrow.Author.Tests.{le-leb, lt-leb, leb-true, leb-false, eq-eqb, ne-eqb, eqb-true}
+use borrow.Author.Tests.{lt-ltb, ltb-true, le-leb, lt-leb, leb-true, leb-false, eq-eqb, ne-eqb, eqb-true}
 use Rattle.octets.specs.Search.{count}
-use Rattle.octets.proofs.Bools.{and-l, and-r, and-i, and-on, and-off, to-false, either, eq-or-ne, cond-yes, cond-no}
+use Rattle.octets.proofs.Bools.{and-l, and-r, and-i, and-on, and-off, not-both, to-false, either, eq-or-ne, cond-yes, cond-no}
 use Rattle.octets.proofs.Searching.{count-zero, first-is, first-lt}
 use Rattle.place.specs.Place.{bucketOf}
-use Rattle.contacts.specs.Table.{slotsOf, slot, mark}
+use Rattle.contacts.specs.Table.{slotsOf, slot, mark, used}
 use Rattle.contacts.specs.Form.{inForm}
 use Rattle.contact_form.proofs.FormFacts.{form-elim}
 use Rattle.sightings.specs.declared.Sighting.the-variants.{Joined, Full, NoSlot}
 use Rattle.sightings.specs.Order.{ofBucket, isHead, freeAt, headAt, tailOf}
 use Rattle.sightings.specs.Sightings.{held, newcomer, sightingOf}
 use Rattle.sightings_kept.specs.Promises.{holds}
-use Rattle.contact_order.proofs.Tests.{of-mark, tail-ge, tail-at}
+use Rattle.contact_order.proofs.Tests.{of-mark, free-is, free-there, tail-ge, tail-at}
 use Rattle.sightings_kept.proofs.Ordered.{Ordered, from-form}
 
 -- ---- counting. for octets
@@ -118,7 +118,7 @@ module _ (t o : List ℕ) (F : Ordered t o) (b : ℕ) where
 pub tail-is-count : (t o : List ℕ) → inForm t o ≡ true → (b : ℕ) → tailOf t o b ≡ holds t o b
 tail-is-count t o y b = sym (held-count t o (from-form t o (form-elim t o y)) b)
 
--- 13 is given to a peer not held exactly where its bucket holds 20 or more (in form: 20), and the slot named is that of the bucket's head
+-- what a peer not held is answered: 13 where its bucket holds 20, naming the slot of the bucket's head; else it joins, or 14
 module _ (t o p : List ℕ) (y : inForm t o ≡ true) (new : held t p ≡ false) where
   pub full-refused : 20 ≤ holds t o (bucketOf p o) → sightingOf t o p ≡ Full (headAt t o (bucketOf p o))
   unfolding sightingOf newcomer
@@ -126,19 +126,22 @@ module _ (t o p : List ℕ) (y : inForm t o ≡ true) (new : held t p ≡ false)
       cond-no (held t p) _ _ new
       ∙ cond-yes (leb 20 (tailOf t o (bucketOf p o))) _ _ (le-leb 20 (tailOf t o (bucketOf p o)) (omega (arith, tail-is-count t o y (bucketOf p o))))
 
-  pub room-never-full : holds t o (bucketOf p o) < 20 → (h : ℕ) → sightingOf t o p ≡ Full h → ⊥
-  unfolding sightingOf newcomer
-  room-never-full l h e =
-      let q = cond-no (held t p) _ _ new
-      ∙ cond-no (leb 20 (tailOf t o (bucketOf p o))) _ _ (lt-leb 20 (tailOf t o (bucketOf p o)) (omega (arith, tail-is-count t o y (bucketOf p o)))) in
-      other (sym q ∙ e)
-    where
-      never : _≡_ {A = ℕ} 0 1 → ⊥
-      never z = omega arith
+  module _ (room : holds t o (bucketOf p o) < 20) where
+    not-full : sightingOf t o p ≡ cond (ltb (freeAt t) (slotsOf t)) (Joined (freeAt t)) NoSlot
+    unfolding sightingOf newcomer
+    not-full =
+        cond-no (held t p) _ _ new
+        ∙ cond-no (leb 20 (tailOf t o (bucketOf p o))) _ _ (lt-leb 20 (tailOf t o (bucketOf p o)) (omega (arith, tail-is-count t o y (bucketOf p o))))
 
-      other : cond (ltb (freeAt t) (slotsOf t)) (Joined (freeAt t)) NoSlot ≡ Full h → ⊥
-      other = ⊎-elim (λ b r. let z : _≡_ {A = ℕ} 0 1 = cc (cond-yes (ltb (freeAt t) (slotsOf t)) (Joined (freeAt t)) NoSlot b) in never z)
-          (λ b r. let z : _≡_ {A = ℕ} 0 1 = cc (cond-no (ltb (freeAt t) (slotsOf t)) (Joined (freeAt t)) NoSlot b) in never z) (either (ltb (freeAt t) (slotsOf t)))
+    -- some slot is free, or every slot is used
+    pub one-left : (j : ℕ) → j < slotsOf t → used (slot t j) ≡ false → sightingOf t o p ≡ Joined (freeAt t)
+    one-left j l free = not-full ∙ cond-yes (ltb (freeAt t) (slotsOf t)) _ _ (lt-ltb (freeAt t) (slotsOf t) (free-there t j l free))
+
+    pub none-left : ((j : ℕ) → j < slotsOf t → used (slot t j) ≡ true) → sightingOf t o p ≡ NoSlot
+    none-left every = not-full ∙ cond-no (ltb (freeAt t) (slotsOf t)) _ _ (to-false (ltb (freeAt t) (slotsOf t)) (λ f. taken (ltb-true (freeAt t) (slotsOf t) f)))
+      where
+        taken : freeAt t < slotsOf t → ⊥
+        taken l = not-both (used (slot t (freeAt t))) (every (freeAt t) l) (free-is t l)
 
 -- a bucket that holds anybody has a head, and `headAt` is its slot
 pub head-there : (t o : List ℕ) → inForm t o ≡ true → (b : ℕ) → 1 ≤ holds t o b → (headAt t o b < slotsOf t) × (isHead o b (slot t (headAt t o b)) ≡ true)

@@ -12,7 +12,7 @@ use Rattle.octets.proofs.Bools.{not-both, to-false, either, eq-or-ne}
 use Rattle.place.specs.Place.{bucketOf}
 use Rattle.contact_table.proofs.Cuts.{mark-used}
 use Rattle.contacts.specs.Table.{slotsOf, slot, putSlot, mark, used, place}
-use Rattle.contact_form.proofs.FormFacts.{Fields}
+use Rattle.contact_form.specs.Claims.{Fields}
 use Rattle.sightings.specs.Order.{ofBucket, tailOf, withMark, lowered, dropped}
 use Rattle.contact_order.proofs.Slots.{slot-long, slots-put, slot-put, slot-other}
 use Rattle.contact_order.proofs.Tests.{of-used, of-is, of-make, of-mark, tail-ge, tail-le, tail-at}

@@ -5,3 +5,4 @@ pub mod Said
 pub mod Theorems
 pub mod Holds
 pub mod Hashed
+pub mod Claims

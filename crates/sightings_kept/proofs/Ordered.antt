@@ -10,7 +10,7 @@ use Rattle.place.specs.Place.{bucketOf}
 use Rattle.contacts.specs.Table.{slotsOf, slot, mark, used, spare, idSize, addressCount, addressSize, place}
 use Rattle.contacts.specs.Form.{rank, slotBucket}
 use Rattle.contact_table.proofs.Cuts.{used-mark}
-use Rattle.contact_form.proofs.FormFacts.{Fields, InForm}
+use Rattle.contact_form.specs.Claims.{Fields, InForm}
 use Rattle.sightings.specs.Order.{ofBucket, withMark}
 use Rattle.contact_order.proofs.Tests.{of-used, of-is, of-make}
 

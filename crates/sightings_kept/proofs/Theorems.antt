@@ -24,7 +24,7 @@ use Rattle.sightings.specs.declared.Removed.{Removed}
 use Rattle.sightings.specs.declared.Removed.the-variants.{Gone}
 use Rattle.sightings.specs.Order.{ofBucket, isAt, heldAt, freeAt, tailOf, contactBytes, freeBytes, withAddresses, renewed, lowered, each, closeUp, leave, tailed, moveToTail, moveAndRenew, dropped, joinAt, join}
 use Rattle.sightings.specs.Sightings.{held, newcomer, sightingOf, afterSighting, seenTable, fits, settlementOf, afterSettling, settledTable, removalOf, afterRemoval, removedTable}
-use Rattle.sightings_kept.specs.Promises.{Fair, SameContact, Others, AtTail}
+use Rattle.sightings_kept.specs.Promises.{Fair, SameContact, Others, AtTail, HeldSeen, NewSeen, Freed, HeadKept, HeadGone}
 use Rattle.contact_order.proofs.Slots.{slot-long, slots-put, slot-put, slot-other, put-put, put-outside}
 use Rattle.contact_order.proofs.Tests.{of-used, of-is, of-make, held-lt, held-is, held-here, at-used, at-place, at-make, free-is, free-lowest, tail-ge, tail-le}
 use Rattle.contact_order.proofs.Closing.{lowered-long, each-slots, leave-slots, leave-in}
@@ -198,23 +198,6 @@ pub not-held-same : (t o p : List ℕ) → held t p ≡ false → removedTable t
 unfolding removedTable removalOf afterRemoval
 not-held-same t o p h = ap (afterRemoval t o p) (cond-no (held t p) _ _ h)
 
--- a held contact moves to its bucket's tail and keeps its id; nobody else is touched. It takes the new addresses if there are any
-pub record HeldSeen (t o : List ℕ) (p : Peer) (i : ℕ) (u : List ℕ) : Type 0 where
-  pub others : Others t o u (λ j. j ≡ i)
-  pub tail : AtTail o (p .place) i u
-  pub sameId : id (slot u i) ≡ id (slot t i)
-  pub oldAddresses : p .count ≡ 0 → addresses (slot u i) ≡ addresses (slot t i)
-  pub newAddresses : (p .count ≡ 0 → ⊥) → addresses (slot u i) ≡ addressesIn p
-
--- a newcomer joins the tail in the lowest free slot, with its id and addresses; nobody else is touched
-pub record NewSeen (t o : List ℕ) (p : Peer) (i : ℕ) (u : List ℕ) : Type 0 where
-  pub others : Others t o u (λ j. j ≡ i)
-  pub tail : AtTail o (p .place) i u
-  pub sameId : id (slot u i) ≡ idIn p
-  pub sameAddresses : addresses (slot u i) ≡ addressesIn p
-  pub wasFree : used (slot t i) ≡ false
-  pub lowest : (j : ℕ) → j < i → used (slot t j) ≡ true
-
 pub joins : (t o : List ℕ) (p : Peer) → Fair o p → freeAt t < slotsOf t → NewSeen t o p (freeAt t) (join t o p)
 unfolding join joinAt
 joins t o p G l =
@@ -306,13 +289,7 @@ module _ (t o : List ℕ) (p : Peer) (G : Fair o p) where
   seen-new h k l =
       (new-answer h k l, subst (λ (r : Sighting). NewSeen t o p (freeAt t) (afterSighting t o p r)) (sym (new-answer h k l)) (joins t o p G l))
 
--- ---- remove: the contact's slot is free afterwards, and holds zeros; it is held no more; nobody else is touched
-pub record Freed (t o p : List ℕ) (i : ℕ) (u : List ℕ) : Type 0 where
-  pub others : Others t o u (λ j. j ≡ i)
-  pub cleared : slot u i ≡ freeBytes
-  pub gone : held u p ≡ false
-  pub room : freeAt u < slotsOf u
-
+-- ---- remove
 module _ (t o : List ℕ) (F : Ordered t o) (p : List ℕ) (l : heldAt t p < slotsOf t) where
   a : isAt p (slot t (heldAt t p)) ≡ true
   a = held-is t p l
@@ -361,13 +338,8 @@ module _ (t o head : List ℕ) (p : Peer) (y : inForm t o ≡ true) (f : fits t 
   ph : place (slot t (heldAt t head)) ≡ head
   ph = at-place head _ (held-is t head lh)
 
-  -- the head answered: it is at the tail, and nobody is touched otherwise
-  pub record HeadKept (u : List ℕ) : Type 0 where
-    pub others : Others t o u (λ j. j ≡ heldAt t head)
-    pub tail : AtTail o head (heldAt t head) u
-    pub sameHead : SameContact (slot u (heldAt t head)) (slot t (heldAt t head))
-
-  head-kept : HeadKept (moveToTail t o (heldAt t head))
+  -- the head answered
+  head-kept : HeadKept t o head (moveToTail t o (heldAt t head))
   unfolding moveToTail
   head-kept =
       let i : ℕ = heldAt t head in
@@ -381,17 +353,11 @@ module _ (t o head : List ℕ) (p : Peer) (y : inForm t o ≡ true) (f : fits t 
         sameHead = subst (λ (x : List ℕ). SameContact x (slot t (heldAt t head))) (sym is) (tailed-same t o (heldAt t head) lh G uh);
       }
 
-  pub settle-answered : (settlementOf t o head (p .place) true ≡ Kept) × HeadKept (settledTable t o head p true)
+  pub settle-answered : (settlementOf t o head (p .place) true ≡ Kept) × HeadKept t o head (settledTable t o head p true)
   unfolding settledTable settlementOf afterSettling
   settle-answered =
       let e : settlementOf t o head (p .place) true ≡ Kept = cond-yes (fits t o head (p .place)) _ _ f in
-      (e, subst (λ (r : Settled). HeadKept (afterSettling t o head p r)) (sym e) head-kept)
-
-  -- the head was silent: it is gone, and the newcomer is at the tail in the lowest slot that is then free; nobody else is touched
-  pub record HeadGone (u : List ℕ) : Type 0 where
-    pub others : Others t o u (λ j. (j ≡ heldAt t head) ⊎ (j ≡ freeAt (dropped t o (heldAt t head))))
-    pub newcomer : NewSeen (dropped t o (heldAt t head)) o p (freeAt (dropped t o (heldAt t head))) u
-    pub gone : held u head ≡ false
+      (e, subst (λ (r : Settled). HeadKept t o head (afterSettling t o head p r)) (sym e) head-kept)
 
   module _ (H : Fair o p) where
     joined : NewSeen (dropped t o (heldAt t head)) o p (freeAt (dropped t o (heldAt t head))) (join (dropped t o (heldAt t head)) o p)
@@ -401,7 +367,8 @@ module _ (t o head : List ℕ) (p : Peer) (y : inForm t o ≡ true) (f : fits t 
     differ : p .place ≡ head → ⊥
     differ e = not-both (held t (p .place)) (ap (held t) e ∙ held-here t head (heldAt t head) lh (held-is t head lh)) (fits-new t o head (p .place) f)
 
-    head-gone : HeadGone (join (dropped t o (heldAt t head)) o p)
+    -- the head was silent
+    head-gone : HeadGone t o head p (join (dropped t o (heldAt t head)) o p)
     head-gone = record {
       others =
           then t o (dropped t o (heldAt t head)) (join (dropped t o (heldAt t head)) o p) (λ j. j ≡ heldAt t head) (λ j. j ≡ freeAt (dropped t o (heldAt t head)))
@@ -421,11 +388,11 @@ module _ (t o head : List ℕ) (p : Peer) (y : inForm t o ≡ true) (f : fits t 
             (at-make head _ (sym (c .sameUse) ∙ at-used head _ q) (sym (c .samePlace) ∙ at-place head _ q)))
             (eq-or-ne (heldAt (join (dropped t o (heldAt t head)) o p) head) (freeAt (dropped t o (heldAt t head))))
 
-    pub settle-silent : (settlementOf t o head (p .place) false ≡ Swapped) × HeadGone (settledTable t o head p false)
+    pub settle-silent : (settlementOf t o head (p .place) false ≡ Swapped) × HeadGone t o head p (settledTable t o head p false)
     unfolding settledTable settlementOf afterSettling
     settle-silent =
         let e : settlementOf t o head (p .place) false ≡ Swapped = cond-yes (fits t o head (p .place)) _ _ f in
-        (e, subst (λ (r : Settled). HeadGone (afterSettling t o head p r)) (sym e) head-gone)
+        (e, subst (λ (r : Settled). HeadGone t o head p (afterSettling t o head p r)) (sym e) head-gone)
 
 -- "Evicting a head that answered" can't be: where it answered, every contact of the table is still there
 pub answered-never-evicted : (t o head : List ℕ) (p : Peer) → inForm t o ≡ true → (j : ℕ) → j < slotsOf t → SameContact (slot (settledTable t o head p true) j) (slot t j)

@@ -1,16 +1,22 @@
--- The words of the theorems on seen, settle and remove: what a call leaves as it was.
+-- What seen, settle and remove promise of a table in form: who moves, who comes, who goes, and that nobody else is touched. `claims` (proofs/Claims.antt) has all of it.
 use Prim.Native.Nat.{ℕ, _+_, _*_, _<_, _≤_}
 use mathlib.Core.Path.{_≡_}
-use mathlib.Core.Bool.{true}
+use mathlib.Core.Logic.{_⊎_}
+use mathlib.Core.Bool.{Bool, true, false}
 use mathlib.Core.List.{List}
 use lib.ListN.{length, getD, drop}
 use lib.Dec.{ltb}
 use Rattle.octets.specs.Search.{count}
 use Rattle.place.specs.Place.{placeOf, bucketOf}
 use Rattle.contacts.specs.Table.{slotSize, slotsOf, slot, mark, used, place, id, addresses}
+use Rattle.contacts.specs.Form.{inForm}
 use Rattle.peer.specs.declared.Peer.{Peer}
-use Rattle.peer.specs.Peers.{idIn}
-use Rattle.sightings.specs.Order.{ofBucket, isAt, tailOf}
+use Rattle.peer.specs.Peers.{idIn, addressesIn}
+use Rattle.sightings.specs.declared.Sighting.the-variants.{Moved, Joined, Full, NoSlot}
+use Rattle.sightings.specs.declared.Settled.the-variants.{Kept, Swapped, Stale}
+use Rattle.sightings.specs.declared.Removed.the-variants.{Gone, NotHeld}
+use Rattle.sightings.specs.Order.{ofBucket, isAt, isHead, heldAt, freeAt, headAt, tailOf, freeBytes, dropped}
+use Rattle.sightings.specs.Sightings.{held, sightingOf, seenTable, fits, settlementOf, settledTable, removalOf, removedTable}
 
 -- a peer that may come in: an id of 1 to 64 bytes, up to four addresses of 1 to 128, a place that isn't ours
 pub record Fair (ours : List ℕ) (p : Peer) : Type 0 where
@@ -55,3 +61,81 @@ Hashed t = (i : ℕ) → i < slotsOf t → used (slot t i) ≡ true → place (s
 
 abbrev pub HashedPeer : Peer → Type 0
 HashedPeer p = p .place ≡ placeOf (idIn p)
+
+-- ---- what a call makes of the table t: u
+-- a held contact moves to its bucket's tail and keeps its id; nobody else is touched. It takes the new addresses if there are any
+pub record HeldSeen (t ours : List ℕ) (p : Peer) (i : ℕ) (u : List ℕ) : Type 0 where
+  pub others : Others t ours u (λ j. j ≡ i)
+  pub tail : AtTail ours (p .place) i u
+  pub sameId : id (slot u i) ≡ id (slot t i)
+  pub oldAddresses : p .count ≡ 0 → addresses (slot u i) ≡ addresses (slot t i)
+  pub newAddresses : (p .count ≡ 0 → ⊥) → addresses (slot u i) ≡ addressesIn p
+
+-- a newcomer joins the tail in the lowest free slot, with its id and addresses; nobody else is touched
+pub record NewSeen (t ours : List ℕ) (p : Peer) (i : ℕ) (u : List ℕ) : Type 0 where
+  pub others : Others t ours u (λ j. j ≡ i)
+  pub tail : AtTail ours (p .place) i u
+  pub sameId : id (slot u i) ≡ idIn p
+  pub sameAddresses : addresses (slot u i) ≡ addressesIn p
+  pub wasFree : used (slot t i) ≡ false
+  pub lowest : (j : ℕ) → j < i → used (slot t j) ≡ true
+
+-- the contact's slot is free afterwards, and holds zeros; it is held no more; nobody else is touched
+pub record Freed (t ours p : List ℕ) (i : ℕ) (u : List ℕ) : Type 0 where
+  pub others : Others t ours u (λ j. j ≡ i)
+  pub cleared : slot u i ≡ freeBytes
+  pub gone : held u p ≡ false
+  pub room : freeAt u < slotsOf u
+
+-- the head answered: it is at the tail, and nobody is touched otherwise
+pub record HeadKept (t ours head u : List ℕ) : Type 0 where
+  pub others : Others t ours u (λ j. j ≡ heldAt t head)
+  pub tail : AtTail ours head (heldAt t head) u
+  pub sameHead : SameContact (slot u (heldAt t head)) (slot t (heldAt t head))
+
+-- the head was silent: it is gone, and the newcomer is at the tail in the lowest slot that is then free; nobody else is touched
+pub record HeadGone (t ours head : List ℕ) (p : Peer) (u : List ℕ) : Type 0 where
+  pub others : Others t ours u (λ j. (j ≡ heldAt t head) ⊎ (j ≡ freeAt (dropped t ours (heldAt t head))))
+  pub newcomer : NewSeen (dropped t ours (heldAt t head)) ours p (freeAt (dropped t ours (heldAt t head))) u
+  pub gone : held u head ≡ false
+
+-- ---- the promises, of a table in form
+pub record Promised (t ours : List ℕ) : Type 0 where
+  -- form is kept by each call
+  pub seenForm : (p : Peer) → Fair ours p → inForm (seenTable t ours p) ours ≡ true
+  pub settleForm : (head : List ℕ) (p : Peer) (answered : Bool) → Fair ours p → inForm (settledTable t ours head p answered) ours ≡ true
+  pub removeForm : (p : List ℕ) → inForm (removedTable t ours p) ours ≡ true
+  -- and so is that every contact lies at the hash of its id
+  pub seenHashed : (p : Peer) → Fair ours p → HashedPeer p → Hashed t → Hashed (seenTable t ours p)
+  pub settleHashed : (head : List ℕ) (p : Peer) (answered : Bool) → Fair ours p → HashedPeer p → Hashed t → Hashed (settledTable t ours head p answered)
+  pub removeHashed : (p : List ℕ) → Hashed t → Hashed (removedTable t ours p)
+  -- the mark of a bucket's tail is how many the bucket holds
+  pub counted : (b : ℕ) → tailOf t ours b ≡ holds t ours b
+  -- seen of a contact that is held
+  pub moved : (p : Peer) → Fair ours p → held t (p .place) ≡ true
+      → (sightingOf t ours (p .place) ≡ Moved (heldAt t (p .place))) × HeldSeen t ours p (heldAt t (p .place)) (seenTable t ours p)
+  -- seen of one that isn't. Its bucket holds 20: nothing changes, and the head is named
+  pub full : (p : Peer) → held t (p .place) ≡ false → 20 ≤ holds t ours (bucketOf (p .place) ours)
+      → (h : ℕ) × (sightingOf t ours (p .place) ≡ Full h) × (h < slotsOf t) × (isHead ours (bucketOf (p .place) ours) (slot t h) ≡ true) × (seenTable t ours p ≡ t)
+  -- the bucket has room: it joins where some slot is free, and else nothing changes
+  pub joined : (p : Peer) → Fair ours p → held t (p .place) ≡ false → holds t ours (bucketOf (p .place) ours) < 20
+      → (j : ℕ) → j < slotsOf t → used (slot t j) ≡ false → (sightingOf t ours (p .place) ≡ Joined (freeAt t)) × NewSeen t ours p (freeAt t) (seenTable t ours p)
+  pub noSlot : (p : Peer) → held t (p .place) ≡ false → holds t ours (bucketOf (p .place) ours) < 20
+      → ((j : ℕ) → j < slotsOf t → used (slot t j) ≡ true) → (sightingOf t ours (p .place) ≡ NoSlot) × (seenTable t ours p ≡ t)
+  -- settle, where it fits: the head answered, the head was silent; and where it doesn't
+  pub kept : (head : List ℕ) (p : Peer) → fits t ours head (p .place) ≡ true
+      → (settlementOf t ours head (p .place) true ≡ Kept) × HeadKept t ours head (settledTable t ours head p true)
+  pub swapped : (head : List ℕ) (p : Peer) → Fair ours p → fits t ours head (p .place) ≡ true
+      → (settlementOf t ours head (p .place) false ≡ Swapped) × HeadGone t ours head p (settledTable t ours head p false)
+  pub stale : (head : List ℕ) (p : Peer) (answered : Bool) → fits t ours head (p .place) ≡ false
+      → (settlementOf t ours head (p .place) answered ≡ Stale) × (settledTable t ours head p answered ≡ t)
+  -- "Evicting a head that answered" can't be: where it answered, every contact is still there
+  pub unevicted : (head : List ℕ) (p : Peer) (j : ℕ) → j < slotsOf t → SameContact (slot (settledTable t ours head p true) j) (slot t j)
+  -- remove of a contact that is held, and of one that isn't
+  pub gone : (p : List ℕ) → held t p ≡ true → (removalOf t p ≡ Gone) × Freed t ours p (heldAt t p) (removedTable t ours p)
+  pub notHeld : (p : List ℕ) → held t p ≡ false → (removalOf t p ≡ NotHeld) × (removedTable t ours p ≡ t)
+  -- "Freed slots are used again": after a remove nobody is refused for want of a slot
+  pub reused : (p q : List ℕ) → held t p ≡ true → sightingOf (removedTable t ours p) ours q ≡ NoSlot → ⊥
+
+abbrev pub Claims : Type 0
+Claims = (t ours : List ℕ) → inForm t ours ≡ true → Promised t ours

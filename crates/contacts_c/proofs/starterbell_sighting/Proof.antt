@@ -5,8 +5,8 @@ use mathlib.Core.List.{[], _∷_}
 use Rattle.peer.specs.declared.Peer.{Peer}
 use Rattle.peer.specs.Peers.{peerOf}
 use Rattle.sightings.specs.Sightings.{sightingOf, seenTable}
-use Rattle.contact_calls.specs.Calls.{outcomeOf}
-use Rattle.contacts_c.specs.Codes.{codeOf, namedBy}
+use Rattle.contact_calls.specs.Calls.{outcomeOf, seenNumber}
+use Rattle.contacts_c.specs.Codes.{namedBy}
 use borrow.Author.Needs.{needs}
 use Rattle.contacts_c.proofs.starterbell_sighting.Statement.{statement}
 use Rattle.contacts_c.proofs.starterbell_sighting.Tie as tie
@@ -29,7 +29,7 @@ same-length c = search needs
 returns : tie.Need-returns
 unfolding peerOf
 returns c = (
-  c .answer-of .ensures .0 ∙ ap codeOf (c .before .seen-outcome .ensures ∙ ap outcomeOf (c .before .before .before .before .seen .ensures .0 ∙ ap (λ (p : Peer). sightingOf (c .before .before .before .before .before .before .before .before .before .before .before .before .args .table .now) (c .before .before .before .before .before .before .before .before .before .before .before .before .args .ours .now) (p .place)) (c .before .before .before .before .before .before .before .peer-of .ensures))),
+  c .answer-of .ensures .0 ∙ ap seenNumber (c .before .seen-outcome .ensures ∙ ap outcomeOf (c .before .before .before .before .seen .ensures .0 ∙ ap (λ (p : Peer). sightingOf (c .before .before .before .before .before .before .before .before .before .before .before .before .args .table .now) (c .before .before .before .before .before .before .before .before .before .before .before .before .args .ours .now) (p .place)) (c .before .before .before .before .before .before .before .peer-of .ensures))),
   c .before .before .before .before .seen .ensures .1 ∙ ap (seenTable (c .before .before .before .before .before .before .before .before .before .before .before .before .args .table .now) (c .before .before .before .before .before .before .before .before .before .before .before .before .args .ours .now)) (c .before .before .before .before .before .before .before .peer-of .ensures),
   ap (λ (i : ℕ). i ∷ []) (c .answer-of .ensures .1 ∙ ap namedBy (c .before .seen-outcome .ensures ∙ ap outcomeOf (c .before .before .before .before .seen .ensures .0 ∙ ap (λ (p : Peer). sightingOf (c .before .before .before .before .before .before .before .before .before .before .before .before .args .table .now) (c .before .before .before .before .before .before .before .before .before .before .before .before .args .ours .now) (p .place)) (c .before .before .before .before .before .before .before .peer-of .ensures)))),
 )

@@ -1,5 +1,5 @@
 -- `remove_answer` meets its contract. Assumes nothing.
-use Rattle.host_answers.specs.Answers.{removeNumber}
+use Rattle.contact_calls.specs.Calls.{removeNumber}
 use Rattle.host_numbers.proofs.Handing.{by-case}
 use borrow.Author.Needs.{needs}
 use Rattle.host_answers.proofs.remove_answer.Statement.{statement}

@@ -1,5 +1,5 @@
 -- `settle_answer` meets its contract. Assumes nothing.
-use Rattle.host_answers.specs.Answers.{settleNumber}
+use Rattle.contact_calls.specs.Calls.{settleNumber}
 use Rattle.host_numbers.proofs.Handing.{by-case}
 use borrow.Author.Needs.{needs}
 use Rattle.host_answers.proofs.settle_answer.Statement.{statement}

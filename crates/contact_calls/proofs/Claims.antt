@@ -1,0 +1,380 @@
+-- The claims, each by its law. Assumes nothing.
+use Prim.Native.Nat.{ℕ, _<_, _≤_}
+use mathlib.Core.Path.{_≡_, refl, sym, ap, _∙_, subst}
+use mathlib.Core.Logic.{⊎-elim}
+use mathlib.Core.Bool.{Bool, true, false, not, cond}
+use mathlib.Core.List.{List}
+use native.Mathlib.Omega.{arith}
+use lib.Dec.{ltb, leb}
+use lib.ListN.{length}
+use borrow.Author.Tests.{not-false, leb-true, leb-false, ltb-true}
+use Rattle.octets.specs.Octets.{Bytes}
+use Rattle.octets.proofs.Bools.{either, not-both, cond-yes, cond-no, cond-ind}
+use Rattle.place.specs.Place.{placeOf, bucketOf}
+use Rattle.refusal.specs.declared.Refusal.the-variants.{NoLongerFits, Client}
+use Rattle.contacts.specs.Table.{slotsOf, slot, used}
+use Rattle.contacts.specs.Form.{inForm}
+use Rattle.peer.specs.declared.Peer.{Peer}
+use Rattle.peer.specs.Peers.{badPeer, peerOf}
+use Rattle.peer.proofs.Meaning.{place-is}
+use Rattle.sightings.specs.declared.Sighting.{Sighting}
+use Rattle.sightings.specs.declared.Sighting.the-variants as sighting
+use Rattle.sightings.specs.Order.{heldAt, freeAt, tailOf}
+use Rattle.sightings.specs.Sightings.{held, newcomer, sightingOf, seenTable, fits, removedTable}
+use Rattle.sightings_kept.specs.Promises.{Fair, SameContact, HeadKept, HeadGone, Freed, holds}
+use Rattle.sightings_kept.proofs.Theorems.{held-never-refused, no-slot-changes-nothing, seen-new}
+use Rattle.sightings_kept.proofs.Holds.{full-refused, one-left, none-left}
+use Rattle.sightings_kept.proofs.Claims.{claims as kept}
+use Rattle.contact_calls.specs.declared.SeenOutcome.{SeenOutcome}
+use Rattle.contact_calls.specs.declared.SeenOutcome.the-variants as seen
+use Rattle.contact_calls.specs.declared.SettleOutcome.{SettleOutcome}
+use Rattle.contact_calls.specs.declared.SettleOutcome.the-variants as settle
+use Rattle.contact_calls.specs.declared.RemoveOutcome.{RemoveOutcome}
+use Rattle.contact_calls.specs.declared.RemoveOutcome.the-variants as remove
+use Rattle.contact_calls.specs.Calls.{outcomeOf, seenCall, afterSeen, seenCallTable, settleCall, afterSettle, settleCallTable, removeCall, afterRemove, removeCallTable, seenNumber, settleNumber, removeNumber}
+use Rattle.contact_calls.specs.Claims.{Admits, Neither13Nor14, SeenDoes, SettleDoes, RemoveDoes, Claims}
+use Rattle.contact_calls.proofs.Outcomes.{seen-table, settle-table, remove-table}
+use Rattle.contact_calls.proofs.Theorems.{cleared-in-form, fair, seen-call-keeps, settle-call-keeps, remove-call-keeps}
+
+-- ---- the number of a seen
+module _ (t ours id : List ℕ) (client : Bool) where
+  abbrev told : ℕ
+  told = seenNumber (seenCall t ours id client)
+
+  seen-zero : inForm t ours ≡ false → told ≡ 0
+  unfolding seenCall
+  seen-zero f = ap seenNumber (cond-yes (not (inForm t ours)) _ _ (ap not f))
+
+  seen-twelve : inForm t ours ≡ true → badPeer ours id ≡ true → told ≡ 12
+  unfolding seenCall
+  seen-twelve f b = ap seenNumber (cond-no (not (inForm t ours)) _ _ (ap not f) ∙ cond-yes (badPeer ours id) _ _ b)
+
+  module _ (a : Admits t ours id) where
+    seen-eighteen : client ≡ true → told ≡ 18
+    unfolding seenCall
+    seen-eighteen c = ap seenNumber (cond-no (not (inForm t ours)) _ _ (ap not (a .form)) ∙ cond-no (badPeer ours id) _ _ (a .peer) ∙ cond-yes client _ _ c)
+
+    -- where it is no client, the number goes by the sighting
+    by-sighting : client ≡ false → (s : Sighting) → sightingOf t ours (placeOf id) ≡ s → told ≡ seenNumber (outcomeOf s)
+    unfolding seenCall
+    by-sighting c s e =
+        ap seenNumber (cond-no (not (inForm t ours)) _ _ (ap not (a .form)) ∙ cond-no (badPeer ours id) _ _ (a .peer) ∙ cond-no client _ _ c ∙ ap outcomeOf e)
+
+    seen-moved : client ≡ false → held t (placeOf id) ≡ true → told ≡ 64
+    seen-moved c h = by-sighting c (sighting.Moved (heldAt t (placeOf id))) (held-never-refused t ours (placeOf id) h)
+
+    module _ (c : client ≡ false) (new : held t (placeOf id) ≡ false) where
+      seen-full : 20 ≤ holds t ours (bucketOf (placeOf id) ours) → told ≡ 13
+      seen-full l = by-sighting c _ (full-refused t ours (placeOf id) (a .form) new l)
+
+      seen-none : holds t ours (bucketOf (placeOf id) ours) < 20 → ((j : ℕ) → j < slotsOf t → used (slot t j) ≡ true) → told ≡ 14
+      seen-none l all = by-sighting c sighting.NoSlot (none-left t ours (placeOf id) (a .form) new l all)
+
+      seen-joined : holds t ours (bucketOf (placeOf id) ours) < 20 → (j : ℕ) → j < slotsOf t → used (slot t j) ≡ false → told ≡ 65
+      seen-joined l j lj free = by-sighting c (sighting.Joined (freeAt t)) (one-left t ours (placeOf id) (a .form) new l j lj free)
+
+  -- ---- "a peer already held is never 13 or 14", and neither is a client
+  never : (client ≡ false → Neither13Nor14 (seenNumber (outcomeOf (sightingOf t ours (placeOf id))))) → Neither13Nor14 told
+  unfolding seenCall
+  never last =
+      step (not (inForm t ours)) _ _ (λ _. (λ e. omega arith, λ e. omega arith))
+      (λ _. step (badPeer ours id) _ _ (λ _. (λ e. omega arith, λ e. omega arith)) (λ _. step client _ _ (λ _. (λ e. omega arith, λ e. omega arith)) last))
+    where
+      step : (c : Bool) (r s : SeenOutcome) → (c ≡ true → Neither13Nor14 (seenNumber r)) → (c ≡ false → Neither13Nor14 (seenNumber s)) → Neither13Nor14 (seenNumber (cond c r s))
+      step = cond-ind (λ (r : SeenOutcome). Neither13Nor14 (seenNumber r))
+
+  held-never : held t (placeOf id) ≡ true → Neither13Nor14 told
+  held-never h = never (λ _. subst (λ (s : Sighting). Neither13Nor14 (seenNumber (outcomeOf s))) (sym (held-never-refused t ours (placeOf id) h)) (λ e. omega arith, λ e. omega arith))
+
+  client-never : client ≡ true → Neither13Nor14 told
+  client-never c = never (λ f. absurd (not-both client c f))
+
+-- ---- the number of a settle
+module _ (t ours head id : List ℕ) (client answered : Bool) where
+  abbrev settled : ℕ
+  settled = settleNumber (settleCall t ours head id client answered)
+
+  settle-zero : inForm t ours ≡ false → settled ≡ 0
+  unfolding settleCall
+  settle-zero f = ap settleNumber (cond-yes (not (inForm t ours)) _ _ (ap not f))
+
+  module _ (f : inForm t ours ≡ true) where
+    settle-bad-head : badPeer ours head ≡ true → settled ≡ 12
+    unfolding settleCall
+    settle-bad-head b = ap settleNumber (cond-no (not (inForm t ours)) _ _ (ap not f) ∙ cond-yes (badPeer ours head) _ _ b)
+
+    settle-bad-id : badPeer ours id ≡ true → settled ≡ 12
+    unfolding settleCall
+    settle-bad-id b = ⊎-elim settle-bad-head other (either (badPeer ours head))
+      where
+        other : badPeer ours head ≡ false → settleNumber (settleCall t ours head id client answered) ≡ 12
+        other g = ap settleNumber (cond-no (not (inForm t ours)) _ _ (ap not f) ∙ cond-no (badPeer ours head) _ _ g ∙ cond-yes (badPeer ours id) _ _ b)
+
+  module _ (a : Admits t ours head) (b : Admits t ours id) where
+    -- the last answers
+    judged : settleCall t ours head id client answered
+        ≡ cond (not (fits t ours (placeOf head) (placeOf id))) (settle.Refused NoLongerFits) (cond client (settle.Refused Client) (cond answered settle.Kept settle.Swapped))
+    unfolding settleCall
+    judged = cond-no (not (inForm t ours)) _ _ (ap not (a .form)) ∙ cond-no (badPeer ours head) _ _ (a .peer) ∙ cond-no (badPeer ours id) _ _ (b .peer)
+
+    settle-stale : fits t ours (placeOf head) (placeOf id) ≡ false → settled ≡ 15
+    settle-stale f = ap settleNumber (judged ∙ cond-yes (not (fits t ours (placeOf head) (placeOf id))) _ _ (ap not f))
+
+    module _ (f : fits t ours (placeOf head) (placeOf id) ≡ true) where
+      fitting : settleCall t ours head id client answered ≡ cond client (settle.Refused Client) (cond answered settle.Kept settle.Swapped)
+      fitting = judged ∙ cond-no (not (fits t ours (placeOf head) (placeOf id))) _ _ (ap not f)
+
+      settle-client : client ≡ true → settled ≡ 18
+      settle-client c = ap settleNumber (fitting ∙ cond-yes client _ _ c)
+
+      settle-kept : client ≡ false → answered ≡ true → settled ≡ 64
+      settle-kept c e = ap settleNumber (fitting ∙ cond-no client _ _ c ∙ cond-yes answered _ _ e)
+
+      settle-swapped : client ≡ false → answered ≡ false → settled ≡ 65
+      settle-swapped c e = ap settleNumber (fitting ∙ cond-no client _ _ c ∙ cond-no answered _ _ e)
+
+-- ---- the number of a remove
+module _ (t ours id : List ℕ) where
+  abbrev removed : ℕ
+  removed = removeNumber (removeCall t ours id)
+
+  remove-zero : inForm t ours ≡ false → removed ≡ 0
+  unfolding removeCall
+  remove-zero f = ap removeNumber (cond-yes (not (inForm t ours)) _ _ (ap not f))
+
+  remove-twelve : inForm t ours ≡ true → badPeer ours id ≡ true → removed ≡ 12
+  unfolding removeCall
+  remove-twelve f b = ap removeNumber (cond-no (not (inForm t ours)) _ _ (ap not f) ∙ cond-yes (badPeer ours id) _ _ b)
+
+  remove-last : Admits t ours id → removeCall t ours id ≡ cond (not (held t (placeOf id))) (remove.Refused NoLongerFits) remove.Gone
+  unfolding removeCall
+  remove-last a = cond-no (not (inForm t ours)) _ _ (ap not (a .form)) ∙ cond-no (badPeer ours id) _ _ (a .peer)
+
+  remove-not-held : Admits t ours id → held t (placeOf id) ≡ false → removed ≡ 15
+  remove-not-held a h = ap removeNumber (remove-last a ∙ cond-yes (not (held t (placeOf id))) _ _ (ap not h))
+
+  remove-gone : Admits t ours id → held t (placeOf id) ≡ true → removed ≡ 64
+  remove-gone a h = ap removeNumber (remove-last a ∙ cond-no (not (held t (placeOf id))) _ _ (ap not h))
+
+-- ---- a number under 64 leaves the table
+seen-same : (t o : List ℕ) (p : Peer) (r : SeenOutcome) → seenNumber r < 64 → afterSeen t o p r ≡ t
+unfolding afterSeen
+seen-same t o p (seen.Moved i) l = absurd (omega arith)
+seen-same t o p (seen.Joined i) l = absurd (omega arith)
+seen-same t o p (seen.Probe h) l = refl
+seen-same t o p (seen.Refused r) l = refl
+
+settle-same : (t o h : List ℕ) (p : Peer) (r : SettleOutcome) → settleNumber r < 64 → afterSettle t o h p r ≡ t
+unfolding afterSettle
+settle-same t o h p settle.Kept l = absurd (omega arith)
+settle-same t o h p settle.Swapped l = absurd (omega arith)
+settle-same t o h p (settle.Refused r) l = refl
+
+remove-same : (t o p : List ℕ) (r : RemoveOutcome) → removeNumber r < 64 → afterRemove t o p r ≡ t
+unfolding afterRemove
+remove-same t o p remove.Gone l = absurd (omega arith)
+remove-same t o p (remove.Refused r) l = refl
+
+seen-leaves : (t ours id : List ℕ) (client : Bool) (addresses : List ℕ) → seenNumber (seenCall t ours id client) < 64 → seenCallTable t ours id client addresses ≡ t
+unfolding seenCallTable
+seen-leaves t ours id client addresses = seen-same t ours (peerOf id (placeOf id) addresses) (seenCall t ours id client)
+
+settle-leaves : (t ours head id : List ℕ) (client : Bool) (addresses : List ℕ) (answered : Bool) → settleNumber (settleCall t ours head id client answered) < 64
+    → settleCallTable t ours head id client addresses answered ≡ t
+unfolding settleCallTable
+settle-leaves t ours head id client addresses answered = settle-same t ours (placeOf head) (peerOf id (placeOf id) addresses) (settleCall t ours head id client answered)
+
+remove-leaves : (t ours id : List ℕ) → removeNumber (removeCall t ours id) < 64 → removeCallTable t ours id ≡ t
+unfolding removeCallTable
+remove-leaves t ours id = remove-same t ours (placeOf id) (removeCall t ours id)
+
+-- ---- what each answer does
+-- a sighting of any peer that may come in
+sighting-does : (t o : List ℕ) (p : Peer) → inForm t o ≡ true → Fair o p → SeenDoes t o p (outcomeOf (sightingOf t o (p .place))) (seenTable t o p)
+unfolding sightingOf newcomer
+sighting-does t o p y G = ⊎-elim was-held new (either (held t (p .place)))
+  where
+    answered : (s : Sighting) → sightingOf t o (p .place) ≡ s → SeenDoes t o p (outcomeOf s) (seenTable t o p) → SeenDoes t o p (outcomeOf (sightingOf t o (p .place))) (seenTable t o p)
+    answered s e d = subst (λ (x : Sighting). SeenDoes t o p (outcomeOf x) (seenTable t o p)) (sym e) d
+
+    was-held : held t (p .place) ≡ true → SeenDoes t o p (outcomeOf (sightingOf t o (p .place))) (seenTable t o p)
+    was-held h = let k = kept t o y .moved p G h in answered (sighting.Moved (heldAt t (p .place))) (k .0) (k .1)
+
+    new : held t (p .place) ≡ false → SeenDoes t o p (outcomeOf (sightingOf t o (p .place))) (seenTable t o p)
+    new h = ⊎-elim full (λ r. ⊎-elim (joined r) (none r) (either (ltb (freeAt t) (slotsOf t)))) (either (leb 20 (tailOf t o (bucketOf (p .place) o))))
+      where
+        full : leb 20 (tailOf t o (bucketOf (p .place) o)) ≡ true → SeenDoes t o p (outcomeOf (sightingOf t o (p .place))) (seenTable t o p)
+        full f =
+            let k = kept t o y .full p h (omega (arith, leb-true 20 (tailOf t o (bucketOf (p .place) o)) f, kept t o y .counted (bucketOf (p .place) o))) in
+            answered (sighting.Full (k .0)) (k .1) (k .2, k .3, k .4)
+
+        joined : leb 20 (tailOf t o (bucketOf (p .place) o)) ≡ false → ltb (freeAt t) (slotsOf t) ≡ true → SeenDoes t o p (outcomeOf (sightingOf t o (p .place))) (seenTable t o p)
+        joined r f =
+            let k = seen-new t o p G h (leb-false 20 (tailOf t o (bucketOf (p .place) o)) r) (ltb-true (freeAt t) (slotsOf t) f) in
+            answered (sighting.Joined (freeAt t)) (k .0) (k .1)
+
+        none : leb 20 (tailOf t o (bucketOf (p .place) o)) ≡ false → ltb (freeAt t) (slotsOf t) ≡ false → SeenDoes t o p (outcomeOf (sightingOf t o (p .place))) (seenTable t o p)
+        none r f = let e = cond-no (held t (p .place)) _ _ h ∙ cond-no (leb 20 (tailOf t o (bucketOf (p .place) o))) _ _ r ∙ cond-no (ltb (freeAt t) (slotsOf t)) _ _ f in
+            answered sighting.NoSlot e (no-slot-changes-nothing t o p e)
+
+module _ (t ours : List ℕ) (l : length ours ≡ 32) (b : Bytes ours) where
+  seen-does : (id : List ℕ) (client : Bool) (addresses : List ℕ)
+      → SeenDoes t ours (peerOf id (placeOf id) addresses) (seenCall t ours id client) (seenCallTable t ours id client addresses)
+  unfolding seenCallTable seenCall afterSeen
+  seen-does id client addresses =
+      step (not (inForm t ours)) _ _ (λ _. refl) (λ f. step (badPeer ours id) _ _ (λ _. refl) (λ g. step client _ _ (λ _. refl) (λ _. taken (not-false _ f) g)))
+    where
+      step : (c : Bool) (r s : SeenOutcome)
+          → (c ≡ true → SeenDoes t ours (peerOf id (placeOf id) addresses) r (afterSeen t ours (peerOf id (placeOf id) addresses) r))
+          → (c ≡ false → SeenDoes t ours (peerOf id (placeOf id) addresses) s (afterSeen t ours (peerOf id (placeOf id) addresses) s))
+          → SeenDoes t ours (peerOf id (placeOf id) addresses) (cond c r s) (afterSeen t ours (peerOf id (placeOf id) addresses) (cond c r s))
+      step = cond-ind (λ (r : SeenOutcome). SeenDoes t ours (peerOf id (placeOf id) addresses) r (afterSeen t ours (peerOf id (placeOf id) addresses) r))
+
+      taken : inForm t ours ≡ true → badPeer ours id ≡ false
+          → SeenDoes t ours (peerOf id (placeOf id) addresses) (outcomeOf (sightingOf t ours (placeOf id))) (afterSeen t ours (peerOf id (placeOf id) addresses) (outcomeOf (sightingOf t ours (placeOf id))))
+      taken y g =
+          subst (λ (x : List ℕ). SeenDoes t ours (peerOf id (placeOf id) addresses) (outcomeOf (sightingOf t ours x)) (afterSeen t ours (peerOf id (placeOf id) addresses) (outcomeOf (sightingOf t ours x))))
+          (place-is id (placeOf id) addresses)
+          (subst (SeenDoes t ours (peerOf id (placeOf id) addresses) (outcomeOf (sightingOf t ours (peerOf id (placeOf id) addresses .place)))) (seen-table t ours (peerOf id (placeOf id) addresses))
+          (sighting-does t ours (peerOf id (placeOf id) addresses) y (fair ours id addresses l b g)))
+
+  settle-does : (head id : List ℕ) (client : Bool) (addresses : List ℕ) (answered : Bool)
+      → SettleDoes t ours (placeOf head) (peerOf id (placeOf id) addresses) (settleCall t ours head id client answered) (settleCallTable t ours head id client addresses answered)
+  unfolding settleCallTable settleCall afterSettle
+  settle-does head id client addresses answered =
+      step (not (inForm t ours)) _ _ (λ _. refl)
+      (λ f. step (badPeer ours head) _ _ (λ _. refl)
+      (λ _. step (badPeer ours id) _ _ (λ _. refl)
+      (λ g. step (not (fits t ours (placeOf head) (placeOf id))) _ _ (λ _. refl)
+      (λ h. step client _ _ (λ _. refl) (λ _. taken (not-false _ f) g (not-false _ h) answered)))))
+    where
+      step : (c : Bool) (r s : SettleOutcome)
+          → (c ≡ true → SettleDoes t ours (placeOf head) (peerOf id (placeOf id) addresses) r (afterSettle t ours (placeOf head) (peerOf id (placeOf id) addresses) r))
+          → (c ≡ false → SettleDoes t ours (placeOf head) (peerOf id (placeOf id) addresses) s (afterSettle t ours (placeOf head) (peerOf id (placeOf id) addresses) s))
+          → SettleDoes t ours (placeOf head) (peerOf id (placeOf id) addresses) (cond c r s) (afterSettle t ours (placeOf head) (peerOf id (placeOf id) addresses) (cond c r s))
+      step = cond-ind (λ (r : SettleOutcome). SettleDoes t ours (placeOf head) (peerOf id (placeOf id) addresses) r (afterSettle t ours (placeOf head) (peerOf id (placeOf id) addresses) r))
+
+      taken : inForm t ours ≡ true → badPeer ours id ≡ false → fits t ours (placeOf head) (placeOf id) ≡ true → (a : Bool)
+          → SettleDoes t ours (placeOf head) (peerOf id (placeOf id) addresses) (cond a settle.Kept settle.Swapped) (afterSettle t ours (placeOf head) (peerOf id (placeOf id) addresses) (cond a settle.Kept settle.Swapped))
+      taken y g h true =
+          let w = ap (fits t ours (placeOf head)) (place-is id (placeOf id) addresses) ∙ h in
+          subst (HeadKept t ours (placeOf head)) (settle-table t ours (placeOf head) (peerOf id (placeOf id) addresses) true w) (kept t ours y .kept (placeOf head) (peerOf id (placeOf id) addresses) w .1)
+      taken y g h false =
+          let w = ap (fits t ours (placeOf head)) (place-is id (placeOf id) addresses) ∙ h in
+          subst (HeadGone t ours (placeOf head) (peerOf id (placeOf id) addresses)) (settle-table t ours (placeOf head) (peerOf id (placeOf id) addresses) false w)
+          (kept t ours y .swapped (placeOf head) (peerOf id (placeOf id) addresses) (fair ours id addresses l b g) w .1)
+
+remove-does : (t ours id : List ℕ) → RemoveDoes t ours (placeOf id) (removeCall t ours id) (removeCallTable t ours id)
+unfolding removeCallTable removeCall afterRemove
+remove-does t ours id =
+    step (not (inForm t ours)) _ _ (λ _. refl) (λ f. step (badPeer ours id) _ _ (λ _. refl) (λ _. step (not (held t (placeOf id))) _ _ (λ _. refl) (λ h. taken (not-false _ f) (not-false _ h))))
+  where
+    step : (c : Bool) (r s : RemoveOutcome) → (c ≡ true → RemoveDoes t ours (placeOf id) r (afterRemove t ours (placeOf id) r))
+        → (c ≡ false → RemoveDoes t ours (placeOf id) s (afterRemove t ours (placeOf id) s)) → RemoveDoes t ours (placeOf id) (cond c r s) (afterRemove t ours (placeOf id) (cond c r s))
+    step = cond-ind (λ (r : RemoveOutcome). RemoveDoes t ours (placeOf id) r (afterRemove t ours (placeOf id) r))
+
+    taken : inForm t ours ≡ true → held t (placeOf id) ≡ true → Freed t ours (placeOf id) (heldAt t (placeOf id)) (afterRemove t ours (placeOf id) remove.Gone)
+    taken y h = subst (Freed t ours (placeOf id) (heldAt t (placeOf id))) (remove-table t ours (placeOf id) h) (kept t ours y .gone (placeOf id) h .1)
+
+-- ---- a head that answered stays
+never-evicted : (t ours head id : List ℕ) (client : Bool) (addresses : List ℕ) (j : ℕ) → j < slotsOf t
+    → SameContact (slot (settleCallTable t ours head id client addresses true) j) (slot t j)
+unfolding settleCallTable settleCall afterSettle
+never-evicted t ours head id client addresses j l =
+    step (not (inForm t ours)) _ _ (λ _. same)
+    (λ f. step (badPeer ours head) _ _ (λ _. same)
+    (λ _. step (badPeer ours id) _ _ (λ _. same)
+    (λ _. step (not (fits t ours (placeOf head) (placeOf id))) _ _ (λ _. same) (λ h. step client _ _ (λ _. same) (λ _. taken (not-false _ f) (not-false _ h))))))
+  where
+    same : SameContact (slot t j) (slot t j)
+    same = record { sameId = refl; samePlace = refl; sameAddresses = refl; sameUse = refl }
+
+    step : (c : Bool) (r s : SettleOutcome) → (c ≡ true → SameContact (slot (afterSettle t ours (placeOf head) (peerOf id (placeOf id) addresses) r) j) (slot t j))
+        → (c ≡ false → SameContact (slot (afterSettle t ours (placeOf head) (peerOf id (placeOf id) addresses) s) j) (slot t j))
+        → SameContact (slot (afterSettle t ours (placeOf head) (peerOf id (placeOf id) addresses) (cond c r s)) j) (slot t j)
+    step = cond-ind (λ (r : SettleOutcome). SameContact (slot (afterSettle t ours (placeOf head) (peerOf id (placeOf id) addresses) r) j) (slot t j))
+
+    taken : inForm t ours ≡ true → fits t ours (placeOf head) (placeOf id) ≡ true
+        → SameContact (slot (afterSettle t ours (placeOf head) (peerOf id (placeOf id) addresses) settle.Kept) j) (slot t j)
+    taken y h =
+        subst (λ (x : List ℕ). SameContact (slot x j) (slot t j))
+        (settle-table t ours (placeOf head) (peerOf id (placeOf id) addresses) true (ap (fits t ours (placeOf head)) (place-is id (placeOf id) addresses) ∙ h))
+        (kept t ours y .unevicted (placeOf head) (peerOf id (placeOf id) addresses) j l)
+
+-- ---- freed slots are used again
+-- 14 is for want of a slot
+fourteen : (s : Sighting) → seenNumber (outcomeOf s) ≡ 14 → s ≡ sighting.NoSlot
+fourteen (sighting.Moved i) e = absurd (omega arith)
+fourteen (sighting.Joined i) e = absurd (omega arith)
+fourteen (sighting.Full h) e = absurd (omega arith)
+fourteen sighting.NoSlot e = refl
+
+-- where nobody lacks a slot, nobody gets 14
+never-fourteen : (t ours id : List ℕ) (client : Bool) → (sightingOf t ours (placeOf id) ≡ sighting.NoSlot → ⊥) → seenNumber (seenCall t ours id client) ≡ 14 → ⊥
+unfolding seenCall
+never-fourteen t ours id client n =
+    step (not (inForm t ours)) _ _ (λ _ e. omega arith)
+    (λ _. step (badPeer ours id) _ _ (λ _ e. omega arith) (λ _. step client _ _ (λ _ e. omega arith) (λ _ e. n (fourteen (sightingOf t ours (placeOf id)) e))))
+  where
+    step : (c : Bool) (r s : SeenOutcome) → (c ≡ true → seenNumber r ≡ 14 → ⊥) → (c ≡ false → seenNumber s ≡ 14 → ⊥) → seenNumber (cond c r s) ≡ 14 → ⊥
+    step = cond-ind (λ (r : SeenOutcome). seenNumber r ≡ 14 → ⊥)
+
+used-again : (t ours id other : List ℕ) (client : Bool) → removeNumber (removeCall t ours id) ≡ 64 → seenNumber (seenCall (removeCallTable t ours id) ours other client) ≡ 14 → ⊥
+unfolding removeCallTable removeCall afterRemove
+used-again t ours id other client =
+    step (not (inForm t ours)) _ _ (λ _ e. absurd (omega arith))
+    (λ f. step (badPeer ours id) _ _ (λ _ e. absurd (omega arith))
+    (λ _. step (not (held t (placeOf id))) _ _ (λ _ e. absurd (omega arith)) (λ h _. taken (not-false _ f) (not-false _ h))))
+  where
+    step : (c : Bool) (r s : RemoveOutcome)
+        → (c ≡ true → removeNumber r ≡ 64 → seenNumber (seenCall (afterRemove t ours (placeOf id) r) ours other client) ≡ 14 → ⊥)
+        → (c ≡ false → removeNumber s ≡ 64 → seenNumber (seenCall (afterRemove t ours (placeOf id) s) ours other client) ≡ 14 → ⊥)
+        → removeNumber (cond c r s) ≡ 64 → seenNumber (seenCall (afterRemove t ours (placeOf id) (cond c r s)) ours other client) ≡ 14 → ⊥
+    step = cond-ind (λ (r : RemoveOutcome). removeNumber r ≡ 64 → seenNumber (seenCall (afterRemove t ours (placeOf id) r) ours other client) ≡ 14 → ⊥)
+
+    taken : inForm t ours ≡ true → held t (placeOf id) ≡ true → seenNumber (seenCall (afterRemove t ours (placeOf id) remove.Gone) ours other client) ≡ 14 → ⊥
+    taken y h =
+        subst (λ (x : List ℕ). seenNumber (seenCall x ours other client) ≡ 14 → ⊥) (remove-table t ours (placeOf id) h)
+        (never-fourteen (removedTable t ours (placeOf id)) ours other client (kept t ours y .reused (placeOf id) (placeOf other) h))
+
+pub claims : Claims
+claims = record {
+  seenTold = λ t ours id client. record {
+    outOfForm = seen-zero t ours id client;
+    badId = seen-twelve t ours id client;
+    isClient = seen-eighteen t ours id client;
+    moved = seen-moved t ours id client;
+    full = seen-full t ours id client;
+    noSlot = seen-none t ours id client;
+    joined = seen-joined t ours id client;
+  };
+  settleTold = λ t ours head id client answered. record {
+    outOfForm = settle-zero t ours head id client answered;
+    badHead = settle-bad-head t ours head id client answered;
+    badId = settle-bad-id t ours head id client answered;
+    stale = settle-stale t ours head id client answered;
+    isClient = settle-client t ours head id client answered;
+    kept = settle-kept t ours head id client answered;
+    swapped = settle-swapped t ours head id client answered;
+  };
+  removeTold = λ t ours id. record {
+    outOfForm = remove-zero t ours id;
+    badId = remove-twelve t ours id;
+    notHeld = remove-not-held t ours id;
+    gone = remove-gone t ours id;
+  };
+  heldNever = held-never;
+  clientNever = client-never;
+  seenRefused = seen-leaves;
+  settleRefused = settle-leaves;
+  removeRefused = remove-leaves;
+  seenDoes = λ t ours id client addresses l b. seen-does t ours l b id client addresses;
+  settleDoes = λ t ours head id client addresses answered l b. settle-does t ours l b head id client addresses answered;
+  removeDoes = remove-does;
+  unevicted = never-evicted;
+  reused = used-again;
+  cleared = cleared-in-form;
+  seenForm = seen-call-keeps;
+  settleForm = settle-call-keeps;
+  removeForm = remove-call-keeps;
+}

@@ -1,0 +1,116 @@
+-- Seen, settle and remove as a host calls them: which number it is told and what its table then is. `claims` (proofs/Claims.antt) has all of it.
+use Prim.Native.Nat.{ℕ, _<_, _≤_}
+use mathlib.Core.Path.{_≡_}
+use mathlib.Core.Bool.{Bool, true, false}
+use mathlib.Core.List.{List}
+use lib.ListN.{length, getD}
+use Rattle.octets.specs.Octets.{Bytes}
+use Rattle.place.specs.Place.{placeOf, bucketOf}
+use Rattle.contacts.specs.Table.{slotsOf, slot, used}
+use Rattle.contacts.specs.Form.{inForm}
+use Rattle.peer.specs.declared.Peer.{Peer}
+use Rattle.peer.specs.Peers.{badPeer, peerOf}
+use Rattle.sightings.specs.Order.{isHead, heldAt}
+use Rattle.sightings.specs.Sightings.{held, fits}
+use Rattle.sightings_kept.specs.Promises.{SameContact, HeldSeen, NewSeen, Freed, HeadKept, HeadGone, holds}
+use Rattle.contact_calls.specs.declared.SeenOutcome.{SeenOutcome}
+use Rattle.contact_calls.specs.declared.SeenOutcome.the-variants as seen
+use Rattle.contact_calls.specs.declared.SettleOutcome.{SettleOutcome}
+use Rattle.contact_calls.specs.declared.SettleOutcome.the-variants as settle
+use Rattle.contact_calls.specs.declared.RemoveOutcome.{RemoveOutcome}
+use Rattle.contact_calls.specs.declared.RemoveOutcome.the-variants as remove
+use Rattle.contact_calls.specs.Calls.{seenCall, seenCallTable, settleCall, settleCallTable, removeCall, removeCallTable, seenNumber, settleNumber, removeNumber}
+
+-- ---- the number that a host is told: document 01, 'Refusal numbers', "Given exactly when". In each record the cases leave none out
+
+-- neither 0 nor 12 applies
+pub record Admits (t ours id : List ℕ) : Type 0 where
+  pub form : inForm t ours ≡ true
+  pub peer : badPeer ours id ≡ false
+
+-- of seen
+pub record SeenTold (t ours id : List ℕ) (client : Bool) (n : ℕ) : Type 0 where
+  pub outOfForm : inForm t ours ≡ false → n ≡ 0
+  pub badId : inForm t ours ≡ true → badPeer ours id ≡ true → n ≡ 12
+  -- "18 before 13 and 14"
+  pub isClient : Admits t ours id → client ≡ true → n ≡ 18
+  pub moved : Admits t ours id → client ≡ false → held t (placeOf id) ≡ true → n ≡ 64
+  -- "bucket holds 20"
+  pub full : Admits t ours id → client ≡ false → held t (placeOf id) ≡ false → 20 ≤ holds t ours (bucketOf (placeOf id) ours) → n ≡ 13
+  -- "bucket has room, every contact slot is used"
+  pub noSlot : Admits t ours id → client ≡ false → held t (placeOf id) ≡ false → holds t ours (bucketOf (placeOf id) ours) < 20
+      → ((j : ℕ) → j < slotsOf t → used (slot t j) ≡ true) → n ≡ 14
+  pub joined : Admits t ours id → client ≡ false → held t (placeOf id) ≡ false → holds t ours (bucketOf (placeOf id) ours) < 20
+      → (j : ℕ) → j < slotsOf t → used (slot t j) ≡ false → n ≡ 65
+
+-- of settle
+pub record SettleTold (t ours head id : List ℕ) (client answered : Bool) (n : ℕ) : Type 0 where
+  pub outOfForm : inForm t ours ≡ false → n ≡ 0
+  pub badHead : inForm t ours ≡ true → badPeer ours head ≡ true → n ≡ 12
+  pub badId : inForm t ours ≡ true → badPeer ours id ≡ true → n ≡ 12
+  -- "settle .. no longer fits the table"
+  pub stale : Admits t ours head → Admits t ours id → fits t ours (placeOf head) (placeOf id) ≡ false → n ≡ 15
+  pub isClient : Admits t ours head → Admits t ours id → fits t ours (placeOf head) (placeOf id) ≡ true → client ≡ true → n ≡ 18
+  pub kept : Admits t ours head → Admits t ours id → fits t ours (placeOf head) (placeOf id) ≡ true → client ≡ false → answered ≡ true → n ≡ 64
+  pub swapped : Admits t ours head → Admits t ours id → fits t ours (placeOf head) (placeOf id) ≡ true → client ≡ false → answered ≡ false → n ≡ 65
+
+-- of remove
+pub record RemoveTold (t ours id : List ℕ) (n : ℕ) : Type 0 where
+  pub outOfForm : inForm t ours ≡ false → n ≡ 0
+  pub badId : inForm t ours ≡ true → badPeer ours id ≡ true → n ≡ 12
+  pub notHeld : Admits t ours id → held t (placeOf id) ≡ false → n ≡ 15
+  pub gone : Admits t ours id → held t (placeOf id) ≡ true → n ≡ 64
+
+abbrev pub Neither13Nor14 : ℕ → Type 0
+Neither13Nor14 n = (n ≡ 13 → ⊥) × (n ≡ 14 → ⊥)
+
+-- ---- what each answer makes of the table t: u. In each, nobody else's id, place, addresses or order changes
+abbrev pub SeenDoes : List ℕ → List ℕ → Peer → SeenOutcome → List ℕ → Type 0
+SeenDoes t ours p (seen.Moved i) u = HeldSeen t ours p i u
+SeenDoes t ours p (seen.Joined i) u = NewSeen t ours p i u
+-- "its head is named for a probe"
+SeenDoes t ours p (seen.Probe h) u = (h < slotsOf t) × (isHead ours (bucketOf (p .place) ours) (slot t h) ≡ true) × (u ≡ t)
+SeenDoes t ours p (seen.Refused r) u = u ≡ t
+
+abbrev pub SettleDoes : List ℕ → List ℕ → List ℕ → Peer → SettleOutcome → List ℕ → Type 0
+SettleDoes t ours head p settle.Kept u = HeadKept t ours head u
+SettleDoes t ours head p settle.Swapped u = HeadGone t ours head p u
+SettleDoes t ours head p (settle.Refused r) u = u ≡ t
+
+abbrev pub RemoveDoes : List ℕ → List ℕ → List ℕ → RemoveOutcome → List ℕ → Type 0
+RemoveDoes t ours p remove.Gone u = Freed t ours p (heldAt t p) u
+RemoveDoes t ours p (remove.Refused r) u = u ≡ t
+
+-- ---- the claims
+pub record Claims : Type 0 where
+  -- each number is given exactly when document 01 says so
+  pub seenTold : (t ours id : List ℕ) (client : Bool) → SeenTold t ours id client (seenNumber (seenCall t ours id client))
+  pub settleTold : (t ours head id : List ℕ) (client answered : Bool) → SettleTold t ours head id client answered (settleNumber (settleCall t ours head id client answered))
+  pub removeTold : (t ours id : List ℕ) → RemoveTold t ours id (removeNumber (removeCall t ours id))
+  -- "a peer already held is never 13 or 14", and neither is a client: whatever the table
+  pub heldNever : (t ours id : List ℕ) (client : Bool) → held t (placeOf id) ≡ true → Neither13Nor14 (seenNumber (seenCall t ours id client))
+  pub clientNever : (t ours id : List ℕ) (client : Bool) → client ≡ true → Neither13Nor14 (seenNumber (seenCall t ours id client))
+  -- a refusal, 13 too, changes nothing
+  pub seenRefused : (t ours id : List ℕ) (client : Bool) (addresses : List ℕ) → seenNumber (seenCall t ours id client) < 64 → seenCallTable t ours id client addresses ≡ t
+  pub settleRefused : (t ours head id : List ℕ) (client : Bool) (addresses : List ℕ) (answered : Bool) → settleNumber (settleCall t ours head id client answered) < 64
+      → settleCallTable t ours head id client addresses answered ≡ t
+  pub removeRefused : (t ours id : List ℕ) → removeNumber (removeCall t ours id) < 64 → removeCallTable t ours id ≡ t
+  -- each answer does what it says, where ours is a place
+  pub seenDoes : (t ours id : List ℕ) (client : Bool) (addresses : List ℕ) → length ours ≡ 32 → Bytes ours
+      → SeenDoes t ours (peerOf id (placeOf id) addresses) (seenCall t ours id client) (seenCallTable t ours id client addresses)
+  pub settleDoes : (t ours head id : List ℕ) (client : Bool) (addresses : List ℕ) (answered : Bool) → length ours ≡ 32 → Bytes ours
+      → SettleDoes t ours (placeOf head) (peerOf id (placeOf id) addresses) (settleCall t ours head id client answered) (settleCallTable t ours head id client addresses answered)
+  pub removeDoes : (t ours id : List ℕ) → RemoveDoes t ours (placeOf id) (removeCall t ours id) (removeCallTable t ours id)
+  -- "Evicting a head that answered" can't be: every contact is still there, whatever the table
+  pub unevicted : (t ours head id : List ℕ) (client : Bool) (addresses : List ℕ) (j : ℕ) → j < slotsOf t
+      → SameContact (slot (settleCallTable t ours head id client addresses true) j) (slot t j)
+  -- "Freed slots are used again": after a remove nobody gets 14
+  pub reused : (t ours id other : List ℕ) (client : Bool) → removeNumber (removeCall t ours id) ≡ 64
+      → seenNumber (seenCall (removeCallTable t ours id) ours other client) ≡ 14 → ⊥
+  -- "memory once cleared" is in form, and each call keeps it so
+  pub cleared : (t ours : List ℕ) → ((k : ℕ) → getD t k 0 ≡ 0) → inForm t ours ≡ true
+  pub seenForm : (t ours : List ℕ) → length ours ≡ 32 → Bytes ours → inForm t ours ≡ true
+      → (id : List ℕ) (client : Bool) (addresses : List ℕ) → inForm (seenCallTable t ours id client addresses) ours ≡ true
+  pub settleForm : (t ours : List ℕ) → length ours ≡ 32 → Bytes ours → inForm t ours ≡ true
+      → (head id : List ℕ) (client : Bool) (addresses : List ℕ) (answered : Bool) → inForm (settleCallTable t ours head id client addresses answered) ours ≡ true
+  pub removeForm : (t ours : List ℕ) → length ours ≡ 32 → Bytes ours → inForm t ours ≡ true → (id : List ℕ) → inForm (removeCallTable t ours id) ours ≡ true

@@ -1,0 +1,87 @@
+-- The claims, each by its law. Assumes nothing.
+use Prim.Native.Nat.{ℕ, _<_, _≤_}
+use mathlib.Core.Path.{_≡_, refl, ap}
+use mathlib.Core.Bool.{Bool, true, false}
+use mathlib.Core.List.{List}
+use native.Mathlib.Omega.{arith}
+use lib.Dec.{ltb, leb}
+use borrow.Author.Tests.{lt-ltb}
+use Rattle.octets.proofs.Bools.{not-both, cond-yes, cond-no, cond-ind}
+use Rattle.place.specs.Place.{bucketOf}
+use Rattle.contacts.specs.Table.{slotsOf, slot, used}
+use Rattle.contacts.specs.Form.{inForm}
+use Rattle.peer.specs.declared.Peer.{Peer}
+use Rattle.sightings.specs.declared.Sighting.{Sighting}
+use Rattle.sightings.specs.declared.Sighting.the-variants.{Moved, Joined, Full, NoSlot}
+use Rattle.sightings.specs.declared.Settled.the-variants.{Stale}
+use Rattle.sightings.specs.declared.Removed.the-variants.{NotHeld}
+use Rattle.sightings.specs.Order.{isHead, freeAt, headAt, tailOf}
+use Rattle.sightings.specs.Sightings.{held, newcomer, sightingOf, seenTable, fits, settlementOf, removalOf, removedTable}
+use Rattle.contact_order.proofs.Tests.{free-there}
+use Rattle.sightings_kept.specs.Promises.{Fair, NewSeen, holds, Claims}
+use Rattle.sightings_kept.proofs.Forms.{seen-keeps, settle-keeps, remove-keeps}
+use Rattle.sightings_kept.proofs.Theorems.{held-never-refused, full-changes-nothing, no-slot-changes-nothing, stale-same, not-held-same, seen-held, seen-new, remove-frees, settle-answered, settle-silent, answered-never-evicted}
+use Rattle.sightings_kept.proofs.Holds.{tail-is-count, full-refused, none-left, head-there}
+use Rattle.sightings_kept.proofs.Hashed.{seen-hashed, settle-hashed, remove-hashed}
+
+-- ---- where a slot is free, nobody is refused for want of one
+forWant : Sighting → Bool
+forWant (Moved i) = false
+forWant (Joined i) = false
+forWant (Full h) = false
+forWant NoSlot = true
+
+pub never-for-want : (t o q : List ℕ) → freeAt t < slotsOf t → sightingOf t o q ≡ NoSlot → ⊥
+unfolding sightingOf newcomer forWant
+never-for-want t o q l e = not-both (forWant (sightingOf t o q)) (ap forWant e) wanted
+  where
+    wanted : forWant (sightingOf t o q) ≡ false
+    wanted =
+        cond-ind (λ (r : Sighting). forWant r ≡ false) (held t q) _ _ (λ _. refl)
+        (λ _. cond-ind (λ (r : Sighting). forWant r ≡ false) (leb 20 (tailOf t o (bucketOf q o))) _ _ (λ _. refl)
+        (λ _. ap forWant (cond-yes (ltb (freeAt t) (slotsOf t)) (Joined (freeAt t)) NoSlot (lt-ltb (freeAt t) (slotsOf t) l))))
+
+module _ (t o : List ℕ) (y : inForm t o ≡ true) (p : Peer) (new : held t (p .place) ≡ false) where
+  full-named : 20 ≤ holds t o (bucketOf (p .place) o)
+      → (h : ℕ) × (sightingOf t o (p .place) ≡ Full h) × (h < slotsOf t) × (isHead o (bucketOf (p .place) o) (slot t h) ≡ true) × (seenTable t o p ≡ t)
+  full-named l =
+      let e = full-refused t o (p .place) y new l in
+      let h = head-there t o y (bucketOf (p .place) o) (omega arith) in
+      (headAt t o (bucketOf (p .place) o), e, h .0, h .1, full-changes-nothing t o p _ e)
+
+  module _ (room : holds t o (bucketOf (p .place) o) < 20) where
+    joins-in : Fair o p → (j : ℕ) → j < slotsOf t → used (slot t j) ≡ false → (sightingOf t o (p .place) ≡ Joined (freeAt t)) × NewSeen t o p (freeAt t) (seenTable t o p)
+    joins-in G j l free = seen-new t o p G new (omega (arith, tail-is-count t o y (bucketOf (p .place) o))) (free-there t j l free)
+
+    left-out : ((j : ℕ) → j < slotsOf t → used (slot t j) ≡ true) → (sightingOf t o (p .place) ≡ NoSlot) × (seenTable t o p ≡ t)
+    left-out every = let e = none-left t o (p .place) y new room every in (e, no-slot-changes-nothing t o p e)
+
+stale-answer : (t o head : List ℕ) (p : Peer) (answered : Bool) → fits t o head (p .place) ≡ false → settlementOf t o head (p .place) answered ≡ Stale
+unfolding settlementOf
+stale-answer t o head p answered f = cond-no (fits t o head (p .place)) _ _ f
+
+not-held-answer : (t p : List ℕ) → held t p ≡ false → removalOf t p ≡ NotHeld
+unfolding removalOf
+not-held-answer t p h = cond-no (held t p) _ _ h
+
+pub claims : Claims
+claims t o y = record {
+  seenForm = λ p G. seen-keeps t o p G y;
+  settleForm = λ head p answered G. settle-keeps t o head p answered G y;
+  removeForm = λ p. remove-keeps t o p y;
+  seenHashed = λ p G P h. seen-hashed t o p G P y h;
+  settleHashed = λ head p answered G P h. settle-hashed t o p G P y h head answered;
+  removeHashed = λ p h. remove-hashed t o p y h;
+  counted = tail-is-count t o y;
+  moved = λ p G h. (held-never-refused t o (p .place) h, seen-held t o p G y h);
+  full = full-named t o y;
+  joined = λ p G new room. joins-in t o y p new room G;
+  noSlot = left-out t o y;
+  kept = λ head p f. settle-answered t o head p y f;
+  swapped = λ head p G f. settle-silent t o head p y f G;
+  stale = λ head p answered f. (stale-answer t o head p answered f, stale-same t o head p answered f);
+  unevicted = λ head p j l. answered-never-evicted t o head p y j l;
+  gone = λ p h. remove-frees t o p y h;
+  notHeld = λ p h. (not-held-answer t p h, not-held-same t o p h);
+  reused = λ p q h. never-for-want (removedTable t o p) o q (remove-frees t o p y h .1 .room);
+}
