@@ -13,12 +13,8 @@ use Rattle.place.specs.Place.{placeOf}
 use Rattle.peer.specs.declared.Peer.{Peer}
 use Rattle.contacts.specs.Table.{slot}
 use Rattle.contacts.specs.Near.{nearestSlots}
-<<<<<<< ours
 use Rattle.entries.specs.Entries.{contactEntry}
-use Rattle.contacts.proofs.TwentyNearest.{AreNearest}
-=======
 use Rattle.contacts.specs.Claims.{AreNearest}
->>>>>>> theirs
 use Rattle.sightings_kept.specs.Promises.{Hashed}
 use Rattle.contact_calls.specs.declared.SeenOutcome.the-variants as seenAnswer
 use Rattle.contact_calls.specs.declared.SettleOutcome.the-variants as settleAnswer

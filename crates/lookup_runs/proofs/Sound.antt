@@ -19,10 +19,7 @@ use Rattle.contacts.specs.Table.{slotsOf, slot, used, place}
 use Rattle.contacts.specs.Form.{inForm as inFormTable}
 use Rattle.contacts.specs.Near.{far, nearestSlots}
 use Rattle.contact_table.proofs.Cuts.{slot-whole, place-size, bytes-place}
-<<<<<<< ours
-=======
 use Rattle.contact_form.specs.Claims.{InForm}
->>>>>>> theirs
 use Rattle.contact_form.proofs.FormFacts.{form-elim}
 use Rattle.contact_form.proofs.EntryFacts.{entry-id-most, form-entry}
 use Rattle.contacts.proofs.TwentyNearest.{nearest-are, nearest-strict}

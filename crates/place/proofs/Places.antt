@@ -6,16 +6,16 @@ use mathlib.Core.List.{List}
 use lib.ListN.{length}
 use borrow.Author.Tests.{eq-eqb}
 use Rattle.octets.specs.Octets.{Bytes}
-use Rattle.sha256.proofs.Laws.{length-sha256, bytes-sha256}
+use Rattle.sha256.proofs.Claims.{claims}
 use Rattle.place.specs.Place.{placeOf, isPlace}
 
 pub length-placeOf : (name : List ℕ) → length (placeOf name) ≡ 32
 unfolding placeOf
-length-placeOf name = length-sha256 name
+length-placeOf name = claims .size name
 
 pub bytes-placeOf : (name : List ℕ) → Bytes (placeOf name)
 unfolding placeOf
-bytes-placeOf name = bytes-sha256 name
+bytes-placeOf name = claims .bytes name
 
 pub isPlace-placeOf : (name : List ℕ) → isPlace (placeOf name) ≡ true
 unfolding isPlace

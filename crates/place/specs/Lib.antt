@@ -1,2 +1,2 @@
 pub mod Place
-pub mod Examples
+pub mod Claims

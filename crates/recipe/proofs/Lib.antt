@@ -5,3 +5,4 @@ pub mod Points
 pub mod Trailer
 pub mod Neighbours
 pub mod Rank
+pub mod Claims

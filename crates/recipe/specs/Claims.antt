@@ -1,13 +1,13 @@
--- What the rules of a list come to, by position: document 01, 'Recipe', and document 02, (ix). proofs/Neighbours.antt shows each.
+-- What the rank, the zigzag form and the rules of a list come to: document 01, 'Recipe', and document 02, (ix). proofs/Claims.antt shows all of it.
 use Prim.Native.Nat.{ℕ, suc, _-_, _<_}
 use mathlib.Core.Path.{_≡_}
-use mathlib.Core.Bool.{Bool, false, _&&_}
+use mathlib.Core.Bool.{Bool, true, false, not, _&&_}
 use mathlib.Core.List.{List}
 use lib.ListN.{length, getD}
 use lib.Dec.{ltb, leb}
-use lib.IntN.{pos, natAbs, _-ℤ_}
+use lib.IntN.{ℤ, pos, natAbs, _-ℤ_}
 use Rattle.octets.specs.Search.{all}
-use Rattle.recipe.specs.Recipe.{Setpoint, These, setpoints, inRange, rules, countOf, roomOf, isRecipe}
+use Rattle.recipe.specs.Recipe.{trimOf, zigzagOf, Setpoint, These, setpoints, inRange, rules, countOf, roomOf, isRecipe, outranks}
 use Rattle.recipe.specs.declared.Prev.the-variants.{First}
 
 -- the setpoint at a position, from 0; past the end, turn 0 with trim 0
@@ -33,3 +33,15 @@ ByNeighbours = (ps : List Setpoint) → rules First ps ≡ (all (length ps) (kee
 abbrev pub LeapsAreRefused : Type 0
 LeapsAreRefused =
     (v : List ℕ) (ps : List Setpoint) (i : ℕ) → setpoints (countOf v) (roomOf v) ≡ These ps → suc i < length ps → trimStays ps i ≡ false → isRecipe v ≡ false
+
+-- ---- all of it
+pub record Claims : Type 0 where
+  pub by-neighbours : ByNeighbours
+  pub leaps-are-refused : LeapsAreRefused
+  -- the rank orders all values: of two that differ exactly one ranks higher; none ranks higher than itself; rank goes over
+  pub rank-total : (a b : List ℕ) → (a ≡ b → ⊥) → outranks a b ≡ not (outranks b a)
+  pub rank-self : (a : List ℕ) → outranks a a ≡ false
+  pub rank-trans : (a b c : List ℕ) → outranks a b ≡ true → outranks b c ≡ true → outranks a c ≡ true
+  -- zigzag there and back: every trim has one number, and every number is one trim's
+  pub trim-zigzag : (t : ℤ) → trimOf (zigzagOf t) ≡ t
+  pub zigzag-trim : (z : ℕ) → zigzagOf (trimOf z) ≡ z

@@ -1,5 +1,5 @@
 pub mod Laws
-pub mod Vectors
+pub mod Claims
 mod Words
 mod Schedule
 mod Padding

@@ -1,2 +1,3 @@
 pub mod Sha256
+pub mod Claims
 pub mod Inner

@@ -1,3 +1,2 @@
 pub mod Stream
 pub mod Inner
-pub mod Examples
