@@ -1,18 +1,17 @@
 -- What a query answers are the twenty nearest: the host's own, and those that peers send. Assumes nothing.
-use Prim.Native.Nat.{ℕ, _≤_}
+use Prim.Native.Nat.{ℕ}
 use mathlib.Core.Path.{_≡_, refl, sym, ap, _∙_}
 use mathlib.Core.Bool.{Bool, true, false, cond, not}
-use mathlib.Core.List.{List, []}
+use mathlib.Core.List.{List}
 use native.Mathlib.Omega.{arith}
-use lib.ListN.{length, take, length-take}
+use lib.ListN.{take}
 use Rattle.refusal.specs.declared.Refusal.the-variants.{OutOfForm, BreaksRules, BadPeer}
-use Rattle.place.specs.Place.{isPlace, placeOf}
+use Rattle.place.specs.Place.{placeOf}
 use Rattle.peer.specs.declared.Peer.{Peer}
-use Rattle.contacts.specs.Table.{slotsOf}
 use Rattle.contacts.specs.Form.{inForm}
-use Rattle.contacts.specs.Near.{nearestCount, sorted, nearestSlots, nearestOf}
+use Rattle.contacts.specs.Near.{nearestOf}
 use Rattle.contacts.specs.declared.Closest.{Closest}
-use Rattle.contacts.proofs.Sorting.{take-filled}
+use Rattle.contacts.proofs.Claims.{claims}
 use Rattle.message.specs.Message.{Message}
 use Rattle.replies.specs.Replies.{getValue, findNode, closerPeers, findNodeReply, getValueReply}
 use Rattle.replies.specs.Verdicts.{replies, refuses, keyFits, keyed}
@@ -24,18 +23,6 @@ use Rattle.host_calls.specs.Hosts.{noneNear, nearestTo}
 use Rattle.demands.specs.Demands.{Queries}
 
 -- ---- the host's own
-few : (t x : List ℕ) → length (nearestSlots t x) ≤ 20
-unfolding nearestSlots
-few t x = go (isPlace x)
-  where
-    go : (b : Bool) → length (cond b (take nearestCount (sorted t x (slotsOf t))) []) ≤ 20
-    go true = omega (arith, length-take nearestCount (sorted t x (slotsOf t)))
-    go false = omega arith
-
-listed : (t x : List ℕ) → take (nearestOf t x .n) (nearestOf t x .at) ≡ nearestSlots t x
-unfolding nearestOf
-listed t x = take-filled (nearestSlots t x) (few t x)
-
 -- a chain of refusals before an answer
 abbrev answered : Bool → Bool → Bool → Closest → Nearby
 answered a b c x = cond a (noneNear OutOfForm) (cond b (noneNear BreaksRules) (cond c (noneNear BadPeer) (record { closest = x; told = Fine })))
@@ -72,7 +59,7 @@ module _ (me : Peer) where
   unfolding getValueReply findNodeReply closerPeers
   queries =
       record {
-        host = λ t key e. ap (λ (c : Closest). take (c .n) (c .at)) (closest t key e) ∙ listed t (placeOf key);
+        host = λ t key e. ap (λ (c : Closest). take (c .n) (c .at)) (closest t key e) ∙ claims .told t (placeOf key);
         get = λ who m r t k e v. ap (λ (x : Message). x .closer) (keyed-is (m .key) (getValueReply t k (m .key)) r (sym (get-is who m t k e) ∙ v));
         find = λ who m r t k e v. ap (λ (x : Message). x .closer) (keyed-is (m .key) (findNodeReply me who t (m .key)) r (sym (find-is who m t k e) ∙ v));
       }

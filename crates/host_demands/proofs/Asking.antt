@@ -18,7 +18,8 @@ use Rattle.flat_lookup.specs.FlatLookup.{flatSize, lookupIn}
 use Rattle.host_calls.specs.declared.Nearby.{Nearby}
 use Rattle.host_calls.specs.Hosts.{ownId, seenOf, seenAfter, settleOf, settleAfter, removeOf, removeAfter, nearestTo, lookupStart, lookupReply, lookupFailure}
 use Rattle.host_numbers.specs.Numbers.{toldCode, viewNumbers, viewIn}
-use Rattle.host_answers.specs.Answers.{seenNumber, seenNumbers, settleNumber, removeNumber, nearestNumbers}
+use Rattle.contact_calls.specs.Calls.{seenNumber, settleNumber, removeNumber}
+use Rattle.host_answers.specs.Answers.{seenNumbers, nearestNumbers}
 use Rattle.host_steps.specs.Steps.{stepNumber, stepNumbers, stepMemory, startedMemory}
 use Rattle.host.specs.Host.{lent, tooShort, seenContacts, settleContacts, removeContacts}
 use Rattle.demands.specs.Box as box

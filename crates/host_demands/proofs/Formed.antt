@@ -31,7 +31,8 @@ use Rattle.node.specs.declared.Answer.{Answer}
 use Rattle.node.specs.declared.Answer.the-variants.{Reply, Heard, Refused, More}
 use Rattle.flat.specs.Flat.{peerSize, peerIn, saysYes}
 use Rattle.host_numbers.specs.Numbers.{toldCode}
-use Rattle.host_answers.specs.Answers.{seenNumber, settleNumber, removeNumber, putNumber, findNumber}
+use Rattle.contact_calls.specs.Calls.{seenNumber, settleNumber, removeNumber}
+use Rattle.host_answers.specs.Answers.{putNumber, findNumber}
 use Rattle.host_state.specs.State.{endingCode, answerNumber}
 use Rattle.host_steps.specs.Steps.{stepNumber}
 use Rattle.host.specs.Host.{lent, lentBoth}

@@ -28,7 +28,8 @@ use Rattle.node_promises.specs.Promises.{Unchanged}
 use Rattle.flat.specs.Flat.{peerSize, connSize, peerIn, connIn, saysYes}
 use Rattle.flat_lookup.specs.FlatLookup.{flatSize, lookupBytes}
 use Rattle.host_calls.specs.Hosts.{seenOf, seenAfter, settleOf, settleAfter, removeOf, removeAfter}
-use Rattle.host_answers.specs.Answers.{seenNumber, settleNumber, removeNumber, putNumber}
+use Rattle.contact_calls.specs.Calls.{seenNumber, settleNumber, removeNumber}
+use Rattle.host_answers.specs.Answers.{putNumber}
 use Rattle.host_state.specs.State.{answerNumber}
 use Rattle.host_steps.specs.Steps.{stepNumber, stepMemory, isRefused}
 use Rattle.host.specs.Host.{lent, lentBoth, tooShort}

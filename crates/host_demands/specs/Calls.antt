@@ -21,7 +21,8 @@ use Rattle.host_calls.specs.Hosts.{lookupStart, lookupReply, lookupFailure}
 use Rattle.flat.specs.Flat.{connSize, peerIn, connIn, saysYes}
 use Rattle.flat_lookup.specs.FlatLookup.{flatSize, lookupIn}
 use Rattle.host_numbers.specs.Numbers.{toldCode, viewNumbers, viewIn}
-use Rattle.host_answers.specs.Answers.{seenNumber, seenNumbers, settleNumber, removeNumber, nearestNumbers, putNumber, findNumber, findNumbers}
+use Rattle.contact_calls.specs.Calls.{seenNumber, settleNumber, removeNumber}
+use Rattle.host_answers.specs.Answers.{seenNumbers, nearestNumbers, putNumber, findNumber, findNumbers}
 use Rattle.host_state.specs.State.{endingCode, answerNumber, answerLength, sightNumber, sightSlot, receivedNumbers, receivedMemory, nothingTaken}
 use Rattle.host_steps.specs.Steps.{stepNumber, stepNumbers, stepMemory, startedMemory}
 use Rattle.host.specs.Host as host
