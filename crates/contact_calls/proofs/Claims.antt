@@ -34,7 +34,7 @@ use Rattle.contact_calls.specs.declared.RemoveOutcome.the-variants as re
 use Rattle.contact_calls.specs.Calls.{outcomeOf, seenCall, afterSeen, seenCallTable, settleCall, afterSettle, settleCallTable, removeCall, afterRemove, removeCallTable, seenNumber, settleNumber, removeNumber}
 use Rattle.contact_calls.specs.Claims.{Admits, Neither13Nor14, SeenDoes, SettleDoes, RemoveDoes, Claims}
 use Rattle.contact_calls.proofs.Outcomes.{seen-table, settle-table, remove-table}
-use Rattle.contact_calls.proofs.Theorems.{cleared-in-form, fair, seen-call-keeps, settle-call-keeps, remove-call-keeps}
+use Rattle.contact_calls.proofs.Theorems.{cleared-in-form, fair, seen-call-keeps, settle-call-keeps, removal-keeps}
 
 -- ---- the number of a seen
 module _ (t ours id : List ℕ) (client : Bool) where
@@ -376,5 +376,5 @@ claims = record {
   cleared = cleared-in-form;
   seenForm = seen-call-keeps;
   settleForm = settle-call-keeps;
-  removeForm = remove-call-keeps;
+  removeForm = removal-keeps;
 }

@@ -62,6 +62,19 @@ unfolding removeCallTable afterRemove
 remove-refused t ours id r e = ap (afterRemove t ours (placeOf id)) e
 
 -- ---- calls keep the form
+-- remove does so whatever ours is
+pub removal-keeps : (t ours id : List ℕ) → inForm t ours ≡ true → inForm (removeCallTable t ours id) ours ≡ true
+unfolding removeCallTable removeCall afterRemove
+removal-keeps t ours id y =
+    step (not (inForm t ours)) _ _ (λ f. y) (λ f. step (badPeer ours id) _ _ (λ g. y) (λ g. step (not (held t (placeOf id))) _ _ (λ h. y) (λ h. taken (not-false _ h))))
+  where
+    step : (c : Bool) (r s : RemoveOutcome) → (c ≡ true → inForm (afterRemove t ours (placeOf id) r) ours ≡ true) → (c ≡ false → inForm (afterRemove t ours (placeOf id) s) ours ≡ true)
+        → inForm (afterRemove t ours (placeOf id) (cond c r s)) ours ≡ true
+    step = cond-ind (λ (r : RemoveOutcome). inForm (afterRemove t ours (placeOf id) r) ours ≡ true)
+
+    taken : held t (placeOf id) ≡ true → inForm (afterRemove t ours (placeOf id) remove.Gone) ours ≡ true
+    taken h = subst (λ (x : List ℕ). inForm x ours ≡ true) (remove-table t ours (placeOf id) h) (remove-keeps t ours (placeOf id) y)
+
 module _ (t ours : List ℕ) (l : length ours ≡ 32) (b : Bytes ours) (y : inForm t ours ≡ true) where
   pub seen-call-keeps : (id : List ℕ) (client : Bool) (addresses : List ℕ) → inForm (seenCallTable t ours id client addresses) ours ≡ true
   unfolding seenCallTable seenCall afterSeen
@@ -100,13 +113,4 @@ module _ (t ours : List ℕ) (l : length ours ≡ 32) (b : Bytes ours) (y : inFo
           (settle-keeps t ours (placeOf head) (peerOf id (placeOf id) addresses) answered (fair ours id addresses l b g) y)
 
   pub remove-call-keeps : (id : List ℕ) → inForm (removeCallTable t ours id) ours ≡ true
-  unfolding removeCallTable removeCall afterRemove
-  remove-call-keeps id =
-      step (not (inForm t ours)) _ _ (λ f. y) (λ f. step (badPeer ours id) _ _ (λ g. y) (λ g. step (not (held t (placeOf id))) _ _ (λ h. y) (λ h. taken (not-false _ h))))
-    where
-      step : (c : Bool) (r s : RemoveOutcome) → (c ≡ true → inForm (afterRemove t ours (placeOf id) r) ours ≡ true) → (c ≡ false → inForm (afterRemove t ours (placeOf id) s) ours ≡ true)
-          → inForm (afterRemove t ours (placeOf id) (cond c r s)) ours ≡ true
-      step = cond-ind (λ (r : RemoveOutcome). inForm (afterRemove t ours (placeOf id) r) ours ≡ true)
-
-      taken : held t (placeOf id) ≡ true → inForm (afterRemove t ours (placeOf id) remove.Gone) ours ≡ true
-      taken h = subst (λ (x : List ℕ). inForm x ours ≡ true) (remove-table t ours (placeOf id) h) (remove-keeps t ours (placeOf id) y)
+  remove-call-keeps id = removal-keeps t ours id y

@@ -95,7 +95,7 @@ pub record Claims : Type 0 where
   pub settleRefused : (t ours head id : List ℕ) (client : Bool) (addresses : List ℕ) (answered : Bool) → settleNumber (settleCall t ours head id client answered) < 64
       → settleCallTable t ours head id client addresses answered ≡ t
   pub removeRefused : (t ours id : List ℕ) → removeNumber (removeCall t ours id) < 64 → removeCallTable t ours id ≡ t
-  -- each answer does what it says, where ours is a place
+  -- each answer does what it says; those of seen and settle, where ours is a place
   pub seenDoes : (t ours id : List ℕ) (client : Bool) (addresses : List ℕ) → length ours ≡ 32 → Bytes ours
       → SeenDoes t ours (peerOf id (placeOf id) addresses) (seenCall t ours id client) (seenCallTable t ours id client addresses)
   pub settleDoes : (t ours head id : List ℕ) (client : Bool) (addresses : List ℕ) (answered : Bool) → length ours ≡ 32 → Bytes ours
@@ -107,10 +107,10 @@ pub record Claims : Type 0 where
   -- "Freed slots are used again": after a remove nobody gets 14
   pub reused : (t ours id other : List ℕ) (client : Bool) → removeNumber (removeCall t ours id) ≡ 64
       → seenNumber (seenCall (removeCallTable t ours id) ours other client) ≡ 14 → ⊥
-  -- "memory once cleared" is in form, and each call keeps it so
+  -- "memory once cleared" is in form, and each call keeps it so; seen and settle, where ours is a place
   pub cleared : (t ours : List ℕ) → ((k : ℕ) → getD t k 0 ≡ 0) → inForm t ours ≡ true
   pub seenForm : (t ours : List ℕ) → length ours ≡ 32 → Bytes ours → inForm t ours ≡ true
       → (id : List ℕ) (client : Bool) (addresses : List ℕ) → inForm (seenCallTable t ours id client addresses) ours ≡ true
   pub settleForm : (t ours : List ℕ) → length ours ≡ 32 → Bytes ours → inForm t ours ≡ true
       → (head id : List ℕ) (client : Bool) (addresses : List ℕ) (answered : Bool) → inForm (settleCallTable t ours head id client addresses answered) ours ≡ true
-  pub removeForm : (t ours : List ℕ) → length ours ≡ 32 → Bytes ours → inForm t ours ≡ true → (id : List ℕ) → inForm (removeCallTable t ours id) ours ≡ true
+  pub removeForm : (t ours id : List ℕ) → inForm t ours ≡ true → inForm (removeCallTable t ours id) ours ≡ true

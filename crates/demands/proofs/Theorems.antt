@@ -1,15 +1,12 @@
 -- The three demands, proved of every box that a start gave.
-use Prim.Native.Nat.{ℕ}
-use mathlib.Core.List.{List}
 use Rattle.place.specs.Place.{placeOf}
 use Rattle.place.proofs.Places.{length-placeOf}
 use Rattle.peer.specs.declared.Peer.{Peer}
 use Rattle.contacts.proofs.TwentyNearest.{nearest-are}
 use Rattle.records_history.proofs.Holding.{held-is-found, judged-first}
 use Rattle.records_history.proofs.Blind.{form-is-blind}
-use Rattle.message.specs.View.{fieldsOf}
 use Rattle.message.proofs.Occurrences.{split-is-merged}
-use Rattle.message.proofs.Views.{long-read, malformed-read, unknown-read, whole-read}
+use Rattle.message.proofs.Claims.{reads-well}
 use Rattle.round_trip.proofs.RoundTrip.{round-trip}
 use Rattle.lookup_runs.proofs.Theorems.{claims}
 use Rattle.host_calls.specs.Hosts.{ownId, lookupStart}
@@ -18,7 +15,7 @@ use Rattle.cutting.proofs.Claims.{several, several-plainly, split, one-receive}
 use Rattle.node_promises.proofs.Doing.{message-done}
 use Rattle.framing_back.proofs.Back.{frames-read-back, frames-arrive}
 use Rattle.demands.specs.Box.{Box, Who, Turn, Ask, Fits, box, Own, Allowed, Good}
-use Rattle.demands.specs.Demands.{First, ReadsWell, Second, Third, Demands}
+use Rattle.demands.specs.Demands.{First, Second, Third, Demands}
 use Rattle.demands.proofs.Sound.{sound}
 use Rattle.demands.proofs.Blunt.{blunt}
 use Rattle.demands.proofs.Leaving.{refused-leaves}
@@ -31,15 +28,6 @@ use Rattle.demands.proofs.Accepting.{made, stays, lasts, outranked-by-n
 
 pub first : (me : Peer) → Own me → First me
 first me w = record { refused = refused-leaves me; formed = never-out-of-form me w }
-
-reads-well : (body : List ℕ) → ReadsWell body
-reads-well body =
-    record {
-      long = long-read body;
-      malformed = malformed-read body;
-      unknown = λ h m e k. unknown-read body m h e k;
-      whole = λ h m e k. let r = whole-read body m h e k in (fieldsOf body, r .0, r .1);
-    }
 
 pub second : (me : Peer) → Own me → Second me
 unfolding lookupStart

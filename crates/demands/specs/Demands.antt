@@ -4,11 +4,11 @@ use Prim.Native.Nat.{ℕ, _+_, _≤_, _<_}
 use mathlib.Core.Path.{_≡_}
 use mathlib.Core.Bool.{Bool, true, false}
 use mathlib.Core.List.{List, [], _∷_, _++_, map}
-use mathlib.Core.Option.{none, some}
+use mathlib.Core.Option.{some}
 use lib.ListN.{length, take, drop}
 use Rattle.octets.specs.Octets.{part}
 use Rattle.refusal.specs.declared.Refusal.{Refusal}
-use Rattle.refusal.specs.declared.Refusal.the-variants.{OutOfForm, TooLong, Malformed, UnknownType}
+use Rattle.refusal.specs.declared.Refusal.the-variants.{OutOfForm}
 use Rattle.place.specs.Place.{placeOf}
 use Rattle.peer.specs.declared.Peer.{Peer}
 use Rattle.contacts.specs.Table.{slot}
@@ -25,13 +25,11 @@ use Rattle.records.specs.declared.Found.the-variants as findTold
 use Rattle.records.specs.Store.{putAnswer, putAfter, findOf}
 use Rattle.records_history.specs.History.{Offer, after, cleared, Accepted, Unbeaten}
 use Rattle.records_history.specs.Claims.{FormIsBlind, HeldIsFound, JudgedFirst}
-use Rattle.message.specs.Limits.{mostBody, mostKind, leastReply}
+use Rattle.message.specs.Limits.{mostBody, leastReply}
 use Rattle.message.specs.Message.{Record, Message, messageOf, decode, encode, frame}
-use Rattle.pieces.specs.Writable.{writable}
-use Rattle.message.specs.Claims.{SplitIsMerged}
-use Rattle.message.specs.View.{readingOf, fieldsOf, meant}
-use Rattle.message.specs.declared.Fields.{Fields}
-use Rattle.message.specs.declared.Reading.the-variants as reading
+use Rattle.message.specs.Claims.{ReadsWell, SplitIsMerged}
+use Rattle.message.specs.View.{fieldsOf}
+use Rattle.round_trip.specs.Claims.{RoundTrip}
 use Rattle.writer.specs.declared.Written.the-variants as writer
 use Rattle.writer.specs.Writer.{answerOf, outAfter}
 use Rattle.lookup.specs.declared.Lookup.{Lookup}
@@ -100,15 +98,7 @@ pub record First (me : Peer) : Type 0 where
   pub refused : RefusedLeaves me
   pub formed : NeverOutOfForm me
 
--- ==== 2. "Reading yields the fields the bytes carry": over 16,384 bytes give 4; of the rest what doesn't decode gives 5, what decodes to a type above 5 gives 6,
--- and all else is read, with fields that mean the message it decodes to. One of the four is so of every body, and no two
-pub record ReadsWell (body : List ℕ) : Type 0 where
-  pub long : mostBody < length body → readingOf body ≡ reading.Refused TooLong
-  pub malformed : length body ≤ mostBody → decode body ≡ none → readingOf body ≡ reading.Refused Malformed
-  pub unknown : length body ≤ mostBody → (m : Message) → decode body ≡ some m → mostKind < m .kind → readingOf body ≡ reading.Refused UnknownType
-  pub whole : length body ≤ mostBody → (m : Message) → decode body ≡ some m → m .kind ≤ mostKind
-      → (f : Fields) × (readingOf body ≡ reading.Whole f) × (meant body f ≡ m)
-
+-- ==== 2. The words of what is read and written
 -- "what is written": after a `write` of m that answers n, the buffer y has the message with its prefix, in n bytes, and its other bytes as they were
 pub record Writes (m : Message) (y : List ℕ) (n : ℕ) : Type 0 where
   pub size : n ≡ length (frame (encode m))
@@ -150,11 +140,12 @@ pub record Begun (s : World Who Box Ask) : Type 0 where
   pub buffers : (i : ℕ) → mostBody ≤ length (s .lines i .buffer)
 
 pub record Second (me : Peer) : Type 0 where
+  -- "Reading yields the fields the bytes carry"
   pub reads : (body : List ℕ) → ReadsWell body
   -- "Demand 2 reads by the merged rule" (document 02, iv): of a record in several fields, the last key and the last value of all
   pub split : SplitIsMerged
   -- "what is written reads back as the same fields"
-  pub writes : (m : Message) → writable m ≡ true → decode (encode m) ≡ some m
+  pub writes : RoundTrip
   pub written : (y : List ℕ) (m : Message) (n : ℕ) → answerOf y m ≡ writer.Done n → Writes m y n
   -- with its length prefix: whatever follows, it is a whole message of that body; and handed over in any pieces, that message arrives
   pub frames : FramesReadBack
