@@ -13,4 +13,5 @@ pub mod Beginning
 pub mod Queries
 pub mod Hearing
 pub mod Accepting
+pub mod Traced
 pub mod Theorems

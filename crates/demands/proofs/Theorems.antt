@@ -13,6 +13,7 @@ use Rattle.host_calls.specs.Hosts.{ownId, lookupStart}
 use Rattle.answer_promises.proofs.Promised.{replies-read-back, answered-by-fields, sent-as-typed, held-is-served}
 use Rattle.cutting.proofs.Claims.{several, several-plainly, split, one-receive}
 use Rattle.node_promises.proofs.Doing.{message-done}
+use Rattle.framing_back.proofs.Varints.{prefix-is-varint}
 use Rattle.framing_back.proofs.Back.{frames-read-back, frames-arrive}
 use Rattle.demands.specs.Box.{Box, Who, Turn, Ask, Fits, box, Own, Allowed, Good}
 use Rattle.demands.specs.Demands.{First, Second, Third, Demands}
@@ -25,6 +26,7 @@ use Rattle.demands.proofs.Never.{never-out-of-form}
 use Rattle.demands.proofs.Queries.{queries}
 use Rattle.demands.proofs.Hearing.{written, box-to-box}
 use Rattle.demands.proofs.Accepting.{made, stays, lasts, outranked-by-none}
+use Rattle.demands.proofs.Traced.{lookups-are-runs}
 
 pub first : (me : Peer) → Own me → First me
 first me w = record { refused = refused-leaves me; formed = never-out-of-form me w }
@@ -37,6 +39,7 @@ second me w =
       split = split-is-merged;
       writes = round-trip;
       written = written;
+      prefix = prefix-is-varint;
       frames = frames-read-back;
       arrives = frames-arrive Who Box Turn Ask (box me) (Allowed me) (Good me) Fits (sound me w);
       replies = λ who h. replies-read-back me who (w .roomed) h;
@@ -47,6 +50,7 @@ second me w =
       nearest = λ t key. nearest-are t (placeOf key) (length-placeOf key);
       hashed = λ s b cs f. placed me w s (begun-known me s b) cs f;
       lookup = λ t key limit s. claims t (ownId me) (me .place) key limit s;
+      lookups = lookups-are-runs me;
     }
 
 pub third : (me : Peer) → Own me → Third me

@@ -42,7 +42,7 @@ use Rattle.stream.specs.declared.Ending.the-variants as ends
 use Rattle.stream.specs.Stream.{fresh, isShut, receiveOf as framedOf}
 use Rattle.cutting.specs.World.{putBack, Line, World, Call, hand, asks, given, joined, answered, call, calls, Fine, Ready, AllFit}
 use Rattle.cutting.specs.Plain.{ReadOut, plainly, unread}
-use Rattle.framing_back.specs.Claims.{FramesReadBack, hands, Arrives}
+use Rattle.framing_back.specs.Claims.{PrefixIsVarint, FramesReadBack, hands, Arrives}
 use Rattle.replies.specs.declared.Answered.the-variants as told
 use Rattle.replies.specs.Replies.{putValue, getValue, findNode, lastEntry}
 use Rattle.replies.specs.Verdicts.{replies}
@@ -55,6 +55,7 @@ use Rattle.connections.specs.Box.{startOf, openOf, endConn}
 use Rattle.node.specs.Node.{Out, receiveOf}
 use Rattle.host_calls.specs.Hosts.{seenOf, settleOf, removeOf, nearestTo, ownId, lookupStart}
 use Rattle.node_promises.specs.Promises.{Refuses, CallsRefused, ValuesRefused, MessageDone}
+use Rattle.demands.specs.Lookups.{LookupsAreRuns}
 use Rattle.demands.specs.Box.{event, heard, Box, Who, connOf, bodyIn, Turn, Fits, Ask, put, box, Own, Allowed, Good}
 
 -- ==== 1. "Whatever bytes a peer sends, in whatever amount, the box keeps to its memory and gives an answer. Every entry point takes any numbers and
@@ -147,7 +148,9 @@ pub record Second (me : Peer) : Type 0 where
   -- "what is written reads back as the same fields"
   pub writes : RoundTrip
   pub written : (y : List ℕ) (m : Message) (n : ℕ) → answerOf y m ≡ writer.Done n → Writes m y n
-  -- with its length prefix: whatever follows, it is a whole message of that body; and handed over in any pieces, that message arrives
+  -- with its length prefix, which is a varint of the same wire format: whatever follows, it is a whole message of that body; and handed over in any pieces, that
+  -- message arrives
+  pub prefix : PrefixIsVarint
   pub frames : FramesReadBack
   pub arrives : (s : World Who Box Ask) → Ready (Allowed me) (Good me) s → (i : ℕ) → s .lines i .framing ≡ fresh → (body : List ℕ) → length body ≤ mostBody
       → (ps : List (List ℕ)) → joined ps ≡ frame body → Arrives (box me) i body s (calls (box me) s (hands i ps))
@@ -168,6 +171,8 @@ pub record Second (me : Peer) : Type 0 where
   -- "A lookup asks nobody twice. It reports complete only when the twenty nearest peers heard of that haven't failed, or all if fewer, have answered, and
   -- no peer was turned away for want of room": over the history of any calls since its start
   pub lookup : (t key : List ℕ) (limit : ℕ) → Started t (ownId me) (me .place) key limit → Claims step t key limit (lookupStart me t key limit)
+  -- and every lookup of a world is such a run, whatever else is called between
+  pub lookups : LookupsAreRuns me
 
 -- ==== 3. The words of its last sentence, which speaks of records
 -- what was offered to the store between two worlds of a run, typed or sent, in order

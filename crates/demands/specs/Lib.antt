@@ -1,2 +1,3 @@
 pub mod Box
+pub mod Lookups
 pub mod Demands

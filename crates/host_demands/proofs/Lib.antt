@@ -16,4 +16,5 @@ pub mod Exported
 pub mod Refused
 pub mod Formed
 pub mod Beginning
+pub mod Traced
 pub mod Theorems
