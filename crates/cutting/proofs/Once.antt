@@ -19,7 +19,7 @@ step-by : (f : Framing) (m : List ℕ) (b : ℕ) (a : Answer) → stepOf f b .an
 unfolding runOf
 step-by f m b a e x = ap (λ (y : Answer). after y (stepOf f b .framing) (storeOf f m b) (runOf (stepOf f b .framing) (storeOf f m b) x)) e
 
-run-taken : (bs : List ℕ) (f : Framing) (m : List ℕ) → runOf f m (take (runOf f m bs .got .taken) bs) ≡ runOf f m bs
+pub run-taken : (bs : List ℕ) (f : Framing) (m : List ℕ) → runOf f m (take (runOf f m bs .got .taken) bs) ≡ runOf f m bs
 unfolding runOf
 run-taken [] f m = refl
 run-taken (b ∷ bs) f m = go (stepOf f b .answer) refl (run-taken bs (stepOf f b .framing) (storeOf f m b))

@@ -27,7 +27,7 @@ use Rattle.node.specs.Node.{receiveOf}
 use Rattle.host_calls.specs.Hosts.{ownId, lookupStart, lookupReply, lookupFailure}
 use Rattle.demands.specs.Box as box
 use Rattle.demands.specs.Box.{Box, Who, connOf, bodyIn, offersIn, Entry, Turn, Ask, noted, receiving, turning, asking}
-use Rattle.demands.specs.Lookups.{Trace, starts, goes, neither, traceWith, partOf, traced, startIn, LookupsAreRuns}
+use Rattle.demands.specs.Lookups.{Trace, starts, goes, neither, traceWith, partOf, traced, startIn, IsRun, LookupsAreRuns}
 
 -- ---- the log only grows
 abbrev Longer : List Entry → List Entry → Type 0
@@ -118,10 +118,31 @@ unfolding outcome history
 history-more [] c s = refl
 history-more (d ∷ cs) c s = ap (λ (l : List Step). step d (s .lookup) ∷ l) (history-more cs c (step d (s .lookup)))
 
-module _ (me : Peer) (j : ℕ) where
-  abbrev tells : Step → Entry
-  tells g = box.called (box.stepGave g)
+-- the outcome is the last of the history
+outcome-last : (cs : List LookupCall) (s : Step)
+    → (before : List Step) × (s ∷ map (λ (e : Event). e .gave) (history step s cs) ≡ before ++ (outcome step s cs ∷ []))
+unfolding outcome history
+outcome-last [] s = ([], refl)
+outcome-last (c ∷ cs) s =
+    let r = outcome-last cs (step c (s .lookup)) in
+    (s ∷ r .0, ap (λ (l : List Step). s ∷ l) (r .1))
 
+pub is-run : {E : Type 0} (me : Peer) (tells : Step → E) (x : Trace E) (l : Lookup) → l ≡ outcome step (startIn me x) (x .calls) .lookup
+    → x .told ≡ map tells (startIn me x ∷ map (λ (e : Event). e .gave) (history step (startIn me x) (x .calls))) → IsRun me tells x l
+unfolding lookupStart
+is-run me tells x l e t =
+    let r = outcome-last (x .calls) (startIn me x) in
+    record {
+      lookup = e;
+      told = t;
+      last = (map tells (r .0), t ∙ ap (map tells) (r .1) ∙ map-append tells (r .0) (outcome step (startIn me x) (x .calls) ∷ []));
+      claims = λ b a. claims (x .table) (ownId me) (me .place) (x .key) (x .limit) (record { bytes = b; taken = a });
+    }
+
+abbrev tells : Step → Entry
+tells g = box.called (box.stepGave g)
+
+module _ (me : Peer) (j : ℕ) where
   -- what the trace says of the lookup, if there is one
   abbrev Agrees : Option (Trace Entry) → Lookup → Type 0
   Agrees none l = Unit {0}
@@ -199,12 +220,11 @@ module _ (me : Peer) (j : ℕ) where
       (call-agrees s c x h)
 
 pub lookups-are-runs : (me : Peer) → LookupsAreRuns me
-unfolding lookupStart
 lookups-are-runs me =
     record {
       runs = λ s cs j x e.
           let h : Agrees me j (some x) (calls (box.box me) s cs .shared .state .lookups j) =
           subst (λ (y : Option (Trace Entry)). Agrees me j y (calls (box.box me) s cs .shared .state .lookups j)) e (calls-agree me j cs s none tt) in
-          record { lookup = h .0; told = h .1; claims = λ b a. claims (x .table) (ownId me) (me .place) (x .key) (x .limit) (record { bytes = b; taken = a }) };
+          is-run me tells x (calls (box.box me) s cs .shared .state .lookups j) (h .0) (h .1);
       grows = λ s cs. more-since (s .shared .state .log) (calls (box.box me) s cs .shared .state .log) (calls-more me cs s);
     }

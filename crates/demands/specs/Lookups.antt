@@ -79,6 +79,8 @@ pub record IsRun {E : Type 0} (me : Peer) (tells : Step → E) (x : Trace E) (l 
   pub lookup : l ≡ outcome step (startIn me x) (x .calls) .lookup
   -- what its start gave was told, and then each step of the history
   pub told : x .told ≡ map tells (startIn me x ∷ map (λ (e : Event). e .gave) (history step (startIn me x) (x .calls)))
+  -- the last told is the outcome
+  pub last : (before : List E) × (x .told ≡ before ++ (tells (outcome step (startIn me x) (x .calls)) ∷ []))
   -- "A lookup asks nobody twice. It reports complete only when ..": of that history, unless its start was refused. The contacts are memory, so bytes
   pub claims : Bytes (x .table) → accepted (startIn me x .answer) ≡ true → Claims step (x .table) (x .key) (x .limit) (startIn me x)
 

@@ -216,7 +216,7 @@ module _ (me : List ℕ) (S : Started me) (m : Memory) (h : History) (len : Lent
       }
 
   -- with the view of the message that was heard
-  view-back : (f : Fields) → viewIn (viewNumbers f) ≡ f
+  pub view-back : (f : Fields) → viewIn (viewNumbers f) ≡ f
   view-back f = λ z. record { kind = f .kind; key = f .key; held = record { there = yes (f .held .there) z; key = f .held .key; value = f .held .value } }
     where
       yes : (b : Bool) → saysYes (cond b 1 0) ≡ b

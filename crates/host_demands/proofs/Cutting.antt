@@ -68,6 +68,7 @@ module _ (me : List ℕ) (S : Started me) (m : Memory) (h : History) (len : Lent
             buffers = λ i. same-read z .lines i .buffer;
             lookups = λ j. same-lookup j z;
             inbox = same-read z .shared .state .inbox;
+            taken = λ i. same-read z .lines i .taken;
           };
           sees = cancel (map entrySeen (h .log)) (seesAll me m cs) (seesAll me m ds)
               (sym (first .log) ∙ ap (λ (w : World Who Box Ask). map entrySeen (w .shared .state .log)) same-world ∙ second .log);

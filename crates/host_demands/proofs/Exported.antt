@@ -1,6 +1,6 @@
 -- What the contracts of crate `host` say of a call is what `returns`, `leaves` and `writes` say. Assumes nothing.
-use Prim.Native.Nat.{ℕ, _≤_}
-use mathlib.Core.Path.{_≡_, sym, ap, _∙_}
+use Prim.Native.Nat.{ℕ, _+_, _≤_}
+use mathlib.Core.Path.{_≡_, sym, ap, _∙_, subst}
 use mathlib.Core.Bool.{Bool, true, false, cond}
 use mathlib.Core.List.{List, [], _∷_, _++_}
 use native.Mathlib.Omega.{arith}
@@ -9,7 +9,8 @@ use lib.Seq.{sets, sets-eq}
 use lib.Dec.{ltb}
 use Rattle.octets.proofs.Stores.{getD-sets-before}
 use Rattle.cutting.specs.World.{setAt}
-use Rattle.message.specs.View.{fieldsOf}
+use Rattle.message.specs.View.{fieldsOf, readingOf}
+use Rattle.message.specs.declared.Reading.the-variants.{Whole}
 use Rattle.message.specs.declared.Fields.{Fields}
 use Rattle.node.specs.declared.Answer.{Answer}
 use Rattle.node.specs.declared.Answer.the-variants.{Reply, Heard, Refused, More}
@@ -19,7 +20,7 @@ use Rattle.flat.specs.Flat.{peerSize, connSize, peerIn, connIn}
 use Rattle.host_numbers.specs.Numbers.{viewNumbers}
 use Rattle.host_state.specs.State.{answerNumber, answerLength, answerView, sightNumber, sightSlot, receivedNumbers, nothingTaken}
 use Rattle.host.specs.Host.{lent, lentBoth}
-use Rattle.host_demands.specs.Calls.{Memory, withLookup, kept, lengthBy, receivedBy}
+use Rattle.host_demands.specs.Calls.{Memory, withLookup, kept, takenBy, lengthBy, receivedBy}
 use Rattle.host_demands.specs.Hosted.{AsExported}
 use Rattle.host_demands.proofs.Numbers.{number-small}
 use Rattle.host_demands.proofs.Messages.{ViewFits, receive-view}
@@ -47,25 +48,28 @@ told-numbers me conn out g h = go (ltb (length me) peerSize) (ltb (length conn) 
 view-there : (out : List ℕ) (a b c d : ℕ) (f : Fields) → 12 ≤ length out → take 8 (drop 4 (sets out 0 ((a ∷ b ∷ c ∷ d ∷ []) ++ viewNumbers f))) ≡ viewNumbers f
 view-there out a b c d f h = ap (λ (x : List ℕ). take 8 (drop 4 x)) (sets-eq ((a ∷ b ∷ c ∷ d ∷ []) ++ viewNumbers f) out 0 (omega (arith, h)))
 
-told-view : (out buffer : List ℕ) (n : ℕ) (s : Sight) (x : Answer) → ViewFits x buffer → answerNumber x ≡ 66 → 12 ≤ length out
-    → take 8 (drop 4 (sets out 0 ((n ∷ answerLength x ∷ sightNumber s ∷ sightSlot s ∷ []) ++ answerView x))) ≡ viewNumbers (fieldsOf (take (answerLength x) buffer))
-told-view out buffer n s (Reply k) v e h = absurd (omega (arith, e))
-told-view out buffer n s (Heard k f) v e h = view-there out n k (sightNumber s) (sightSlot s) f h ∙ ap viewNumbers v
-told-view out buffer n s (Refused r) v e h = absurd (omega (arith, e, number-small r))
-told-view out buffer n s More v e h = absurd (omega (arith, e))
+told-view : (out buffer : List ℕ) (n : ℕ) (s : Sight) (x : Answer) → ViewFits x buffer → answerNumber x ≡ 66
+    → let body = take (answerLength x) buffer in
+    (readingOf body ≡ Whole (fieldsOf body)) × (12 ≤ length out → take 8 (drop 4 (sets out 0 ((n ∷ answerLength x ∷ sightNumber s ∷ sightSlot s ∷ []) ++ answerView x))) ≡ viewNumbers (fieldsOf body))
+told-view out buffer n s (Reply k) v e = absurd (omega (arith, e))
+told-view out buffer n s (Heard k f) v e = (v .0 ∙ ap Whole (v .1), (λ h. view-there out n k (sightNumber s) (sightSlot s) f h ∙ ap viewNumbers (v .1)))
+told-view out buffer n s (Refused r) v e = absurd (omega (arith, e, number-small r))
+told-view out buffer n s More v e = absurd (omega (arith, e))
 
-view-told : (me conn m out buffer : List ℕ) (g : Received) → ViewFits (g .answer) buffer → lentBoth me conn 0 (answerNumber (g .answer)) ≡ 66 → 12 ≤ length out
-    → take 8 (drop 4 (lentBoth me conn (nothingTaken out) (receivedNumbers out g)))
-    ≡ viewNumbers (fieldsOf (take (lentBoth me conn 0 (answerLength (g .answer))) (lentBoth me conn m buffer)))
+view-told : (me conn m out buffer : List ℕ) (g : Received) → ViewFits (g .answer) buffer → lentBoth me conn 0 (answerNumber (g .answer)) ≡ 66
+    → let body = take (lentBoth me conn 0 (answerLength (g .answer))) (lentBoth me conn m buffer) in
+    (readingOf body ≡ Whole (fieldsOf body)) × (12 ≤ length out → take 8 (drop 4 (lentBoth me conn (nothingTaken out) (receivedNumbers out g)))
+    ≡ viewNumbers (fieldsOf body))
 unfolding lent
-view-told me conn m out buffer g v e h = go (ltb (length me) peerSize) (ltb (length conn) connSize) e
+view-told me conn m out buffer g v e = go (ltb (length me) peerSize) (ltb (length conn) connSize) e
   where
     go : (p q : Bool) → cond p 0 (cond q 0 (answerNumber (g .answer))) ≡ 66
-        → take 8 (drop 4 (cond p (nothingTaken out) (cond q (nothingTaken out) (receivedNumbers out g))))
-        ≡ viewNumbers (fieldsOf (take (cond p 0 (cond q 0 (answerLength (g .answer)))) (cond p m (cond q m buffer))))
+        → let body = take (cond p 0 (cond q 0 (answerLength (g .answer)))) (cond p m (cond q m buffer)) in
+        (readingOf body ≡ Whole (fieldsOf body)) × (12 ≤ length out → take 8 (drop 4 (cond p (nothingTaken out) (cond q (nothingTaken out) (receivedNumbers out g))))
+        ≡ viewNumbers (fieldsOf body))
     go true q z = absurd (omega (arith, z))
     go false true z = absurd (omega (arith, z))
-    go false false z = told-view out buffer (g .taken) (g .sight) (g .answer) v z h
+    go false false z = told-view out buffer (g .taken) (g .sight) (g .answer) v z
 
 pub as-exported : (me : List ℕ) (m : Memory) → AsExported me m
 unfolding lent
@@ -81,6 +85,7 @@ as-exported me m =
           buffers = setAt (m .buffers) i (c .buffer z);
           lookups = m .lookups;
           inbox = kept m i (c .code z) (take (lengthBy me m i piece) (c .buffer z));
+          taken = setAt (m .taken) i (m .taken i + takenBy me m i piece);
         }),
         c .numbers,
         (λ h. (
@@ -88,11 +93,13 @@ as-exported me m =
           ap (λ (x : List ℕ). getD x 1 0) (c .numbers) ∙ told-numbers me (m .conns i) out (receivedBy me m i piece .got) h .1,
         )),
       );
-      view = λ i piece out r conn′ buffer′ t′ k′ y′ out′ c q n.
-          ap (λ (x : List ℕ). take 8 (drop 4 x)) (c .numbers)
-          ∙ view-told me (m .conns i) (m .buffers i) out (receivedBy me m i piece .buffer) (receivedBy me m i piece .got)
-          (receive-view (peerIn me) (connIn (m .conns i)) (m .buffers i) piece (m .contacts) (m .records) (m .reply)) (sym (c .code) ∙ q) n
-          ∙ ap (λ (x : List ℕ). viewNumbers (fieldsOf (take (lengthBy me m i piece) x))) (sym (c .buffer));
+      view = λ i piece out r conn′ buffer′ t′ k′ y′ out′ c q.
+          let n : ℕ = lengthBy me m i piece in
+          let v = view-told me (m .conns i) (m .buffers i) out (receivedBy me m i piece .buffer) (receivedBy me m i piece .got)
+          (receive-view (peerIn me) (connIn (m .conns i)) (m .buffers i) piece (m .contacts) (m .records) (m .reply)) (sym (c .code) ∙ q) in (
+            subst (λ (b : List ℕ). readingOf (take n b) ≡ Whole (fieldsOf (take n b))) (sym (c .buffer)) (v .0),
+            (λ l. ap (λ (x : List ℕ). take 8 (drop 4 x)) (c .numbers) ∙ v .1 l ∙ ap (λ (x : List ℕ). viewNumbers (fieldsOf (take n x))) (sym (c .buffer))),
+          );
       start = λ j key limit out r l′ out′ c. (c .code, ap (withLookup m j) (c .memory), c .numbers);
       next = λ j out r l′ out′ c. (c .code, ap (withLookup m j) (c .memory), c .numbers);
       reply = λ j id body view out r l′ out′ c. (c .code, ap (withLookup m j) (c .memory), c .numbers);

@@ -1,10 +1,11 @@
 -- On memory that stands for a world that is ready, no call gives 0. Assumes nothing.
 use Prim.Native.Nat.{ℕ}
 use mathlib.Core.Path.{_≡_, refl, sym, ap, _∙_, subst}
-use mathlib.Core.Bool.{Bool, not, _||_}
+use mathlib.Core.Bool.{Bool, false, not, _||_, true≢false}
 use mathlib.Core.List.{List}
 use native.Mathlib.Omega.{arith}
 use Rattle.octets.proofs.Bools.{cond-ind}
+use Rattle.refusal.specs.declared.Refusal.{Refusal}
 use Rattle.refusal.specs.declared.Refusal.the-variants.{OutOfForm}
 use Rattle.peer.specs.declared.Peer.{Peer}
 use Rattle.peer.specs.Peers.{badPeer}
@@ -18,8 +19,13 @@ use Rattle.records.specs.declared.Answer as stored
 use Rattle.records.specs.declared.Answer.the-variants as put
 use Rattle.records.specs.declared.Found.{Found}
 use Rattle.records.specs.declared.Found.the-variants as found
+use Rattle.message.specs.declared.Reading.the-variants as reading
+use Rattle.lookup.specs.declared.Lookup.{Lookup}
+use Rattle.lookup.specs.declared.Step.{Step}
 use Rattle.lookup.specs.declared.Answer as lookup
 use Rattle.lookup.specs.declared.Answer.the-variants as steps
+use Rattle.lookup_runs.specs.Runs.{accepted, Call, goNext, goReply, goFail, step, outcome}
+use Rattle.lookup_runs.specs.Claims.{Viewed}
 use Rattle.stream.specs.declared.Ending.{Ending}
 use Rattle.stream.specs.declared.Ending.the-variants as ending
 use Rattle.cutting.specs.World.{World}
@@ -30,7 +36,9 @@ use Rattle.connections.specs.Box.{ownFits, openOf}
 use Rattle.node.specs.declared.Answer.{Answer}
 use Rattle.node.specs.declared.Answer.the-variants.{Reply, Heard, Refused, More}
 use Rattle.flat.specs.Flat.{peerSize, peerIn, saysYes}
-use Rattle.host_numbers.specs.Numbers.{toldCode}
+use Rattle.flat_lookup.specs.FlatLookup.{flatSize, lookupIn}
+use Rattle.host_calls.specs.Hosts.{ownId, lookupStart, lookupReply, lookupFailure}
+use Rattle.host_numbers.specs.Numbers.{toldCode, viewNumbers, viewIn}
 use Rattle.contact_calls.specs.Calls.{seenNumber, settleNumber, removeNumber}
 use Rattle.host_answers.specs.Answers.{putNumber, findNumber}
 use Rattle.host_state.specs.State.{endingCode, answerNumber}
@@ -38,13 +46,15 @@ use Rattle.host_steps.specs.Steps.{stepNumber}
 use Rattle.host.specs.Host.{lent, lentBoth}
 use Rattle.demands.specs.Box.{Box, Who, Ask}
 use Rattle.demands.specs.Demands.{NeverOutOfForm}
+use Rattle.demands.specs.Lookups.{startIn}
 use Rattle.demands.proofs.Never.{never-out-of-form}
-use Rattle.host_demands.specs.Calls.{Memory, History, Lent, leavesAll, worldIn, historyOf}
-use Rattle.host_demands.specs.Hosted.{Started, ReadyFor, FollowsAll, after, NeverZero, Formed}
+use Rattle.host_demands.specs.Calls.{Memory, History, Lent, lookupNext, lookupReplies, lookupFails, nextStep, replyStep, failureStep, returns, leavesAll, worldIn, historyOf}
+use Rattle.host_demands.specs.Hosted.{Started, ReadyFor, FollowsAll, after, NeverZero, Formed, StepsFormed}
 use Rattle.host_demands.proofs.Numbers.{number-zero}
 use Rattle.host_demands.proofs.Connections.{lent-enough, both-enough}
-use Rattle.host_demands.proofs.Asking.{long-enough}
+use Rattle.host_demands.proofs.Asking.{long-enough, view-back}
 use Rattle.host_demands.proofs.Running.{all-calls}
+use Rattle.host_demands.proofs.Traced.{lookup-bytes-are-runs}
 
 -- ---- what 0 says
 seen-zero : (x : SeenOutcome) → seenNumber x ≡ 0 → x ≡ seen.Refused OutOfForm
@@ -99,6 +109,15 @@ unfolding openOf
 open-never me id server asking addresses =
     cond-ind (λ (o : Opened). toldCode (o .told) ≡ 0 → ⊥) (not (ownFits me) || badPeer (me .place) id) _ _ (λ e z. omega (arith, z)) (λ e z. omega (arith, z))
 
+-- a start that isn't accepted is refused
+not-accepted : (x : lookup.Answer) → accepted x ≡ false → (r : Refusal) × (x ≡ steps.Refused r)
+not-accepted (steps.Refused r) e = (r, refl)
+not-accepted (steps.Complete n) e = absurd (true≢false e)
+not-accepted (steps.CutShort n) e = absurd (true≢false e)
+not-accepted steps.Wait e = absurd (true≢false e)
+not-accepted (steps.Ask i) e = absurd (true≢false e)
+not-accepted steps.Going e = absurd (true≢false e)
+
 module _ (me : List ℕ) (S : Started me) where
   abbrev us : Peer
   us = peerIn me
@@ -132,3 +151,41 @@ module _ (me : List ℕ) (S : Started me) where
       let w : World Who Box Ask = after me (worldIn m h) m cs in
       let g : FollowsAll me m (worldIn m h) cs = all-calls me S m (worldIn m h) cs len r refl f in
       never-zero (leavesAll me m cs) (historyOf w) (g .lent) (subst (ReadyFor me) (sym (g .stands)) (g .ready))
+
+  -- ---- a lookup's steps
+  pub steps-formed : StepsFormed me
+  unfolding step lookupStart lookupReply lookupFailure
+  steps-formed m h cs len r f j x t =
+      let g : FollowsAll me m (worldIn m h) cs = all-calls me S m (worldIn m h) cs len r refl f in
+      let n : Memory = leavesAll me m cs in
+      let h′ : History = historyOf (after me (worldIn m h) m cs) in
+      let s : Step = startIn us x in
+      let l : lookupIn (n .lookups j) ≡ outcome step s (x .calls) .lookup = lookup-bytes-are-runs me S m h cs len r f j x t .lookup in
+      let never : NeverOutOfForm us = never-out-of-form us (S .own) in
+      let next : returns me n (lookupNext j) ≡ stepNumber (step goNext (outcome step s (x .calls) .lookup) .answer) =
+      lent-enough flatSize (n .lookups j) 0 (stepNumber (nextStep me n j .answer)) (g .lent .lookups j) ∙ ap (λ (y : Lookup). stepNumber (step goNext y .answer)) l in
+      let reply : (id body view : List ℕ)
+      → returns me n (lookupReplies j id body view) ≡ stepNumber (step (goReply (ownId us) (us .place) id body (viewIn view)) (outcome step s (x .calls) .lookup) .answer) =
+      λ id body view. long-enough me S n h′ (g .lent) j 0 (stepNumber (replyStep me n j id body view .answer))
+      ∙ ap (λ (y : Lookup). stepNumber (step (goReply (ownId us) (us .place) id body (viewIn view)) y .answer)) l in
+      let failure : (id : List ℕ) → returns me n (lookupFails j id) ≡ stepNumber (step (goFail (ownId us) (us .place) id) (outcome step s (x .calls) .lookup) .answer) =
+      λ id. long-enough me S n h′ (g .lent) j 0 (stepNumber (failureStep me n j id .answer))
+      ∙ ap (λ (y : Lookup). stepNumber (step (goFail (ownId us) (us .place) id) y .answer)) l in
+      record {
+        going = λ b a.
+            let no : (c : Call) → Viewed c → stepNumber (step c (outcome step s (x .calls) .lookup) .answer) ≡ 0 → ⊥ =
+            λ c v e. never .lookup (x .table) (x .key) (x .limit) (record { bytes = b; taken = a }) (x .calls) c v (step-zero _ e) in
+            record {
+              next = λ e. no goNext tt (sym next ∙ e);
+              failure = λ id e. no (goFail (ownId us) (us .place) id) tt (sym (failure id) ∙ e);
+              reply = λ id body v q e. no (goReply (ownId us) (us .place) id body (viewIn (viewNumbers v))) (q ∙ ap reading.Whole (sym (view-back me S n h′ (g .lent) v))) (sym (reply id body (viewNumbers v)) ∙ e);
+            };
+        empty = λ a.
+            let z : (c : Call) → stepNumber (step c (outcome step s (x .calls) .lookup) .answer) ≡ 0 =
+            λ c. let q = not-accepted (s .answer) a in ap stepNumber (never .empty (x .table) (x .key) (x .limit) (q .0) (q .1) (x .calls) c) in
+            record {
+              next = next ∙ z goNext;
+              failure = λ id. failure id ∙ z (goFail (ownId us) (us .place) id);
+              reply = λ id body view. reply id body view ∙ z (goReply (ownId us) (us .place) id body (viewIn view));
+            };
+      }

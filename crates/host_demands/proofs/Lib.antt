@@ -16,5 +16,6 @@ pub mod Exported
 pub mod Refused
 pub mod Formed
 pub mod Beginning
+pub mod Accepting
 pub mod Traced
 pub mod Theorems

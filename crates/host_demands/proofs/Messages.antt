@@ -7,12 +7,13 @@ use native.Mathlib.Omega.{arith}
 use lib.ListN.{length, set, take, drop, drop-of-length-le}
 use lib.Seq.{sets, length-sets}
 use lib.Dec.{ltb}
-use Rattle.octets.proofs.Bools.{cond-ind}
+use Rattle.octets.proofs.Bools.{cond-ind, cond-no}
 use Rattle.peer.specs.declared.Peer.{Peer}
 use Rattle.message.specs.Limits.{mostBody, mostKind}
 use Rattle.message.specs.Message.{wellMessage}
 use Rattle.message.specs.View.{fieldsOf, readingOf}
 use Rattle.message.specs.declared.Reading.{Reading}
+use Rattle.message.specs.declared.Reading.the-variants.{Whole}
 use Rattle.stream.specs.declared.Answer as stream
 use Rattle.stream.specs.declared.Answer.the-variants as framed
 use Rattle.stream.specs.Stream as streams
@@ -32,10 +33,10 @@ use Rattle.node.specs.declared.Answer.the-variants.{Reply, Heard, Refused, More
 use Rattle.node.specs.Node.{Dealing, Out, byAnswer, heardAs, heard, served, dealingOf, byEvent, unless, gateOf, takenOf, receiveOf}
 use Rattle.demands.specs.Box.{bodyIn}
 
--- a message that is heard: it is the body, which stands in m, and has the body's view. Nobody was seen by it, nor by a refusal
+-- a message that is heard: it is the body, which stands in m, and has the body's view, as the reader gives it. Nobody was seen by it, nor by a refusal
 abbrev pub HeardFits : Answer → Sight → List ℕ → List ℕ → Type 0
 HeardFits (Reply n) s body m = Unit {0}
-HeardFits (Heard n f) s body m = (take n m ≡ body) × (f ≡ fieldsOf body) × (s ≡ NotSeen)
+HeardFits (Heard n f) s body m = (take n m ≡ body) × (f ≡ fieldsOf body) × (s ≡ NotSeen) × (readingOf body ≡ Whole f)
 HeardFits (Refused r) s body m = s ≡ NotSeen
 HeardFits More s body m = Unit {0}
 
@@ -49,7 +50,9 @@ unfolding readingOf
 read-fits v m =
     let body : List ℕ = take v m in
     go (ltb mostBody (length body)) _ _ (λ e. refl)
-    (λ e. go (not (wellMessage body)) _ _ (λ e. refl) (λ e. go (ltb mostKind (fieldsOf body .kind)) _ _ (λ e. refl) (λ e. (take-length v m, refl, refl))))
+    (λ e. go (not (wellMessage body)) _ _ (λ e. refl)
+    (λ q. go (ltb mostKind (fieldsOf body .kind)) _ _ (λ e. refl)
+    (λ p. (take-length v m, refl, refl, cond-no _ _ _ e ∙ cond-no _ _ _ q ∙ cond-no _ _ _ p))))
   where
     go : (b : Bool) (x y : Reading) → (b ≡ true → HeardFits (heardAs (length (take v m)) x) NotSeen (take v m) m)
         → (b ≡ false → HeardFits (heardAs (length (take v m)) y) NotSeen (take v m) m) → HeardFits (heardAs (length (take v m)) (cond b x y)) NotSeen (take v m) m
@@ -75,13 +78,13 @@ event-fits me framed.More c n m t k y = tt
 -- ---- whatever is handed in
 abbrev pub ViewFits : Answer → List ℕ → Type 0
 ViewFits (Reply n) m = Unit {0}
-ViewFits (Heard n f) m = f ≡ fieldsOf (take n m)
+ViewFits (Heard n f) m = (readingOf (take n m) ≡ Whole f) × (f ≡ fieldsOf (take n m))
 ViewFits (Refused r) m = Unit {0}
 ViewFits More m = Unit {0}
 
 own-view : (x : Answer) (s : Sight) (body m : List ℕ) → HeardFits x s body m → ViewFits x m
 own-view (Reply n) s body m h = tt
-own-view (Heard n f) s body m h = h .1 ∙ ap fieldsOf (sym (h .0))
+own-view (Heard n f) s body m h = (ap readingOf (h .0) ∙ h .3, h .1 ∙ ap fieldsOf (sym (h .0)))
 own-view (Refused r) s body m h = tt
 own-view More s body m h = tt
 

@@ -39,7 +39,7 @@ use Rattle.demands.proofs.Receives.{let-through, runs-as, receives as box-recei
 use Rattle.demands.proofs.Sound.{sound}
 use Rattle.demands.proofs.Never.{open-answer}
 use Rattle.host_demands.specs.Calls as seen
-use Rattle.host_demands.specs.Calls.{Memory, History, Lent, Seen, kept, noEvent, bytesOf, receivedBy, receiveCode, takenBy, receiveLeaves, worldIn, Stands, entrySeen, seesOf, marksOf, receives}
+use Rattle.host_demands.specs.Calls.{Memory, History, Lent, Seen, kept, noEvent, bytesOf, receivedBy, receiveCode, takenBy, receiveLeaves, lineIn, worldIn, Stands, entrySeen, seesOf, marksOf, receives}
 use Rattle.host_demands.specs.Hosted.{Started, ReadyFor, Follows}
 use Rattle.host_demands.proofs.Messages.{HeardFits, event-fits, first-two}
 use Rattle.host_demands.proofs.Overwriting.{Touched, left, answer-touched}
@@ -76,6 +76,12 @@ module _ (i at : ℕ) (s : Sight) (body t k y : List ℕ) (os : List Offer) (a :
   noted-lookups (Refused r) = refl
   noted-lookups More = refl
 
+  noted-offers : (x : Answer) → after x .offers ≡ a .offers ++ os
+  noted-offers (Reply n) = refl
+  noted-offers (Heard n f) = refl
+  noted-offers (Refused r) = refl
+  noted-offers More = refl
+
   noted-inbox : (x : Answer) (m : List ℕ) → AnswerRaised x → HeardFits x s body m
       → cond (eqb (answerNumber x) 66) (setAt (a .inbox) i (take (answerLength x) m)) (a .inbox) ≡ after x .inbox
   noted-inbox (Reply n) m h g = refl
@@ -85,19 +91,19 @@ module _ (i at : ℕ) (s : Sight) (body t k y : List ℕ) (os : List Offer) (a :
 
   -- what the program sees of it, n bytes having been taken
   abbrev seenAs : ℕ → ℕ → List ℕ → (List ℕ → List ℕ) → List Seen
-  seenAs r n m numbers = cond (noEvent r) [] (record { number = r; bytes = bytesOf r n y m; numbers = numbers } ∷ [])
+  seenAs r n m numbers = cond (noEvent r) [] (record { at = at; number = r; bytes = bytesOf r n y m; numbers = numbers } ∷ [])
 
   abbrev numbersBy : ℕ → Answer → Sight → List ℕ → List ℕ
   numbersBy n x s out = drop 2 (sets out 0 ((n ∷ answerLength x ∷ sightNumber s ∷ sightSlot s ∷ []) ++ answerView x))
 
-  raised-seen : (r : Refusal) → Raised r → (n : ℕ) (m : List ℕ) (numbers : List ℕ → List ℕ) → seenAs (numberOf r) n m numbers ≡ seen.told (numberOf r) numbers ∷ []
+  raised-seen : (r : Refusal) → Raised r → (n : ℕ) (m : List ℕ) (numbers : List ℕ → List ℕ) → seenAs (numberOf r) n m numbers ≡ seen.toldAt at (numberOf r) numbers ∷ []
   raised-seen r h n m numbers =
       let no64 : eqb (numberOf r) 64 ≡ false = ne-eqb (numberOf r) 64 (λ e. omega (arith, h .1)) in
       let no2 : eqb (numberOf r) 2 ≡ false = ne-eqb (numberOf r) 2 (λ e. omega (arith, h .0)) in
       let no65 : eqb (numberOf r) 65 ≡ false = ne-eqb (numberOf r) 65 (λ e. omega (arith, h .1)) in
       let no66 : eqb (numberOf r) 66 ≡ false = ne-eqb (numberOf r) 66 (λ e. omega (arith, h .1)) in
       cond-no (noEvent (numberOf r)) _ _ (or-fails _ _ no64 no2)
-      ∙ ap (λ (x : List ℕ). record { number = numberOf r; bytes = x; numbers = numbers } ∷ [])
+      ∙ ap (λ (x : List ℕ). record { at = at; number = numberOf r; bytes = x; numbers = numbers } ∷ [])
       (cond-no (eqb (numberOf r) 65) _ _ no65 ∙ cond-no (eqb (numberOf r) 66) _ _ no66)
 
   noted-log : (x : Answer) (m : List ℕ) (n : ℕ) → AnswerRaised x → HeardFits x s body m
@@ -105,17 +111,17 @@ module _ (i at : ℕ) (s : Sight) (body t k y : List ℕ) (os : List Offer) (a :
   noted-log (Reply k) m n h g =
       one-more-seen (a .log) (box.event i at (box.replied (take k y) s))
       ∙ (λ z. map entrySeen (a .log)
-      ++ (record { number = 65; bytes = take k y; numbers = λ out. first-two out 0 0 n k (sightNumber s ∷ sightSlot s ∷ []) z } ∷ []))
+      ++ (record { at = at; number = 65; bytes = take k y; numbers = λ out. first-two out 0 0 n k (sightNumber s ∷ sightSlot s ∷ []) z } ∷ []))
   noted-log (Heard k f) m n h g =
       one-more-seen (a .log) (box.event i at (box.heard body f))
       ∙ (λ z. map entrySeen (a .log)
-      ++ (record { number = 66; bytes = sym (g .0) z; numbers = λ out. seen.pastTwo (sym (g .2) z) (viewNumbers f) out } ∷ []))
+      ++ (record { at = at; number = 66; bytes = sym (g .0) z; numbers = λ out. seen.pastTwo (sym (g .2) z) (viewNumbers f) out } ∷ []))
       ∙ (λ z. map entrySeen (a .log)
-      ++ (record { number = 66; bytes = take k m; numbers = λ out. first-two out 0 0 n k (sightNumber s ∷ sightSlot s ∷ viewNumbers f) z } ∷ []))
+      ++ (record { at = at; number = 66; bytes = take k m; numbers = λ out. first-two out 0 0 n k (sightNumber s ∷ sightSlot s ∷ viewNumbers f) z } ∷ []))
   noted-log (Refused r) m n h g =
       one-more-seen (a .log) (box.event i at (box.refused r))
-      ∙ (λ z. map entrySeen (a .log) ++ (seen.told (numberOf r) (λ out. seen.pastTwo (sym g z) [] out) ∷ []))
-      ∙ (λ z. map entrySeen (a .log) ++ (seen.told (numberOf r) (λ out. first-two out 0 0 n 0 (sightNumber s ∷ sightSlot s ∷ []) z) ∷ []))
+      ∙ (λ z. map entrySeen (a .log) ++ (seen.toldAt at (numberOf r) (λ out. seen.pastTwo (sym g z) [] out) ∷ []))
+      ∙ (λ z. map entrySeen (a .log) ++ (seen.toldAt at (numberOf r) (λ out. first-two out 0 0 n 0 (sightNumber s ∷ sightSlot s ∷ []) z) ∷ []))
       ∙ ap (λ (x : List Seen). map entrySeen (a .log) ++ x) (sym (raised-seen r h 0 m (numbersBy n (Refused r) s)))
   noted-log More m n h g = sym (append-nil (map entrySeen (a .log)))
 
@@ -162,6 +168,7 @@ module _ (me : List ℕ) (S : Started me) (m : Memory) (h : History) (len : Lent
         buffers = setAt (m .buffers) i (o .buffer);
         lookups = m .lookups;
         inbox = kept m i (answerNumber (o .got .answer)) (take (answerLength (o .got .answer)) (o .buffer));
+        taken = setAt (m .taken) i (m .taken i + o .got .taken);
       }
 
   enough : {A : Type 0} (x y : A) → lentBoth me (m .conns i) x y ≡ y
@@ -178,6 +185,7 @@ module _ (me : List ℕ) (S : Started me) (m : Memory) (h : History) (len : Lent
         lookups = m .lookups;
         inbox = kept m i (enough 0 (answerNumber (got .got .answer)) z)
             (take (enough 0 (answerLength (got .got .answer)) z) (enough (m .buffers i) (got .buffer) z));
+        taken = setAt (m .taken) i (m .taken i + enough 0 (got .got .taken) z);
       }
 
   code-is : receiveCode me m i piece ≡ answerNumber (got .got .answer)
@@ -188,6 +196,7 @@ module _ (me : List ℕ) (S : Started me) (m : Memory) (h : History) (len : Lent
       let r = answerNumber (o .got .answer) in
       cond (noEvent r) []
       (record {
+        at = m .taken i + o .got .taken;
         number = r;
         bytes = bytesOf r (answerLength (o .got .answer)) (o .reply) (o .buffer);
         numbers = λ out. drop 2 (receivedNumbers out (o .got));
@@ -197,6 +206,7 @@ module _ (me : List ℕ) (S : Started me) (m : Memory) (h : History) (len : Lent
   sees-plain =
       λ z. cond (noEvent (code-is z)) []
       (record {
+        at = taken-is z;
         number = code-is z;
         bytes = bytesOf (code-is z) (enough 0 (answerLength (got .got .answer)) z) (left-plain z .reply) (buffer-is z);
         numbers = λ out. drop 2 (enough (nothingTaken out) (receivedNumbers out (got .got)) z);
@@ -204,6 +214,9 @@ module _ (me : List ℕ) (S : Started me) (m : Memory) (h : History) (len : Lent
     where
       buffer-is : receiveLeaves me m i piece .buffers i ≡ got .buffer
       buffer-is = cond-yes (eqb i i) _ _ (eq-eqb i i refl) ∙ enough (m .buffers i) (got .buffer)
+
+      taken-is : receiveLeaves me m i piece .taken i ≡ m .taken i + got .got .taken
+      taken-is = cond-yes (eqb i i) _ _ (eq-eqb i i refl) ∙ ap (λ (n : ℕ). m .taken i + n) (enough 0 (got .got .taken))
 
   lent-after : Lent (receiveLeaves me m i piece)
   lent-after =
@@ -250,6 +263,14 @@ module _ (me : List ℕ) (S : Started me) (m : Memory) (h : History) (len : Lent
         ap (λ (n : ℕ). putBack world i (handed (box.box us) i (here world i) (take n piece))) (enough 0 (got .got .taken))
         ∙ ap (putBack world i) (one-call (box.box us) (sound us own) i (here world i) piece well going)
 
+    pub offers-now : call (box.box us) world (hand i (take (takenBy me m i piece) piece)) .shared .state .offers
+        ≡ h .offers ++ offersIn (line .who) (framedOf (line .framing) (line .buffer) piece .got .answer) (got .buffer)
+    offers-now =
+        let e : stream.Answer = framedOf (line .framing) (line .buffer) piece .got .answer in
+        ap (λ (w : World Who Box Ask). w .shared .state .offers) call-is
+        ∙ noted-offers i (line .taken + got .got .taken) (got .got .sight) (bodyIn e (got .buffer)) (got .contacts) (got .records) (got .reply)
+        (offersIn (line .who) e (got .buffer)) state (got .got .answer)
+
     stands-now : Stands (plain got) (putBack world i now)
     stands-now =
         let at : ℕ = line .taken + got .got .taken in
@@ -259,7 +280,7 @@ module _ (me : List ℕ) (S : Started me) (m : Memory) (h : History) (len : Lent
         let x : Answer = got .got .answer in
         let s : Sight = got .got .sight in
         put-stands m h i (got .contacts) (got .records) (got .reply) (receivedMemory (m .conns i) (got .got)) (got .buffer)
-        (kept m i (answerNumber x) (take (answerLength x) (got .buffer))) now
+        (kept m i (answerNumber x) (take (answerLength x) (got .buffer))) at now
         (ap (λ (c : Conn). record { who = whoIn c; framing = c .framing; buffer = got .buffer; taken = at }) conn-after)
         (noted-contacts i at s body (got .contacts) (got .records) (got .reply) os state x)
         (noted-records i at s body (got .contacts) (got .records) (got .reply) os state x)
@@ -306,9 +327,13 @@ module _ (me : List ℕ) (S : Started me) (m : Memory) (h : History) (len : Lent
     unfolding call
     same-world = ap (putBack world i) (no-call (box.box us) (sound us own) i (here world i) (take (takenBy me m i piece) piece) well shut)
 
+    pub offers-same : call (box.box us) world (hand i (take (takenBy me m i piece) piece)) .shared .state .offers ≡ h .offers
+    offers-same = ap (λ (w : World Who Box Ask). w .shared .state .offers) same-world
+
     stands-still : Stands (plain nothing) (putBack world i (here world i))
     unfolding changesNothing
-    stands-still = put-stands m h i (m .contacts) (m .records) (m .reply) (m .conns i) (m .buffers i) (m .inbox) (here world i) refl refl refl refl refl refl
+    stands-still = put-stands m h i (m .contacts) (m .records) (m .reply) (m .conns i) (m .buffers i) (m .inbox) (m .taken i + 0) (here world i)
+        (ap (lineIn (m .conns i) (m .buffers i)) (omega arith)) refl refl refl refl refl
 
     sees-none : seesOf me m (receives i piece) ≡ []
     sees-none = sees-plain ∙ ap seesBy got-nothing

@@ -1,13 +1,14 @@
 -- A call that returns a refusal's number leaves contacts, records, reply and lookups as they were, whatever the memory. Assumes nothing.
 use Prim.Native.Nat.{ℕ, _<_}
-use mathlib.Core.Path.{_≡_, refl, sym, ap, _∙_}
+use mathlib.Core.Path.{_≡_, refl, sym, ap, _∙_, subst}
 use mathlib.Core.Bool.{Bool, true, false, cond}
 use mathlib.Core.List.{List}
 use native.Mathlib.Omega.{arith}
 use lib.ListN.{length}
 use lib.Seq.{sets}
 use lib.Dec.{eqb, ltb}
-use borrow.Author.Tests.{eqb-true}
+use borrow.Author.Tests.{eqb-true, eq-eqb, le-ltb}
+use Rattle.octets.proofs.Bools.{cond-yes, cond-no, or-fails}
 use Rattle.peer.specs.declared.Peer.{Peer}
 use Rattle.contact_calls.specs.declared.SeenOutcome.{SeenOutcome}
 use Rattle.contact_calls.specs.declared.SeenOutcome.the-variants as seen
@@ -21,13 +22,14 @@ use Rattle.records.specs.Store.{putAnswer, putAfter}
 use Rattle.lookup.specs.declared.Step.{Step}
 use Rattle.lookup.specs.declared.Answer as lookup
 use Rattle.lookup.specs.declared.Answer.the-variants as steps
+use Rattle.lookup.specs.Lookup.{noLookup}
 use Rattle.node.specs.declared.Answer.{Answer}
 use Rattle.node.specs.declared.Answer.the-variants.{Reply, Heard, Refused, More}
 use Rattle.node.specs.Node.{Out}
 use Rattle.node_promises.specs.Promises.{Unchanged}
 use Rattle.flat.specs.Flat.{peerSize, connSize, peerIn, connIn, saysYes}
-use Rattle.flat_lookup.specs.FlatLookup.{flatSize, lookupBytes}
-use Rattle.host_calls.specs.Hosts.{seenOf, seenAfter, settleOf, settleAfter, removeOf, removeAfter}
+use Rattle.flat_lookup.specs.FlatLookup.{flatSize, lookupIn, lookupBytes}
+use Rattle.host_calls.specs.Hosts.{ownId, seenOf, seenAfter, settleOf, settleAfter, removeOf, removeAfter, lookupStart}
 use Rattle.contact_calls.specs.Calls.{seenNumber, settleNumber, removeNumber}
 use Rattle.host_answers.specs.Answers.{putNumber}
 use Rattle.host_state.specs.State.{answerNumber}
@@ -36,8 +38,9 @@ use Rattle.host.specs.Host.{lent, lentBoth, tooShort}
 use Rattle.demands.specs.Demands.{RefusedLeaves}
 use Rattle.demands.proofs.Leaving.{refused-leaves}
 use Rattle.host_demands.specs.Calls as host
-use Rattle.host_demands.specs.Calls.{Memory, returns, receivedBy, nextStep, replyStep, heardStep, failureStep}
-use Rattle.host_demands.specs.Hosted.{Keeps, RefusedKeeps}
+use Rattle.host_demands.specs.Calls.{Memory, returns, receivedBy, startStep, nextStep, replyStep, heardStep, failureStep}
+use Rattle.host_demands.specs.Hosted.{Keeps, RefusedKeeps, RefusedStart}
+use Rattle.host_demands.proofs.Lookups.{start-reads}
 
 -- memory too short changes nothing; else what the inner call says
 if-short : {A : Type 0} (b : Bool) (x y : A) (n : ℕ) → cond b 0 n < 64 → (n < 64 → y ≡ x) → cond b x y ≡ x
@@ -78,7 +81,7 @@ module _ (me : List ℕ) (m : Memory) where
           contacts = both-kept me (m .conns i) (m .contacts) (o .contacts) (answerNumber (o .got .answer)) h (λ l. unchanged l .contacts);
           records = both-kept me (m .conns i) (m .records) (o .records) (answerNumber (o .got .answer)) h (λ l. unchanged l .records);
           reply = both-kept me (m .conns i) (m .reply) (o .reply) (answerNumber (o .got .answer)) h (λ l. unchanged l .reply);
-          lookups = λ e j. refl;
+          lookups = λ j e. refl;
         }
 
   -- ---- records and contacts
@@ -135,55 +138,82 @@ module _ (me : List ℕ) (m : Memory) where
       go true q = e ∙ ap (m .lookups) (sym (eqb-true k j q))
       go false q = refl
 
+  -- a start
+  other-lookup : (j : ℕ) (x key : List ℕ) (limit k : ℕ) → (host.lookupStarts j key limit ≡ host.lookupStarts k key limit → ⊥) → cond (eqb k j) x (m .lookups k) ≡ m .lookups k
+  other-lookup j x key limit k e = go (eqb k j) refl
+    where
+      go : (b : Bool) → eqb k j ≡ b → cond b x (m .lookups k) ≡ m .lookups k
+      go true q = absurd (e (ap (λ (n : ℕ). host.lookupStarts n key limit) (sym (eqb-true k j q))))
+      go false q = refl
+
+  emptied : (key : List ℕ) (limit : ℕ) → stepNumber (startStep me m key limit .answer) < 64 → startStep me m key limit .lookup ≡ noLookup
+  emptied key limit h = go (startStep me m key limit .answer) refl h
+    where
+      go : (a : lookup.Answer) → startStep me m key limit .answer ≡ a → stepNumber a < 64 → startStep me m key limit .lookup ≡ noLookup
+      go (steps.Refused r) e l = leaving .empties (m .contacts) key limit r e
+      go (steps.Complete n) e l = absurd (omega (arith, l))
+      go (steps.CutShort n) e l = absurd (omega (arith, l))
+      go steps.Wait e l = absurd (omega (arith, l))
+      go (steps.Ask i) e l = absurd (omega (arith, l))
+      go steps.Going e l = absurd (omega (arith, l))
+
+pub refused-start : (me : List ℕ) → RefusedStart me
+unfolding tooShort lookupStart
+refused-start me m j key limit room long h =
+    let enough : tooShort me (m .lookups j) ≡ false = or-fails _ _ (le-ltb (length me) peerSize room) (le-ltb (length (m .lookups j)) flatSize long) in
+    ap lookupIn (cond-yes (eqb j j) _ _ (eq-eqb j j refl) ∙ cond-no (tooShort me (m .lookups j)) _ _ enough)
+    ∙ start-reads (m .lookups j) (m .contacts) (ownId (peerIn me)) (peerIn me .place) key limit long
+    ∙ emptied me m key limit (subst (λ (n : ℕ). n < 64) (cond-no (tooShort me (m .lookups j)) _ _ enough) h)
+
 pub refused-keeps : (me : List ℕ) → RefusedKeeps me
-refused-keeps me m (host.opens i id server asking addresses buffer) h = record { contacts = refl; records = refl; reply = refl; lookups = λ e j. refl }
+refused-keeps me m (host.opens i id server asking addresses buffer) h = record { contacts = refl; records = refl; reply = refl; lookups = λ j e. refl }
 refused-keeps me m (host.receives i piece) h = receive-keeps me m i piece h
-refused-keeps me m (host.ends i) h = record { contacts = refl; records = refl; reply = refl; lookups = λ e j. refl }
-refused-keeps me m (host.put key value) h = record { contacts = refl; records = put-kept me m key value h; reply = refl; lookups = λ e j. refl }
-refused-keeps me m (host.find key) h = record { contacts = refl; records = refl; reply = refl; lookups = λ e j. refl }
+refused-keeps me m (host.ends i) h = record { contacts = refl; records = refl; reply = refl; lookups = λ j e. refl }
+refused-keeps me m (host.put key value) h = record { contacts = refl; records = put-kept me m key value h; reply = refl; lookups = λ j e. refl }
+refused-keeps me m (host.find key) h = record { contacts = refl; records = refl; reply = refl; lookups = λ j e. refl }
 refused-keeps me m (host.seen id client addresses) h =
     record {
       contacts = lent-kept peerSize me (m .contacts) _ _ h (seen-kept me m id (saysYes client) addresses);
       records = refl;
       reply = refl;
-      lookups = λ e j. refl;
+      lookups = λ j e. refl;
     }
 refused-keeps me m (host.settle head id client addresses answered) h =
     record {
       contacts = lent-kept peerSize me (m .contacts) _ _ h (settle-kept me m head id (saysYes client) addresses (saysYes answered));
       records = refl;
       reply = refl;
-      lookups = λ e j. refl;
+      lookups = λ j e. refl;
     }
 refused-keeps me m (host.remove id) h =
-    record { contacts = lent-kept peerSize me (m .contacts) _ _ h (remove-kept me m id); records = refl; reply = refl; lookups = λ e j. refl }
-refused-keeps me m (host.nearest key) h = record { contacts = refl; records = refl; reply = refl; lookups = λ e j. refl }
-refused-keeps me m (host.lookupStarts j key limit) h = record { contacts = refl; records = refl; reply = refl; lookups = λ e k. absurd (e j key limit refl) }
+    record { contacts = lent-kept peerSize me (m .contacts) _ _ h (remove-kept me m id); records = refl; reply = refl; lookups = λ j e. refl }
+refused-keeps me m (host.nearest key) h = record { contacts = refl; records = refl; reply = refl; lookups = λ j e. refl }
+refused-keeps me m (host.lookupStarts j key limit) h = record { contacts = refl; records = refl; reply = refl; lookups = λ k e. other-lookup me m j _ key limit k (λ q. e key limit q) }
 refused-keeps me m (host.lookupNext j) h =
     record {
       contacts = refl;
       records = refl;
       reply = refl;
-      lookups = λ e. put-back me m j _ (lent-kept flatSize (m .lookups j) (m .lookups j) _ _ h (step-kept me m (m .lookups j) (nextStep me m j)));
+      lookups = λ k e. put-back me m j _ (lent-kept flatSize (m .lookups j) (m .lookups j) _ _ h (step-kept me m (m .lookups j) (nextStep me m j))) k;
     }
 refused-keeps me m (host.lookupReplies j id body view) h =
     record {
       contacts = refl;
       records = refl;
       reply = refl;
-      lookups = λ e. put-back me m j _ (if-short (tooShort me (m .lookups j)) (m .lookups j) _ _ h (step-kept me m (m .lookups j) (replyStep me m j id body view)));
+      lookups = λ k e. put-back me m j _ (if-short (tooShort me (m .lookups j)) (m .lookups j) _ _ h (step-kept me m (m .lookups j) (replyStep me m j id body view))) k;
     }
 refused-keeps me m (host.lookupHears i j id) h =
     record {
       contacts = refl;
       records = refl;
       reply = refl;
-      lookups = λ e. put-back me m j _ (if-short (tooShort me (m .lookups j)) (m .lookups j) _ _ h (step-kept me m (m .lookups j) (heardStep me m i j id)));
+      lookups = λ k e. put-back me m j _ (if-short (tooShort me (m .lookups j)) (m .lookups j) _ _ h (step-kept me m (m .lookups j) (heardStep me m i j id))) k;
     }
 refused-keeps me m (host.lookupFails j id) h =
     record {
       contacts = refl;
       records = refl;
       reply = refl;
-      lookups = λ e. put-back me m j _ (if-short (tooShort me (m .lookups j)) (m .lookups j) _ _ h (step-kept me m (m .lookups j) (failureStep me m j id)));
+      lookups = λ k e. put-back me m j _ (if-short (tooShort me (m .lookups j)) (m .lookups j) _ _ h (step-kept me m (m .lookups j) (failureStep me m j id))) k;
     }

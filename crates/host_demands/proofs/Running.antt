@@ -37,7 +37,7 @@ module _ (me : List ℕ) (S : Started me) where
       subst (λ (x : World Who Box Ask). ReadyFor me x → Follows me m x c) e (λ q. follows m (historyOf w) c l q) r
 
   -- ---- and one after the other
-  fits-head : (x : Call Turn Ask) (xs : List (Call Turn Ask)) → AllFit Fits (x ∷ xs) → AllFit Fits (x ∷ [])
+  pub fits-head : (x : Call Turn Ask) (xs : List (Call Turn Ask)) → AllFit Fits (x ∷ xs) → AllFit Fits (x ∷ [])
   unfolding AllFit
   fits-head (hand i p) xs f = tt
   fits-head (does i b) xs f = (f .0, tt)

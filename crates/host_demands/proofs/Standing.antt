@@ -11,12 +11,22 @@ use Rattle.demands.specs.Box.{Box, Who, Ask, Entry}
 use Rattle.host_demands.specs.Calls.{Memory, History, lineIn, worldIn, Stands, entrySeen}
 
 -- a call on connection i: its line is what its bytes stand for, and what is shared is what memory holds
-pub put-stands : (m : Memory) (h : History) (i : ℕ) (t k y conn buffer : List ℕ) (inbox : ℕ → List ℕ) (d : Did (Line Who) (Shared Box Ask))
-    → lineIn conn buffer (d .line .taken) ≡ d .line → t ≡ d .shared .state .contacts → k ≡ d .shared .state .records → y ≡ d .shared .state .reply
+pub put-stands : (m : Memory) (h : History) (i : ℕ) (t k y conn buffer : List ℕ) (inbox : ℕ → List ℕ) (n : ℕ) (d : Did (Line Who) (Shared Box Ask))
+    → lineIn conn buffer n ≡ d .line → t ≡ d .shared .state .contacts → k ≡ d .shared .state .records → y ≡ d .shared .state .reply
     → (λ (j : ℕ). lookupIn (m .lookups j)) ≡ d .shared .state .lookups → inbox ≡ d .shared .state .inbox
-    → Stands (record { contacts = t; records = k; reply = y; conns = setAt (m .conns) i conn; buffers = setAt (m .buffers) i buffer; lookups = m .lookups; inbox = inbox })
+    → Stands
+    (record {
+      contacts = t;
+      records = k;
+      reply = y;
+      conns = setAt (m .conns) i conn;
+      buffers = setAt (m .buffers) i buffer;
+      lookups = m .lookups;
+      inbox = inbox;
+      taken = setAt (m .taken) i n;
+    })
     (putBack (worldIn m h) i d)
-put-stands m h i t k y conn buffer inbox d el et ek ey eo ei =
+put-stands m h i t k y conn buffer inbox n d el et ek ey eo ei =
     λ z. record {
       lines = λ j. line j (eqb j i) z;
       shared = record {
@@ -34,7 +44,7 @@ put-stands m h i t k y conn buffer inbox d el et ek ey eo ei =
     }
   where
     line : (j : ℕ) (b : Bool)
-        → lineIn (cond b conn (m .conns j)) (cond b buffer (m .buffers j)) (cond b (d .line) (worldIn m h .lines j) .taken)
+        → lineIn (cond b conn (m .conns j)) (cond b buffer (m .buffers j)) (cond b n (m .taken j))
         ≡ cond b (d .line) (worldIn m h .lines j)
     line j true = el
     line j false = refl

@@ -5,7 +5,6 @@ use mathlib.Core.Bool.{true≢false}
 use mathlib.Core.List.{List, map}
 use Rattle.peer.specs.declared.Peer.{Peer}
 use Rattle.sightings_kept.specs.Promises.{Hashed}
-use Rattle.records_history.specs.History.{got}
 use Rattle.stream.specs.Stream.{isShut}
 use Rattle.cutting.specs.World.{World, Mark, AllFit}
 use Rattle.cutting.specs.Plain.{ReadOut, plainly, unread}
@@ -13,14 +12,15 @@ use Rattle.flat.specs.Flat.{peerIn}
 use Rattle.demands.specs.Box.{Box, Who, Ask, Fits, box}
 use Rattle.demands.proofs.Theorems.{second, third}
 use Rattle.host_demands.specs.Calls.{Memory, Lent, Export, leavesAll, meantAll, worldIn, historyOf, entrySeen}
-use Rattle.host_demands.specs.Hosted.{Started, nothingYet, ReadyFor, FollowsAll, ContactsHashed, after, plainOf, Plainly, Stays, HostedDemands}
+use Rattle.host_demands.specs.Hosted.{Started, nothingYet, ReadyFor, FollowsAll, ContactsHashed, after, plainOf, Plainly, HostedDemands}
 use Rattle.host_demands.proofs.Beginning.{begun, begins}
 use Rattle.host_demands.proofs.Running.{one-call, all-calls}
 use Rattle.host_demands.proofs.Handing.{hands-over}
 use Rattle.host_demands.proofs.Exported.{as-exported}
-use Rattle.host_demands.proofs.Refused.{refused-keeps}
-use Rattle.host_demands.proofs.Formed.{formed}
+use Rattle.host_demands.proofs.Refused.{refused-keeps, refused-start}
+use Rattle.host_demands.proofs.Formed.{formed, steps-formed}
 use Rattle.host_demands.proofs.Cutting.{cut-anywhere}
+use Rattle.host_demands.proofs.Accepting.{stays, lasts}
 
 module _ (me : List ℕ) (S : Started me) where
   abbrev us : Peer
@@ -55,11 +55,6 @@ module _ (me : List ℕ) (S : Started me) where
         sees = sym (g .log) ∙ ap (λ (x : Box). map entrySeen (x .log)) e;
       }
 
-  stays : Stays me
-  stays m cs len r f key v h u =
-      ap (λ (w : World Who Box Ask). got (w .shared .state .records) key) (follow m cs len r f .stands)
-      ∙ third us (S .own) .stays (worldIn m nothingYet) r refl (meantAll me m cs) f key v h u
-
 pub hosted : HostedDemands
 hosted me S =
     record {
@@ -68,9 +63,12 @@ hosted me S =
       calls = all-calls me S;
       handing = hands-over me S;
       refused = refused-keeps me;
+      empties = refused-start me;
       formed = formed me S;
+      steps = steps-formed me S;
       hashed = hashed me S;
       cut = cut-anywhere me S;
       plain = plain me S;
       stays = stays me S;
+      lasts = lasts me S;
     }

@@ -14,7 +14,7 @@ use Rattle.flat.specs.Flat.{peerIn}
 use Rattle.flat_lookup.specs.FlatLookup.{lookupIn}
 use Rattle.demands.specs.Box.{Box, Who, Entry, called, stepGave, Turn, Ask, Fits, box}
 use Rattle.demands.specs.Lookups.{Trace, Part, starts, goes, neither, traceWith, partOf, traced, startIn, IsRun}
-use Rattle.demands.proofs.Traced.{lookups-are-runs}
+use Rattle.demands.proofs.Traced.{is-run, lookups-are-runs}
 use Rattle.host_demands.specs.Calls.{Memory, Export, Lent, History, Seen, leaves, meant, seesOf, leavesAll, meantAll, worldIn, Stands, entrySeen}
 use Rattle.host_demands.specs.Hosted.{Started, ReadyFor, Follows}
 use Rattle.host_demands.specs.Lookups.{tracedIn, stepSeen, LookupBytesAreRuns}
@@ -86,11 +86,7 @@ module _ (me : List ℕ) (S : Started me) (j : ℕ) where
   seen-run l x r =
       let s : Step = startIn (peerIn me) x in
       let gave : List Step = s ∷ map (λ (e : Event). e .gave) (history step s (x .calls)) in
-      record {
-        lookup = r .lookup;
-        told = ap (map entrySeen) (r .told) ∙ map-map entrySeen (λ (g : Step). called (stepGave g)) gave;
-        claims = r .claims;
-      }
+      is-run (peerIn me) stepSeen (seenTrace x) l (r .lookup) (ap (map entrySeen) (r .told) ∙ map-map entrySeen (λ (g : Step). called (stepGave g)) gave)
 
   -- a trace that the program has is that of the world, as it sees it
   seen-if : (l : Lookup) (o : Option (Trace Entry)) → ((y : Trace Entry) → o ≡ some y → IsRun (peerIn me) (λ g. called (stepGave g)) y l)

@@ -1,6 +1,6 @@
 -- A C or Rust program that uses the box: the memory that it lends, the calls that it makes, what each returns and leaves, in the words of crate `host`, and
 -- the world of crate `demands` that this memory stands for.
-use Prim.Native.Nat.{ℕ, zero, suc, _≤_}
+use Prim.Native.Nat.{ℕ, zero, suc, _+_, _≤_}
 use mathlib.Core.Path.{_≡_}
 use mathlib.Core.Bool.{Bool, cond, _||_}
 use mathlib.Core.List.{List, [], _∷_, _++_}
@@ -30,7 +30,8 @@ use Rattle.demands.specs.Box as box
 use Rattle.demands.specs.Box.{Box, Who, whoIn, Entry, Outcome, Result, Turn, Ask}
 
 -- ---- what a program lends beside the box: contacts, records, a reply buffer; for each connection its bytes and its receive buffer; the bytes of each lookup.
--- Of each connection it also keeps the message that it gave last
+-- Of each connection it also keeps the message that it gave last, and how many of its bytes were taken since it was opened: it adds up the first numbers that
+-- receives write to out
 pub record Memory : Type 0 where
   pub contacts : List ℕ
   pub records : List ℕ
@@ -39,6 +40,7 @@ pub record Memory : Type 0 where
   pub buffers : ℕ → List ℕ
   pub lookups : ℕ → List ℕ
   pub inbox : ℕ → List ℕ
+  pub taken : ℕ → ℕ
 
 -- ---- what it calls, by the names of crate `host` without starterbell: connections and lookups go by numbers. `opens` also lends a receive buffer;
 -- `lookupHears i j id` is starterbell_lookup_reply with the message that connection i gave last, and its view
@@ -65,13 +67,33 @@ pub record Lent (m : Memory) : Type 0 where
 
 -- ---- what changes, and that all else stays
 abbrev pub withContacts : Memory → List ℕ → Memory
-withContacts m t = record { contacts = t; records = m .records; reply = m .reply; conns = m .conns; buffers = m .buffers; lookups = m .lookups; inbox = m .inbox }
+withContacts m t =
+    record {
+      contacts = t;
+      records = m .records;
+      reply = m .reply;
+      conns = m .conns;
+      buffers = m .buffers;
+      lookups = m .lookups;
+      inbox = m .inbox;
+      taken = m .taken;
+    }
 
 abbrev pub withRecords : Memory → List ℕ → Memory
-withRecords m k = record { contacts = m .contacts; records = k; reply = m .reply; conns = m .conns; buffers = m .buffers; lookups = m .lookups; inbox = m .inbox }
+withRecords m k =
+    record {
+      contacts = m .contacts;
+      records = k;
+      reply = m .reply;
+      conns = m .conns;
+      buffers = m .buffers;
+      lookups = m .lookups;
+      inbox = m .inbox;
+      taken = m .taken;
+    }
 
-abbrev pub withConn : Memory → ℕ → List ℕ → List ℕ → Memory
-withConn m i conn buffer =
+abbrev pub withConn : Memory → ℕ → List ℕ → List ℕ → ℕ → Memory
+withConn m i conn buffer taken =
     record {
       contacts = m .contacts;
       records = m .records;
@@ -80,6 +102,7 @@ withConn m i conn buffer =
       buffers = setAt (m .buffers) i buffer;
       lookups = m .lookups;
       inbox = m .inbox;
+      taken = setAt (m .taken) i taken;
     }
 
 abbrev pub withLookup : Memory → ℕ → List ℕ → Memory
@@ -92,18 +115,25 @@ withLookup m j l =
       buffers = m .buffers;
       lookups = setAt (m .lookups) j l;
       inbox = m .inbox;
+      taken = m .taken;
     }
 
 -- what a program sees of a call: the number that it returns, the bytes of a reply or of a message that it gives, and what it makes of the numbers in out.
--- Of a receive these are the ones past the first two, the bytes taken, which hang on the cut, and the length
+-- Of a receive these are the ones past the first two, the bytes taken, which hang on the cut, and the length. An event on a connection, as a receive or an end
+-- gives it, also has its place: how many bytes of the connection were taken then. Elsewhere that is 0
 pub record Seen : Type 0 where
+  pub at : ℕ
   pub number : ℕ
   pub bytes : List ℕ
   pub numbers : List ℕ → List ℕ
 
 -- no bytes
+abbrev pub toldAt : ℕ → ℕ → (List ℕ → List ℕ) → Seen
+toldAt at n numbers = record { at = at; number = n; bytes = []; numbers = numbers }
+
+-- of no connection's event
 abbrev pub told : ℕ → (List ℕ → List ℕ) → Seen
-told n numbers = record { number = n; bytes = []; numbers = numbers }
+told n numbers = toldAt 0 n numbers
 
 -- and no numbers
 abbrev pub onlyNumber : ℕ → Seen
@@ -148,6 +178,7 @@ module _ (me : List ℕ) where
         buffers = setAt (m .buffers) i (host.lentBoth me conn (m .buffers i) (o .buffer));
         lookups = m .lookups;
         inbox = kept m i (receiveCode m i piece) (take (lengthBy m i piece) (host.lentBoth me conn (m .buffers i) (o .buffer)));
+        taken = setAt (m .taken) i (m .taken i + takenBy m i piece);
       }
 
   -- ---- lookups
@@ -185,9 +216,9 @@ module _ (me : List ℕ) where
 
   -- ---- and what it leaves
   abbrev pub leaves : Memory → Export → Memory
-  leaves m (opens i id server asking addresses buffer) = withConn m i (host.openMemory me (m .conns i) id server asking addresses) buffer
+  leaves m (opens i id server asking addresses buffer) = withConn m i (host.openMemory me (m .conns i) id server asking addresses) buffer 0
   leaves m (receives i piece) = receiveLeaves m i piece
-  leaves m (ends i) = withConn m i (host.endMemory me (m .conns i)) (m .buffers i)
+  leaves m (ends i) = withConn m i (host.endMemory me (m .conns i)) (m .buffers i) (m .taken i)
   leaves m (put key value) = withRecords m (putAfter (m .records) key value)
   leaves m (find key) = m
   leaves m (seen id client addresses) = withContacts m (host.seenContacts me (m .contacts) id client addresses)
@@ -232,11 +263,12 @@ module _ (me : List ℕ) where
       let n = receiveLeaves m i piece in
       cond (noEvent r) []
       (record {
+        at = n .taken i;
         number = r;
         bytes = bytesOf r (lengthBy m i piece) (n .reply) (n .buffers i);
         numbers = λ out. drop 2 (writes m (receives i piece) out);
       } ∷ [])
-  seesOf m (ends i) = sees m (ends i) ∷ []
+  seesOf m (ends i) = toldAt (m .taken i) (returns m (ends i)) (writes m (ends i)) ∷ []
   seesOf m (put key value) = sees m (put key value) ∷ []
   seesOf m (find key) = sees m (find key) ∷ []
   seesOf m (seen id client addresses) = sees m (seen id client addresses) ∷ []
@@ -303,10 +335,8 @@ module _ (me : List ℕ) where
   abbrev pub handsOver : Memory → ℕ → List ℕ → List Export
   handsOver m i piece = handing (suc (length piece)) m i piece
 
--- ---- the world that memory stands for. What that world has and memory hasn't: how many bytes were taken of each connection, the log, the offers, and the
--- order of events
+-- ---- the world that memory stands for. What that world has and memory hasn't: the log, the offers, and the order of events
 pub record History : Type 0 where
-  pub taken : ℕ → ℕ
   pub log : List Entry
   pub offers : List Offer
   pub order : List (Mark Ask)
@@ -317,7 +347,7 @@ lineIn conn buffer n = record { who = whoIn (connIn conn); framing = connIn conn
 abbrev pub worldIn : Memory → History → World Who Box Ask
 worldIn m h =
     record {
-      lines = λ i. lineIn (m .conns i) (m .buffers i) (h .taken i);
+      lines = λ i. lineIn (m .conns i) (m .buffers i) (m .taken i);
       shared = record {
         state = record {
           contacts = m .contacts;
@@ -333,13 +363,7 @@ worldIn m h =
     }
 
 abbrev pub historyOf : World Who Box Ask → History
-historyOf w =
-    record {
-      taken = λ i. w .lines i .taken;
-      log = w .shared .state .log;
-      offers = w .shared .state .offers;
-      order = w .shared .order;
-    }
+historyOf w = record { log = w .shared .state .log; offers = w .shared .state .offers; order = w .shared .order }
 
 -- memory stands for a world that has nothing else than these bytes and its history
 abbrev pub Stands : Memory → World Who Box Ask → Type 0
@@ -350,11 +374,11 @@ Stands m w = worldIn m (historyOf w) ≡ w
 abbrev pub pastTwo : Sight → List ℕ → List ℕ → List ℕ
 pastTwo s view out = drop 2 (sets out 0 ((0 ∷ 0 ∷ sightNumber s ∷ sightSlot s ∷ []) ++ view))
 
-abbrev pub outcomeSeen : Outcome → Seen
-outcomeSeen (box.replied bytes s) = record { number = 65; bytes = bytes; numbers = pastTwo s [] }
-outcomeSeen (box.heard body view) = record { number = 66; bytes = body; numbers = pastTwo NotSeen (viewNumbers view) }
-outcomeSeen (box.refused r) = told (numberOf r) (pastTwo NotSeen [])
-outcomeSeen (box.ended e) = onlyNumber (endingCode e)
+abbrev pub outcomeSeen : ℕ → Outcome → Seen
+outcomeSeen at (box.replied bytes s) = record { at = at; number = 65; bytes = bytes; numbers = pastTwo s [] }
+outcomeSeen at (box.heard body view) = record { at = at; number = 66; bytes = body; numbers = pastTwo NotSeen (viewNumbers view) }
+outcomeSeen at (box.refused r) = toldAt at (numberOf r) (pastTwo NotSeen [])
+outcomeSeen at (box.ended e) = toldAt at (endingCode e) (λ out. out)
 
 abbrev pub resultSeen : Result → Seen
 resultSeen (box.putGave a) = onlyNumber (putNumber a)
@@ -366,6 +390,6 @@ resultSeen (box.nearestGave n) = told (toldCode (n .told)) (λ out. nearestNumbe
 resultSeen (box.stepGave s) = told (stepNumber (s .answer)) (λ out. stepNumbers out s)
 
 abbrev pub entrySeen : Entry → Seen
-entrySeen (box.event i at o) = outcomeSeen o
+entrySeen (box.event i at o) = outcomeSeen at o
 entrySeen (box.opened i t) = onlyNumber (toldCode t)
 entrySeen (box.called r) = resultSeen r

@@ -1,25 +1,39 @@
 -- What holds of a program that calls crate `host`, as statements. `hosted` in proofs/Theorems.antt proves the last, which has all of them; `starts` in
 -- proofs/Starting.antt and `begins` in proofs/Beginning.antt show that there are such boxes and such memory.
-use Prim.Native.Nat.{ℕ, _≤_, _<_}
+use Prim.Native.Nat.{ℕ, _+_, _≤_, _<_}
 use mathlib.Core.Path.{_≡_}
-use mathlib.Core.List.{List, [], _++_, map}
+use mathlib.Core.Bool.{true, false}
+use mathlib.Core.List.{List, [], _∷_, _++_, map}
+use mathlib.Core.Option.{none, some}
 use lib.ListN.{length, getD, take, drop}
 use lib.Seq.{sets}
+use Rattle.octets.specs.Octets.{Bytes, part}
 use Rattle.sightings_kept.specs.Promises.{Hashed}
-use Rattle.records_history.specs.History.{Offer, Has, got, cleared, Unbeaten}
+use Rattle.recipe.specs.Recipe.{outranks}
+use Rattle.records_history.specs.History.{cleared}
 use Rattle.message.specs.Limits.{mostBody, leastReply}
-use Rattle.message.specs.View.{fieldsOf}
+use Rattle.message.specs.Message.{Record, Message, messageOf, decode, encode, frame}
+use Rattle.message.specs.View.{fieldsOf, readingOf}
+use Rattle.message.specs.declared.Fields.{Fields}
+use Rattle.message.specs.declared.Reading.the-variants as reading
+use Rattle.lookup.specs.Lookup.{noLookup}
+use Rattle.lookup_runs.specs.Runs.{accepted}
+use Rattle.stream.specs.declared.Answer.the-variants as framed
+use Rattle.stream.specs.Stream.{receiveOf as framedOf}
 use Rattle.cutting.specs.World.{World, Sys, hand, call, calls, given, Ready, AllFit, setAt}
 use Rattle.cutting.specs.Plain.{Wire, plainly, unread}
 use Rattle.flat.specs.Flat.{peerSize, connSize, peerIn, connIn, withFraming}
 use Rattle.flat_lookup.specs.FlatLookup.{flatSize, lookupIn, lookupBytes}
+use Rattle.replies.specs.Replies.{putValue, getValue}
 use Rattle.connections.specs.Box.{startOf}
 use Rattle.host_numbers.specs.Numbers.{viewNumbers}
 use Rattle.host.specs.Host as exports
 use Rattle.host.specs.Host.{startCode, startMemory, Receives, Nexts, Replies, Fails}
-use Rattle.demands.specs.Box.{Box, Who, Turn, Ask, Fits, box, Own, Allowed, Good}
+use Rattle.demands.specs.Box.{Box, Who, bodyIn, Turn, Ask, Fits, box, Own, Allowed, Good}
+use Rattle.demands.specs.Lookups.{Trace, startIn}
 use Rattle.host_demands.specs.Calls as host
-use Rattle.host_demands.specs.Calls.{Memory, Export, Lent, History, withLookup, kept, takenBy, lengthBy, returns, leaves, writes, meant, seesOf, marksOf, leavesAll, meantAll, seesAll, marksAll, handsOver, worldIn, Stands, entrySeen}
+use Rattle.host_demands.specs.Calls.{Memory, Export, Lent, History, Seen, withLookup, kept, receivedBy, takenBy, lengthBy, returns, leaves, writes, meant, seesOf, marksOf, leavesAll, meantAll, seesAll, marksAll, handsOver, worldIn, Stands, entrySeen}
+use Rattle.host_demands.specs.Lookups.{tracedIn}
 
 -- ==== the box, and memory to begin with
 -- the memory of a box that starterbell_start wrote
@@ -55,7 +69,7 @@ pub record Cleared (m : Memory) : Type 0 where
   pub reply : leastReply ≤ length (m .reply)
 
 abbrev pub nothingYet : History
-nothingYet = record { taken = λ i. 0; log = []; offers = []; order = [] }
+nothingYet = record { log = []; offers = []; order = [] }
 
 -- is what all theorems below ask for
 abbrev pub Begins : Type 0
@@ -75,14 +89,17 @@ module _ (me : List ℕ) where
           buffers = setAt (m .buffers) i buffer′;
           lookups = m .lookups;
           inbox = kept m i r (take (lengthBy me m i piece) buffer′);
+          taken = setAt (m .taken) i (m .taken i + takenBy me m i piece);
         }
         ≡ leaves me m (host.receives i piece))
         × (out′ ≡ writes me m (host.receives i piece) out)
         × (2 ≤ length out → (getD out′ 0 0 ≡ takenBy me m i piece) × (getD out′ 1 0 ≡ lengthBy me m i piece))
-    -- and after 66 the eight numbers past the first four in out are the view of the message
+    -- and after 66 the message reads, and the eight numbers past the first four in out are its view
     pub view : (i : ℕ) (piece out : List ℕ) (r : ℕ) (conn′ buffer′ t′ k′ y′ out′ : List ℕ)
         → Receives me (m .conns i) (m .buffers i) piece (m .contacts) (m .records) (m .reply) out r conn′ buffer′ t′ k′ y′ out′
-        → r ≡ 66 → 12 ≤ length out → take 8 (drop 4 out′) ≡ viewNumbers (fieldsOf (take (lengthBy me m i piece) buffer′))
+        → r ≡ 66
+        → let body = take (lengthBy me m i piece) buffer′ in
+        (readingOf body ≡ reading.Whole (fieldsOf body)) × (12 ≤ length out → take 8 (drop 4 out′) ≡ viewNumbers (fieldsOf body))
     pub start : (j : ℕ) (key : List ℕ) (limit : ℕ) (out : List ℕ) (r : ℕ) (l′ out′ : List ℕ) → exports.Begins me (m .lookups j) (m .contacts) key limit out r l′ out′
         → (r ≡ returns me m (host.lookupStarts j key limit)) × (withLookup m j l′ ≡ leaves me m (host.lookupStarts j key limit)) × (out′ ≡ writes me m (host.lookupStarts j key limit) out)
     pub next : (j : ℕ) (out : List ℕ) (r : ℕ) (l′ out′ : List ℕ) → Nexts (m .lookups j) out r l′ out′
@@ -124,15 +141,21 @@ module _ (me : List ℕ) where
       → after w m (handsOver me m i piece) ≡ call (box (peerIn me)) w (hand i piece)
 
   -- ==== demand 1
-  -- "A refused call changes no contact, record, lookup or reply byte": of any memory. "A refused start hands back an empty" lookup
+  -- "A refused call changes no contact, record, lookup or reply byte": of any memory. Only a start writes its own lookup all the same
   pub record Keeps (m : Memory) (c : Export) : Type 0 where
     pub contacts : leaves me m c .contacts ≡ m .contacts
     pub records : leaves me m c .records ≡ m .records
     pub reply : leaves me m c .reply ≡ m .reply
-    pub lookups : ((j : ℕ) (key : List ℕ) (limit : ℕ) → c ≡ host.lookupStarts j key limit → ⊥) → (j : ℕ) → leaves me m c .lookups j ≡ m .lookups j
+    pub lookups : (j : ℕ) → ((key : List ℕ) (limit : ℕ) → c ≡ host.lookupStarts j key limit → ⊥) → leaves me m c .lookups j ≡ m .lookups j
 
   abbrev pub RefusedKeeps : Type 0
   RefusedKeeps = (m : Memory) (c : Export) → returns me m c < 64 → Keeps m c
+
+  -- "A refused start hands back an empty one"
+  abbrev pub RefusedStart : Type 0
+  RefusedStart =
+      (m : Memory) (j : ℕ) (key : List ℕ) (limit : ℕ) → peerSize ≤ length me → flatSize ≤ length (m .lookups j) → returns me m (host.lookupStarts j key limit) < 64
+      → lookupIn (leaves me m (host.lookupStarts j key limit) .lookups j) ≡ noLookup
 
   -- memory once in form, and since changed by calls alone, never gives 0
   pub record NeverZero (m : Memory) : Type 0 where
@@ -150,6 +173,29 @@ module _ (me : List ℕ) where
   abbrev pub Formed : Type 0
   Formed = (m : Memory) (h : History) (cs : List Export) → Lent m → ReadyFor me (worldIn m h) → AllFit Fits (meantAll me m cs) → NeverZero (leavesAll me m cs)
 
+  -- nor do next, a failure, and a reply with the reader's view, on a lookup whose last start wasn't refused. `lookupHears i j id` is such a reply, if
+  -- connection i gave a message (66): that reads
+  pub record StepsNotZero (m : Memory) (j : ℕ) : Type 0 where
+    pub next : returns me m (host.lookupNext j) ≡ 0 → ⊥
+    pub failure : (id : List ℕ) → returns me m (host.lookupFails j id) ≡ 0 → ⊥
+    pub reply : (id body : List ℕ) (f : Fields) → readingOf body ≡ reading.Whole f → returns me m (host.lookupReplies j id body (viewNumbers f)) ≡ 0 → ⊥
+
+  -- document 01's one exception: after a start that was refused "later steps give 0"
+  pub record StepsZero (m : Memory) (j : ℕ) : Type 0 where
+    pub next : returns me m (host.lookupNext j) ≡ 0
+    pub failure : (id : List ℕ) → returns me m (host.lookupFails j id) ≡ 0
+    pub reply : (id body view : List ℕ) → returns me m (host.lookupReplies j id body view) ≡ 0
+
+  -- by the last start on lookup j among any calls, of which its trace tells (Lookups.antt). The contacts are memory, so bytes
+  pub record LookupsFormed (m : Memory) (cs : List Export) (j : ℕ) (x : Trace Seen) : Type 0 where
+    pub going : Bytes (x .table) → accepted (startIn (peerIn me) x .answer) ≡ true → StepsNotZero (leavesAll me m cs) j
+    pub empty : accepted (startIn (peerIn me) x .answer) ≡ false → StepsZero (leavesAll me m cs) j
+
+  abbrev pub StepsFormed : Type 0
+  StepsFormed =
+      (m : Memory) (h : History) (cs : List Export) → Lent m → ReadyFor me (worldIn m h) → AllFit Fits (meantAll me m cs) → (j : ℕ) (x : Trace Seen)
+      → tracedIn me j m none cs ≡ some x → LookupsFormed m cs j x
+
   -- ==== demand 2: in memory once cleared each contact lies at SHA-256 of its id
   abbrev pub ContactsHashed : Type 0
   ContactsHashed = (m : Memory) (cs : List Export) → Cleared m → AllFit Fits (meantAll me m cs) → Hashed (leavesAll me m cs .contacts)
@@ -161,7 +207,7 @@ module _ (me : List ℕ) where
     pub given : (i : ℕ) → given i (meantAll me m cs) ≡ given i (meantAll me m ds)
     pub order : marksAll me m cs ≡ marksAll me m ds
 
-  -- every byte of memory ends the same, and both programs saw the same
+  -- every byte of memory ends the same, and both programs saw the same, event for event at the same byte
   pub record SameEnd (m : Memory) (cs ds : List Export) : Type 0 where
     pub memory : leavesAll me m cs ≡ leavesAll me m ds
     pub sees : seesAll me m cs ≡ seesAll me m ds
@@ -171,7 +217,7 @@ module _ (me : List ℕ) where
       (m : Memory) (h : History) (cs ds : List Export) → Lent m → Written m → ReadyFor me (worldIn m h)
       → AllFit Fits (meantAll me m cs) → AllFit Fits (meantAll me m ds) → Alike m cs ds → SameEnd m cs ds
 
-  -- "Each message then gets the reply bytes, or the refusal .., that demand 2's plain reading gives when it takes messages whole"
+  -- "Each message then gets the reply bytes, or the refusal at the byte position, that demand 2's plain reading gives when it takes messages whole"
   abbrev pub plainOf : Memory → List Export → Sys (Wire Who Turn) Box
   plainOf m cs = plainly (box (peerIn me)) (unread (worldIn m nothingYet) (meantAll me m cs)) (marksAll me m cs)
 
@@ -185,14 +231,69 @@ module _ (me : List ℕ) where
   abbrev pub Plainly : Type 0
   Plainly = (m : Memory) (cs : List Export) → Cleared m → AllFit Fits (meantAll me m cs) → ReadPlainly m cs
 
-  -- "A record once accepted, typed or sent, stays the one found under its key until a higher-ranking one is accepted"
-  abbrev pub offersOf : Memory → List Export → List Offer
-  offersOf m cs = after (worldIn m nothingYet) m cs .shared .state .offers
+  -- ---- the words of its last sentence, which speaks of records
+  -- the bytes of the message that a receive completes: they lie at the start of the receive buffer then. None, where it completes none
+  abbrev pub completed : Memory → ℕ → List ℕ → List ℕ
+  completed m i piece = bodyIn (framedOf (connIn (m .conns i) .framing) (m .buffers i) piece .got .answer) (receivedBy me m i piece .buffer)
 
+  -- "accepted .. sent": a receive completes a PUT_VALUE of this key and value, and returns 65, a reply
+  pub record Sent (m : Memory) (i : ℕ) (piece key value : List ℕ) : Type 0 where
+    pub reply : returns me m (host.receives i piece) ≡ 65
+    pub kind : messageOf (completed m i piece) .kind ≡ putValue
+    pub under : messageOf (completed m i piece) .key ≡ key
+    pub what : Record
+    pub held : messageOf (completed m i piece) .held ≡ some what
+    pub says : what .value ≡ value
+
+  -- "accepted, typed or sent": by the call c on the memory m
+  pub data Accepts (m : Memory) (key value : List ℕ) (c : Export) : Type 0 where
+    typed : c ≡ host.put key value → returns me m c ≡ 64 → Accepts m key value c
+    sent : (i : ℕ) (piece : List ℕ) → c ≡ host.receives i piece → Sent m i piece key value → Accepts m key value c
+
+  -- "until a higher-ranking one is accepted": none of the calls, as they come, accepts under this key what ranks higher than v
+  unfoldable pub Unbeaten : List ℕ → List ℕ → Memory → List Export → Type 0
+  Unbeaten key v m [] = Unit {0}
+  Unbeaten key v m (c ∷ cs) = ((u : List ℕ) → Accepts m key u c → outranks u v ≡ true → ⊥) × Unbeaten key v (leaves me m c) cs
+
+  -- a receive on the answering side completes a GET_VALUE of this key
+  pub record Asks (m : Memory) (i : ℕ) (piece key : List ℕ) : Type 0 where
+    pub side : connIn (m .conns i) .asking ≡ false
+    pub size : ℕ
+    pub whole : framedOf (connIn (m .conns i) .framing) (m .buffers i) piece .got .answer ≡ framed.Message size
+    pub says : Message
+    pub reads : decode (completed m i piece) ≡ some says
+    pub kind : says .kind ≡ getValue
+    pub under : says .key ≡ key
+
+  -- and is answered with the value: it returns 65, and the reply's bytes are a message, with its prefix, that has this record
+  pub record Serves (m : Memory) (i : ℕ) (piece key value : List ℕ) : Type 0 where
+    pub reply : returns me m (host.receives i piece) ≡ 65
+    pub says : Message
+    pub bytes : take (lengthBy me m i piece) (leaves me m (host.receives i piece) .reply) ≡ frame (encode says)
+    pub back : decode (encode says) ≡ some says
+    pub held : says .held ≡ some (record { key = key; value = value })
+
+  -- "the one found under its key": find returns 64 and writes to out where in the records its bytes begin and end; and every GET_VALUE is answered with it
+  pub record Finds (m : Memory) (key value : List ℕ) : Type 0 where
+    pub find : returns me m (host.find key) ≡ 64
+    pub there : (out : List ℕ) → 2 ≤ length out
+        → let at = writes me m (host.find key) out in part (m .records) (getD at 0 0) (getD at 1 0) ≡ value
+    pub asked : (i : ℕ) (piece : List ℕ) → Asks m i piece key → Serves m i piece key value
+
+  -- "A record once accepted, typed or sent, stays the one found under its key until a higher-ranking one is accepted": at any moment of a run, over any calls
+  -- after it
   abbrev pub Stays : Type 0
   Stays =
-      (m : Memory) (cs : List Export) → Lent m → ReadyFor me (worldIn m nothingYet) → AllFit Fits (meantAll me m cs) → (key v : List ℕ)
-      → got (m .records) key ≡ Has v → Unbeaten key v (m .records) (offersOf m cs) → got (leavesAll me m cs .records) key ≡ Has v
+      (m : Memory) (h : History) → Lent m → ReadyFor me (worldIn m h) → (before : List Export) → AllFit Fits (meantAll me m before)
+      → (c : Export) (key v : List ℕ) → Accepts (leavesAll me m before) key v c
+      → let now = leaves me (leavesAll me m before) c in
+      (later : List Export) → AllFit Fits (meantAll me now later) → Unbeaten key v now later → Finds (leavesAll me now later) key v
+
+  -- and so does one that is found when a run begins
+  abbrev pub Lasts : Type 0
+  Lasts =
+      (m : Memory) (h : History) → Lent m → ReadyFor me (worldIn m h) → (cs : List Export) → AllFit Fits (meantAll me m cs) → (key v : List ℕ)
+      → Finds m key v → Unbeaten key v m cs → Finds (leavesAll me m cs) key v
 
   -- ==== all of it
   pub record Hosted : Type 0 where
@@ -201,11 +302,14 @@ module _ (me : List ℕ) where
     pub calls : AllCalls
     pub handing : HandsOver
     pub refused : RefusedKeeps
+    pub empties : RefusedStart
     pub formed : Formed
+    pub steps : StepsFormed
     pub hashed : ContactsHashed
     pub cut : CutAnywhere
     pub plain : Plainly
     pub stays : Stays
+    pub lasts : Lasts
 
 abbrev pub HostedDemands : Type 0
 HostedDemands = (me : List ℕ) → Started me → Hosted me
