@@ -1,6 +1,6 @@
 -- The three demands, as statements about a box that a start gave. Each stands under the words it says; proofs/Theorems.antt proves all of them
 -- (`first`, `second`, `third`). `Box.antt` says what a box in use is; `cutting` what hosts, pieces and the plain reading are.
-use Prim.Native.Nat.{ℕ, _+_, _≤_, _<_}
+use Prim.Native.Nat.{ℕ, _+_, _≤_}
 use mathlib.Core.Path.{_≡_}
 use mathlib.Core.Bool.{Bool, true, false}
 use mathlib.Core.List.{List, [], _∷_, _++_, map}

@@ -7,7 +7,7 @@ use Rattle.peer.specs.declared.Peer.{Peer}
 use Rattle.sightings_kept.specs.Promises.{Hashed}
 use Rattle.stream.specs.Stream.{isShut}
 use Rattle.cutting.specs.World.{World, Mark, AllFit}
-use Rattle.cutting.specs.Plain.{ReadOut, plainly, unread}
+use Rattle.cutting.specs.Plain.{ReadOut, Left, plainly, unread}
 use Rattle.flat.specs.Flat.{peerIn}
 use Rattle.demands.specs.Box.{Box, Who, Ask, Fits, box}
 use Rattle.demands.proofs.Theorems.{second, third}
@@ -21,6 +21,7 @@ use Rattle.host_demands.proofs.Refused.{refused-keeps, refused-start}
 use Rattle.host_demands.proofs.Formed.{formed, steps-formed}
 use Rattle.host_demands.proofs.Cutting.{cut-anywhere}
 use Rattle.host_demands.proofs.Accepting.{stays, lasts}
+use Rattle.host_demands.proofs.Traced.{lookup-bytes-are-runs}
 
 module _ (me : List ℕ) (S : Started me) where
   abbrev us : Peer
@@ -53,6 +54,8 @@ module _ (me : List ℕ) (S : Started me) where
         reply = ap (λ (x : Box). x .reply) s;
         lookups = λ j. ap (λ (x : Box). x .lookups j) s;
         sees = sym (g .log) ∙ ap (λ (x : Box). map entrySeen (x .log)) e;
+        half = λ i. subst (Left (plainOf me m cs .lines i)) (sym (ap (λ (x : World Who Box Ask). x .lines i) (g .stands)))
+            (subst (λ (x : List (Mark Ask)). Left (plainly (box us) (unread (worldIn m nothingYet) (meantAll me m cs)) x .lines i) (w .lines i)) (g .order) (read .lines i));
       }
 
 pub hosted : HostedDemands
@@ -66,6 +69,7 @@ hosted me S =
       empties = refused-start me;
       formed = formed me S;
       steps = steps-formed me S;
+      lookups = lookup-bytes-are-runs me S;
       hashed = hashed me S;
       cut = cut-anywhere me S;
       plain = plain me S;

@@ -21,7 +21,7 @@ use Rattle.lookup_runs.specs.Runs.{accepted}
 use Rattle.stream.specs.declared.Answer.the-variants as framed
 use Rattle.stream.specs.Stream.{receiveOf as framedOf}
 use Rattle.cutting.specs.World.{World, Sys, hand, call, calls, given, Ready, AllFit, setAt}
-use Rattle.cutting.specs.Plain.{Wire, plainly, unread}
+use Rattle.cutting.specs.Plain.{Wire, plainly, unread, Left}
 use Rattle.flat.specs.Flat.{peerSize, connSize, peerIn, connIn, withFraming}
 use Rattle.flat_lookup.specs.FlatLookup.{flatSize, lookupIn, lookupBytes}
 use Rattle.replies.specs.Replies.{putValue, getValue}
@@ -33,7 +33,7 @@ use Rattle.demands.specs.Box.{Box, Who, bodyIn, Turn, Ask, Fits, box, Own, Allo
 use Rattle.demands.specs.Lookups.{Trace, startIn}
 use Rattle.host_demands.specs.Calls as host
 use Rattle.host_demands.specs.Calls.{Memory, Export, Lent, History, Seen, withLookup, kept, receivedBy, takenBy, lengthBy, returns, leaves, writes, meant, seesOf, marksOf, leavesAll, meantAll, seesAll, marksAll, handsOver, worldIn, Stands, entrySeen}
-use Rattle.host_demands.specs.Lookups.{tracedIn}
+use Rattle.host_demands.specs.Lookups.{tracedIn, LookupBytesAreRuns}
 
 -- ==== the box, and memory to begin with
 -- the memory of a box that starterbell_start wrote
@@ -227,6 +227,8 @@ module _ (me : List ℕ) where
     pub reply : leavesAll me m cs .reply ≡ plainOf m cs .shared .reply
     pub lookups : (j : ℕ) → lookupIn (leavesAll me m cs .lookups j) ≡ plainOf m cs .shared .lookups j
     pub sees : seesAll me m cs ≡ map entrySeen (plainOf m cs .shared .log)
+    -- "and half-read bytes end the same", and nothing that could be read is left
+    pub half : (i : ℕ) → Left (plainOf m cs .lines i) (worldIn (leavesAll me m cs) nothingYet .lines i)
 
   abbrev pub Plainly : Type 0
   Plainly = (m : Memory) (cs : List Export) → Cleared m → AllFit Fits (meantAll me m cs) → ReadPlainly m cs
@@ -305,6 +307,7 @@ module _ (me : List ℕ) where
     pub empties : RefusedStart
     pub formed : Formed
     pub steps : StepsFormed
+    pub lookups : LookupBytesAreRuns me
     pub hashed : ContactsHashed
     pub cut : CutAnywhere
     pub plain : Plainly
