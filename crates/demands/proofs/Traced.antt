@@ -7,7 +7,7 @@ use mathlib.Core.Option.{Option, none, some}
 use lib.ListN.{length, drop}
 use lib.Seq.{drop-append-seam}
 use lib.Dec.{eqb}
-use borrow.Author.Tests.{eqb-true}
+use borrow.Author.Tests.{eqb-true, eq-eqb}
 use Rattle.octets.proofs.Bools.{cond-ind}
 use Rattle.peer.specs.declared.Peer.{Peer}
 use Rattle.records_history.specs.History.{Offer}
@@ -27,7 +27,7 @@ use Rattle.node.specs.Node.{receiveOf}
 use Rattle.host_calls.specs.Hosts.{ownId, lookupStart, lookupReply, lookupFailure}
 use Rattle.demands.specs.Box as box
 use Rattle.demands.specs.Box.{Box, Who, connOf, bodyIn, offersIn, Entry, Turn, Ask, noted, receiving, turning, asking}
-use Rattle.demands.specs.Lookups.{Trace, starts, goes, neither, traceWith, partOf, traced, startIn, IsRun, LookupsAreRuns}
+use Rattle.demands.specs.Lookups.{Trace, Part, starts, goes, neither, traceWith, partOf, traced, startIn, IsRun, LookupsAreRuns}
 
 -- ---- the log only grows
 abbrev Longer : List Entry → List Entry → Type 0
@@ -219,6 +219,32 @@ module _ (me : Peer) (j : ℕ) where
       (traceWith (s .shared .state .contacts) (drop (length (s .shared .state .log)) (w .shared .state .log)) (partOf me j (s .shared .state .inbox) c) x)
       (call-agrees s c x h)
 
+-- ---- once there is a trace, there is one
+abbrev pub There : {E : Type 0} → Option (Trace E) → Type 0
+There {E} o = (x : Trace E) × (o ≡ some x)
+
+pub with-there : {E : Type 0} (t : List ℕ) (es : List E) (p : Part) (o : Option (Trace E)) → There o → There (traceWith t es p o)
+with-there t es (starts key limit) o h = (_, refl)
+with-there t es (goes c) o h = subst (λ (q : Option (Trace _)). There (traceWith t es (goes c) q)) (sym (h .1)) (_, refl)
+with-there t es neither o h = h
+
+pub start-there : {E : Type 0} (me : Peer) (j : ℕ) (t : List ℕ) (es : List E) (inbox : ℕ → List ℕ) (key : List ℕ) (limit : ℕ) (o : Option (Trace E))
+    → There (traceWith t es (partOf me j inbox (asks (box.start j key limit))) o)
+start-there me j t es inbox key limit o =
+    subst (λ (b : Bool). There (traceWith t es (cond b (starts key limit) neither) o)) (sym (eq-eqb j j refl)) (_, refl)
+
+traced-there : (me : Peer) (j : ℕ) (cs : List (Call Turn Ask)) (s : World Who Box Ask) (o : Option (Trace Entry)) → There o → There (traced me j s o cs)
+unfolding traced
+traced-there me j [] s o h = h
+traced-there me j (c ∷ cs) s o h = traced-there me j cs (call (box.box me) s c) _ (with-there _ _ (partOf me j (s .shared .state .inbox) c) o h)
+
+begins-there : (me : Peer) (j : ℕ) (key : List ℕ) (limit : ℕ) (before after : List (Call Turn Ask)) (s : World Who Box Ask) (o : Option (Trace Entry))
+    → There (traced me j s o (before ++ (asks (box.start j key limit) ∷ after)))
+unfolding traced
+begins-there me j key limit [] after s o =
+    traced-there me j after (call (box.box me) s (asks (box.start j key limit))) _ (start-there me j _ _ (s .shared .state .inbox) key limit o)
+begins-there me j key limit (c ∷ before) after s o = begins-there me j key limit before after (call (box.box me) s c) _
+
 pub lookups-are-runs : (me : Peer) → LookupsAreRuns me
 lookups-are-runs me =
     record {
@@ -226,5 +252,6 @@ lookups-are-runs me =
           let h : Agrees me j (some x) (calls (box.box me) s cs .shared .state .lookups j) =
           subst (λ (y : Option (Trace Entry)). Agrees me j y (calls (box.box me) s cs .shared .state .lookups j)) e (calls-agree me j cs s none tt) in
           is-run me tells x (calls (box.box me) s cs .shared .state .lookups j) (h .0) (h .1);
+      begins = λ s before after j key limit. begins-there me j key limit before after s none;
       grows = λ s cs. more-since (s .shared .state .log) (calls (box.box me) s cs .shared .state .log) (calls-more me cs s);
     }

@@ -70,10 +70,11 @@ module _ (me : Peer) (j : ℕ) where
       let w = call (box me) s c in
       traced w (traceWith (s .shared .state .contacts) (logSince s w) (partOf (s .shared .state .inbox) c) x) cs
 
--- ---- the lookup l is the run of its trace: `tells` says what is told of a step
+-- what its start gave
 abbrev pub startIn : {E : Type 0} → Peer → Trace E → Step
 startIn me x = lookupStart me (x .table) (x .key) (x .limit)
 
+-- ---- the lookup l is the run of its trace: `tells` says what is told of a step
 pub record IsRun {E : Type 0} (me : Peer) (tells : Step → E) (x : Trace E) (l : Lookup) : Type 0 where
   -- it is what its calls, one after the other, made of what its start gave
   pub lookup : l ≡ outcome step (startIn me x) (x .calls) .lookup
@@ -88,5 +89,8 @@ pub record LookupsAreRuns (me : Peer) : Type 0 where
   -- whatever the world, and whatever is called on it: once started, lookup j is the run of its own start and calls, and the log tells of each what it gave
   pub runs : (s : World Who Box Ask) (cs : List (Call Turn Ask)) (j : ℕ) (x : Trace Entry) → traced me j s none cs ≡ some x
       → IsRun me (λ g. called (stepGave g)) x (calls (box me) s cs .shared .state .lookups j)
+  -- a lookup that was started has a trace, whatever came before and after
+  pub begins : (s : World Who Box Ask) (before after : List (Call Turn Ask)) (j : ℕ) (key : List ℕ) (limit : ℕ)
+      → (x : Trace Entry) × (traced me j s none (before ++ (asks (start j key limit) ∷ after)) ≡ some x)
   -- and what the log has told it keeps
   pub grows : (s : World Who Box Ask) (cs : List (Call Turn Ask)) → calls (box me) s cs .shared .state .log ≡ s .shared .state .log ++ logSince s (calls (box me) s cs)

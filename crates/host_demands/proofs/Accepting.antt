@@ -2,8 +2,8 @@
 use Prim.Native.Nat.{ℕ, _≤_}
 use mathlib.Core.Path.{_≡_, refl, sym, ap, ap₂, _∙_, subst}
 use mathlib.Core.Logic.{⊎-elim}
-use mathlib.Core.Bool.{Bool, true, false, cond, not, false≢true}
-use mathlib.Core.List.{List, [], _∷_, _++_}
+use mathlib.Core.Bool.{true, false, not, false≢true}
+use mathlib.Core.List.{List, [], _∷_}
 use mathlib.Core.Option.{Option, none, some}
 use native.Mathlib.Omega.{arith}
 use lib.ListN.{length, getD, take, drop, length-take, drop-of-length-le}
@@ -36,24 +36,24 @@ use Rattle.stream.specs.declared.Answer.the-variants as framed
 use Rattle.stream.specs.Stream as streams
 use Rattle.stream.specs.Stream.{bodyLimit, isShut, runOf, receiveOf as framedOf}
 use Rattle.stream.proofs.Steps.{call-runs}
-use Rattle.cutting.specs.World.{Line, World, Called, hand, does, asks, call, calls, AllFit}
+use Rattle.cutting.specs.World.{Line, World, Called, call, calls, AllFit}
 use Rattle.cutting.proofs.Kept.{run-within, message-fits}
 use Rattle.cutting.proofs.Once.{run-taken}
-use Rattle.replies.specs.Replies.{putValue, getValue, putValueReply}
+use Rattle.replies.specs.Replies.{putValue, putValueReply}
 use Rattle.replies.specs.declared.Answered.the-variants as told
 use Rattle.replies.specs.Verdicts.{Verdict, replies, echoed, putVerdict, Dealt, byVerdict}
 use Rattle.answer.specs.Answers.{verdictOf, recordsAfter, byReading, dealOf}
 use Rattle.connections.specs.declared.Conn.{Conn}
 use Rattle.node.specs.declared.Answer.{Answer}
 use Rattle.node.specs.declared.Answer.the-variants.{Reply, Heard, Refused, More}
-use Rattle.node.specs.Node.{Dealing, Out, byEvent, dealingOf}
+use Rattle.node.specs.Node.{Dealing, Out, byEvent}
 use Rattle.node_promises.proofs.Doing.{message-done}
-use Rattle.flat.specs.Flat.{peerIn, connIn}
+use Rattle.flat.specs.Flat.{peerIn}
 use Rattle.host_answers.specs.Answers.{putNumber, findNumber, findNumbers}
 use Rattle.host_state.specs.State.{answerNumber, answerLength}
 use Rattle.host.specs.Host.{lentBoth}
 use Rattle.demands.specs.Box as box
-use Rattle.demands.specs.Box.{Box, Who, connOf, bodyIn, offerBy, offerIn, offersIn, receiving, Ask, Fits}
+use Rattle.demands.specs.Box.{Box, Who, connOf, bodyIn, offerBy, offerIn, offersIn, Ask, Fits}
 use Rattle.demands.specs.Demands as inner
 use Rattle.demands.specs.Demands.{since, receiveOn}
 use Rattle.demands.proofs.Accepting.{got-finds}
@@ -62,7 +62,7 @@ use Rattle.demands.proofs.Deal.{deal-is}
 use Rattle.demands.proofs.Receives.{let-through, runs-as, receives as box-receives}
 use Rattle.demands.proofs.Theorems.{third}
 use Rattle.host_demands.specs.Calls as host
-use Rattle.host_demands.specs.Calls.{Memory, History, Lent, Export, receivedBy, receiveCode, takenBy, lengthBy, returns, leaves, writes, meant, leavesAll, meantAll, worldIn, historyOf, Stands}
+use Rattle.host_demands.specs.Calls.{Memory, History, Lent, Export, receivedBy, takenBy, returns, leaves, meant, leavesAll, meantAll, worldIn, historyOf}
 use Rattle.host_demands.specs.Hosted.{Started, ReadyFor, Follows, FollowsAll, after, completed, Sent, Accepts, typed, sent, Unbeaten, Asks, Serves, Finds, Stays, Lasts}
 use Rattle.host_demands.proofs.Numbers.{number-small}
 use Rattle.host_demands.proofs.Connections.{both-enough}

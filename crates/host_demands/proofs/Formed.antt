@@ -160,7 +160,7 @@ module _ (me : List ℕ) (S : Started me) where
       let n : Memory = leavesAll me m cs in
       let h′ : History = historyOf (after me (worldIn m h) m cs) in
       let s : Step = startIn us x in
-      let l : lookupIn (n .lookups j) ≡ outcome step s (x .calls) .lookup = lookup-bytes-are-runs me S m h cs len r f j x t .lookup in
+      let l : lookupIn (n .lookups j) ≡ outcome step s (x .calls) .lookup = lookup-bytes-are-runs me S .runs m h cs len r f j x t .lookup in
       let never : NeverOutOfForm us = never-out-of-form us (S .own) in
       let next : returns me n (lookupNext j) ≡ stepNumber (step goNext (outcome step s (x .calls) .lookup) .answer) =
       lent-enough flatSize (n .lookups j) 0 (stepNumber (nextStep me n j .answer)) (g .lent .lookups j) ∙ ap (λ (y : Lookup). stepNumber (step goNext y .answer)) l in

@@ -14,7 +14,8 @@ use Rattle.flat.specs.Flat.{peerIn}
 use Rattle.flat_lookup.specs.FlatLookup.{lookupIn}
 use Rattle.demands.specs.Box.{Box, Who, Entry, called, stepGave, Turn, Ask, Fits, box}
 use Rattle.demands.specs.Lookups.{Trace, Part, starts, goes, neither, traceWith, partOf, traced, startIn, IsRun}
-use Rattle.demands.proofs.Traced.{is-run, lookups-are-runs}
+use Rattle.demands.proofs.Traced.{is-run, There, with-there, start-there, lookups-are-runs}
+use Rattle.host_demands.specs.Calls as host
 use Rattle.host_demands.specs.Calls.{Memory, Export, Lent, History, Seen, leaves, meant, seesOf, leavesAll, meantAll, worldIn, Stands, entrySeen}
 use Rattle.host_demands.specs.Hosted.{Started, ReadyFor, Follows}
 use Rattle.host_demands.specs.Lookups.{tracedIn, stepSeen, LookupBytesAreRuns}
@@ -94,13 +95,30 @@ module _ (me : List ℕ) (S : Started me) (j : ℕ) where
   seen-if l none r x e = absurd (Option·none-ne-some x e)
   seen-if l (some y) r x e = subst (λ (z : Trace Seen). IsRun (peerIn me) stepSeen z l) (Option·some-injective (seenTrace y) x e) (seen-run l y (r y refl))
 
+  -- a start gives a trace, and calls keep one
+  traced-there : (cs : List Export) (m : Memory) (o : Option (Trace Seen)) → There o → There (tracedIn me j m o cs)
+  unfolding tracedIn
+  traced-there [] m o h = h
+  traced-there (c ∷ cs) m o h = traced-there cs (leaves me m c) _ (with-there _ _ (partOf (peerIn me) j (m .inbox) (meant me m c)) o h)
+
+  begins-there : (key : List ℕ) (limit : ℕ) (before after : List Export) (m : Memory) (o : Option (Trace Seen))
+      → There (tracedIn me j m o (before ++ (host.lookupStarts j key limit ∷ after)))
+  unfolding tracedIn
+  begins-there key limit [] after m o =
+      traced-there after (leaves me m (host.lookupStarts j key limit)) _ (start-there (peerIn me) j _ _ (m .inbox) key limit o)
+  begins-there key limit (c ∷ before) after m o = begins-there key limit before after (leaves me m c) _
+
 pub lookup-bytes-are-runs : (me : List ℕ) → Started me → LookupBytesAreRuns me
-lookup-bytes-are-runs me S m h cs len ready fit j x e =
-    let w : World Who Box Ask = worldIn m h in
-    let end : World Who Box Ask = calls (box (peerIn me)) w (meantAll me m cs) in
-    let same : lookupIn (leavesAll me m cs .lookups j) ≡ end .shared .state .lookups j =
-    ap (λ (v : World Who Box Ask). v .shared .state .lookups j) (all-calls me S m w cs len ready refl fit .stands) in
-    subst (λ (l : Lookup). IsRun (peerIn me) stepSeen x l) (sym same)
-    (seen-if me S j (end .shared .state .lookups j) (traced (peerIn me) j w none (meantAll me m cs))
-    (λ y. lookups-are-runs (peerIn me) .runs w (meantAll me m cs) j y) x
-    (sym (traces-same me S j cs m w none len ready refl fit) ∙ e))
+lookup-bytes-are-runs me S =
+    record {
+      runs = λ m h cs len ready fit j x e.
+          let w : World Who Box Ask = worldIn m h in
+          let end : World Who Box Ask = calls (box (peerIn me)) w (meantAll me m cs) in
+          let same : lookupIn (leavesAll me m cs .lookups j) ≡ end .shared .state .lookups j =
+          ap (λ (v : World Who Box Ask). v .shared .state .lookups j) (all-calls me S m w cs len ready refl fit .stands) in
+          subst (λ (l : Lookup). IsRun (peerIn me) stepSeen x l) (sym same)
+          (seen-if me S j (end .shared .state .lookups j) (traced (peerIn me) j w none (meantAll me m cs))
+          (λ y. lookups-are-runs (peerIn me) .runs w (meantAll me m cs) j y) x
+          (sym (traces-same me S j cs m w none len ready refl fit) ∙ e));
+      begins = λ m before after j key limit. begins-there me S j key limit before after m none;
+    }
