@@ -50,7 +50,7 @@ use Rattle.replies.specs.Replies.{putValue, getValue, findNode, ping, closerPee
 use Rattle.entries.specs.Entries.{contactEntry, peerEntry}
 use Rattle.replies.specs.Verdicts.{Verdict, replies, refuses, keyFits, keyed, echoed, putVerdict, putAfter, Dealt, refused, replied, byVerdict}
 use Rattle.answer.specs.Answers.{verdictOf, recordsAfter, byReading, dealOf}
-use Rattle.answer_promises.specs.Promises.{RefusedChangesNothing, ReadsBack, Roomed, RepliesReadBack, AnsweredByFields, SentAsTyped, HeldIsServed, EntryIsPeer, RecordsStayInForm}
+use Rattle.answer_promises.specs.Promises.{RefusedChangesNothing, ReadsBack, Roomed, RepliesReadBack, AnsweredByVerdict, AnsweredByFields, SentAsTyped, HeldIsServed, EntryIsPeer, RecordsStayInForm}
 use Rattle.replies.specs.declared.Answered.the-variants.{Reply, Refused}
 use Rattle.entries.proofs.Entries.{own-fits, id-most}
 use Rattle.replies.proofs.Runs.{entries-fit}
@@ -296,6 +296,9 @@ module _ (me who : peers.Peer) (t k y : List ℕ) (body : List ℕ) (l : length 
   by-get : m .kind ≡ getValue → keyFits (m .key) ≡ true → dealOf me who body t k y ≡ replied (getValueReply t k (m .key)) k y
   unfolding verdictOf recordsAfter keyed
   by-get e f = by-type (ap (ltb mostKind) e) ∙ rw (e, f) refl
+
+pub answered-by-verdict : (me : peers.Peer) → AnsweredByVerdict me
+answered-by-verdict me who body t k y m l d h = by-type me who t k y body l m d (le-ltb mostKind (m .kind) h)
 
 pub sent-as-typed : (me : peers.Peer) → SentAsTyped me
 sent-as-typed me who body t k y m r l d e h q form =

@@ -11,13 +11,13 @@ use Rattle.peer.specs.Addresses.{idRoom, keptOf}
 use Rattle.peer.specs.Peers.{idFits, peerOf}
 use Rattle.records.specs.Store.{inForm, putAnswer, putAfter}
 use Rattle.records_history.specs.History.{Has, got}
-use Rattle.message.specs.Limits.{mostBody, leastReply}
+use Rattle.message.specs.Limits.{mostBody, mostKind, leastReply}
 use Rattle.message.specs.Message.{Record, Message, messageOf, decode, encode, frame}
 use Rattle.pieces.specs.Writable.{writable}
 use Rattle.entries.specs.Entries.{peerEntry}
 use Rattle.replies.specs.Replies.{putValue, getValue, putValueReply}
 use Rattle.replies.specs.Verdicts.{Verdict, replies, echoed, Dealt, byVerdict}
-use Rattle.answer.specs.Answers.{verdictOf, dealOf}
+use Rattle.answer.specs.Answers.{verdictOf, recordsAfter, dealOf}
 use Rattle.replies.specs.declared.Answered.the-variants.{Reply, Refused}
 
 -- a request that is refused changes nothing
@@ -46,6 +46,12 @@ abbrev pub RepliesReadBack : Type 0
 RepliesReadBack =
     (me who : peers.Peer) → Roomed me → Roomed who → (body t k y : List ℕ) → leastReply ≤ length y → (n : ℕ) → dealOf me who body t k y .told ≡ Reply n
     → ReadsBack (verdictOf me who (messageOf body) t k) (dealOf me who body t k y) y n
+
+-- a request gets what its fields call for, refused or answered: the verdict's reply, and the records that it leaves
+abbrev pub AnsweredByVerdict : peers.Peer → Type 0
+AnsweredByVerdict me =
+    (who : peers.Peer) (body t k y : List ℕ) (m : Message) → length body ≤ mostBody → decode body ≡ some m → m .kind ≤ mostKind
+    → dealOf me who body t k y ≡ byVerdict (verdictOf me who m t k) k (recordsAfter m k) y
 
 -- answer, records and reply go by what a body says, not by how it is written: two bodies of the same fields get the same. So a message whose record comes in
 -- several fields is answered, stored and echoed as the same message with its record in one

@@ -21,7 +21,7 @@ use Rattle.message.specs.declared.Reading.{Reading}
 use Rattle.pieces.specs.Writable.{writable}
 use Rattle.writer.specs.declared.Written.the-variants as writer
 use Rattle.writer.specs.Writer.{answerOf, outAfter}
-use Rattle.round_trip.proofs.RoundTrip.{fitting}
+use Rattle.round_trip.proofs.RoundTrip.{fitting, round-trip}
 use Rattle.round_trip.proofs.Written.{read-written}
 use Rattle.stream.specs.declared.Framing.the-variants.{Shut}
 use Rattle.stream.specs.Stream.{fresh}
@@ -56,6 +56,7 @@ written y m n e = go (ltb (length y) leastReply) refl (writable m) refl
           size = sym c;
           stands = ap (take n) o ∙ ap (λ (j : ℕ). take j (sets y 0 (frame (encode m)))) (sym c) ∙ take-sets-first y (frame (encode m)) l;
           rest = ap (drop n) o ∙ drop-sets n y 0 (frame (encode m)) (omega arith);
+          back = round-trip m q;
         }
 
 -- ---- what is heard

@@ -3,14 +3,16 @@ use Rattle.place.specs.Place.{placeOf}
 use Rattle.place.proofs.Places.{length-placeOf}
 use Rattle.peer.specs.declared.Peer.{Peer}
 use Rattle.contacts.proofs.TwentyNearest.{nearest-are}
-use Rattle.records_history.proofs.Holding.{held-is-found, judged-first}
+use Rattle.records_history.proofs.Holding.{held-is-found, judged-first, put-told}
 use Rattle.records_history.proofs.Blind.{form-is-blind}
 use Rattle.message.proofs.Occurrences.{split-is-merged}
 use Rattle.message.proofs.Claims.{reads-well}
 use Rattle.round_trip.proofs.RoundTrip.{round-trip}
-use Rattle.lookup_runs.proofs.Theorems.{claims}
+use Rattle.round_trip.proofs.Written.{written-is-read}
+use Rattle.lookup_runs.proofs.Theorems as lookups
+use Rattle.host_contacts.proofs.Claims as contacts
 use Rattle.host_calls.specs.Hosts.{ownId, lookupStart}
-use Rattle.answer_promises.proofs.Promised.{replies-read-back, answered-by-fields, sent-as-typed, held-is-served}
+use Rattle.answer_promises.proofs.Promised.{replies-read-back, answered-by-verdict, answered-by-fields, sent-as-typed, held-is-served}
 use Rattle.cutting.proofs.Claims.{several, several-plainly, split, one-receive}
 use Rattle.node_promises.proofs.Doing.{message-done}
 use Rattle.framing_back.proofs.Varints.{prefix-is-varint}
@@ -29,7 +31,13 @@ use Rattle.demands.proofs.Accepting.{made, stays, lasts, outranked-by-n
 use Rattle.demands.proofs.Traced.{lookups-are-runs}
 
 pub first : (me : Peer) → Own me → First me
-first me w = record { refused = refused-leaves me; formed = never-out-of-form me w }
+first me w =
+    record {
+      refused = refused-leaves me;
+      contacts = contacts.claims me (w .fits) (w .long) (w .bytes);
+      puts = put-told;
+      formed = never-out-of-form me w;
+    }
 
 pub second : (me : Peer) → Own me → Second me
 unfolding lookupStart
@@ -38,18 +46,20 @@ second me w =
       reads = reads-well;
       split = split-is-merged;
       writes = round-trip;
+      readable = written-is-read;
       written = written;
       prefix = prefix-is-varint;
       frames = frames-read-back;
       arrives = frames-arrive Who Box Turn Ask (box me) (Allowed me) (Good me) Fits (sound me w);
+      verdicts = answered-by-verdict me;
       replies = λ who h. replies-read-back me who (w .roomed) h;
       answers = answered-by-fields me;
       done = message-done;
       boxes = λ you u. box-to-box me you w u;
-      queries = queries me;
+      queries = queries me (w .fits);
       nearest = λ t key. nearest-are t (placeOf key) (length-placeOf key);
       hashed = λ s b cs f. placed me w s (begun-known me s b) cs f;
-      lookup = λ t key limit s. claims t (ownId me) (me .place) key limit s;
+      lookup = λ t key limit s. lookups.claims t (ownId me) (me .place) key limit s;
       lookups = lookups-are-runs me;
     }
 

@@ -12,6 +12,7 @@ use Rattle.refusal.specs.declared.Refusal.the-variants.{OutOfForm}
 use Rattle.place.specs.Place.{placeOf}
 use Rattle.peer.specs.declared.Peer.{Peer}
 use Rattle.contacts.specs.Table.{slot}
+use Rattle.contacts.specs.Form.{inForm as contactsForm}
 use Rattle.contacts.specs.Near.{nearestSlots}
 use Rattle.entries.specs.Entries.{contactEntry}
 use Rattle.contacts.specs.Claims.{AreNearest}
@@ -24,12 +25,12 @@ use Rattle.records.specs.declared.Answer.the-variants as putTold
 use Rattle.records.specs.declared.Found.the-variants as findTold
 use Rattle.records.specs.Store.{putAnswer, putAfter, findOf}
 use Rattle.records_history.specs.History.{Offer, after, cleared, Accepted, Unbeaten}
-use Rattle.records_history.specs.Claims.{FormIsBlind, HeldIsFound, JudgedFirst}
+use Rattle.records_history.specs.Claims.{FormIsBlind, HeldIsFound, JudgedFirst, PutTold}
 use Rattle.message.specs.Limits.{mostBody, leastReply}
 use Rattle.message.specs.Message.{Record, Message, messageOf, decode, encode, frame}
 use Rattle.message.specs.Claims.{ReadsWell, SplitIsMerged}
 use Rattle.message.specs.View.{fieldsOf}
-use Rattle.round_trip.specs.Claims.{RoundTrip}
+use Rattle.round_trip.specs.Claims.{RoundTrip, WrittenIsRead}
 use Rattle.writer.specs.declared.Written.the-variants as writer
 use Rattle.writer.specs.Writer.{answerOf, outAfter}
 use Rattle.lookup.specs.declared.Lookup.{Lookup}
@@ -45,14 +46,15 @@ use Rattle.cutting.specs.Plain.{ReadOut, plainly, unread}
 use Rattle.framing_back.specs.Claims.{PrefixIsVarint, FramesReadBack, hands, Arrives}
 use Rattle.replies.specs.declared.Answered.the-variants as told
 use Rattle.replies.specs.Replies.{putValue, getValue, findNode, lastEntry}
-use Rattle.replies.specs.Verdicts.{replies}
+use Rattle.replies.specs.Verdicts.{replies, keyFits}
 use Rattle.answer.specs.Answers.{verdictOf, dealOf}
-use Rattle.answer_promises.specs.Promises.{Roomed, ReadsBack, AnsweredByFields, SentAsTyped, Serves, HeldIsServed}
+use Rattle.answer_promises.specs.Promises.{Roomed, ReadsBack, AnsweredByVerdict, AnsweredByFields, SentAsTyped, Serves, HeldIsServed}
 use Rattle.connections.specs.declared.Conn.{Conn}
 use Rattle.node.specs.declared.Answer.the-variants.{Reply, Refused}
 use Rattle.connections.specs.declared.Told.the-variants as nodeTold
 use Rattle.connections.specs.Box.{startOf, openOf, endConn}
 use Rattle.node.specs.Node.{Out, receiveOf}
+use Rattle.host_contacts.specs.Claims.{ContactsTold}
 use Rattle.host_calls.specs.Hosts.{seenOf, settleOf, removeOf, nearestTo, ownId, lookupStart}
 use Rattle.node_promises.specs.Promises.{Refuses, CallsRefused, ValuesRefused, MessageDone}
 use Rattle.demands.specs.Lookups.{LookupsAreRuns}
@@ -97,6 +99,9 @@ pub record NeverOutOfForm (me : Peer) : Type 0 where
 
 pub record First (me : Peer) : Type 0 where
   pub refused : RefusedLeaves me
+  -- "the numbers in document 01", each given exactly when it says so, and what each answer does: of seen, settle and remove, and of put
+  pub contacts : ContactsTold me
+  pub puts : PutTold
   pub formed : NeverOutOfForm me
 
 -- ==== 2. The words of what is read and written
@@ -105,6 +110,7 @@ pub record Writes (m : Message) (y : List ℕ) (n : ℕ) : Type 0 where
   pub size : n ≡ length (frame (encode m))
   pub stands : take n (outAfter y m) ≡ frame (encode m)
   pub rest : drop n (outAfter y m) ≡ drop n y
+  pub back : decode (encode m) ≡ some m
 
 -- the message `says` is heard on connection i after n bytes of it: the world s is w then. The log has its bytes, a lookup can take them, and the next may come
 pub record Hears (says : Message) (i n : ℕ) (s w : World Who Box Ask) : Type 0 where
@@ -122,13 +128,15 @@ BoxToBox me you =
     → (ps : List (List ℕ)) → joined ps ≡ take n (dealOf me who body t k y .reply)
     → (says : Message) × (verdictOf me who (messageOf body) t k ≡ replies says) × Hears says i n s (calls (box you) s (hands i ps))
 
--- what a query answers: the host's own gives the slots of the nearest contacts, and a peer's their entries, to which FIND_NODE may add one
+-- what a query for a key of 1 to 64 bytes answers: the host's own gives the slots of the nearest contacts, and a peer's their entries, to which FIND_NODE may add one
 pub record Queries (me : Peer) : Type 0 where
-  pub host : (t key : List ℕ) → nearestTo me t key .told ≡ nodeTold.Fine → take (nearestTo me t key .closest .n) (nearestTo me t key .closest .at) ≡ nearestSlots t (placeOf key)
-  pub get : (who : Peer) (m r : Message) (t k : List ℕ) → m .kind ≡ getValue → verdictOf me who m t k ≡ replies r
-      → r .closer ≡ map (λ i. contactEntry (slot t i)) (nearestSlots t (placeOf (m .key)))
-  pub find : (who : Peer) (m r : Message) (t k : List ℕ) → m .kind ≡ findNode → verdictOf me who m t k ≡ replies r
-      → r .closer ≡ map (λ i. contactEntry (slot t i)) (nearestSlots t (placeOf (m .key))) ++ lastEntry me who t (placeOf (m .key))
+  pub host : (t key : List ℕ) → contactsForm t (me .place) ≡ true → keyFits key ≡ true
+      → (nearestTo me t key .told ≡ nodeTold.Fine) × (take (nearestTo me t key .closest .n) (nearestTo me t key .closest .at) ≡ nearestSlots t (placeOf key))
+  pub get : (who : Peer) (m : Message) (t k : List ℕ) → m .kind ≡ getValue → keyFits (m .key) ≡ true
+      → (r : Message) × (verdictOf me who m t k ≡ replies r) × (r .closer ≡ map (λ i. contactEntry (slot t i)) (nearestSlots t (placeOf (m .key))))
+  pub find : (who : Peer) (m : Message) (t k : List ℕ) → m .kind ≡ findNode → keyFits (m .key) ≡ true
+      → (r : Message) × (verdictOf me who m t k ≡ replies r)
+      × (r .closer ≡ map (λ i. contactEntry (slot t i)) (nearestSlots t (placeOf (m .key))) ++ lastEntry me who t (placeOf (m .key)))
 
 -- as a host begins: memory cleared, every connection shut, buffers that 1 doesn't refuse
 pub record Begun (s : World Who Box Ask) : Type 0 where
@@ -147,6 +155,7 @@ pub record Second (me : Peer) : Type 0 where
   pub split : SplitIsMerged
   -- "what is written reads back as the same fields"
   pub writes : RoundTrip
+  pub readable : WrittenIsRead
   pub written : (y : List ℕ) (m : Message) (n : ℕ) → answerOf y m ≡ writer.Done n → Writes m y n
   -- with its length prefix, which is a varint of the same wire format: whatever follows, it is a whole message of that body; and handed over in any pieces, that
   -- message arrives
@@ -154,6 +163,8 @@ pub record Second (me : Peer) : Type 0 where
   pub frames : FramesReadBack
   pub arrives : (s : World Who Box Ask) → Ready (Allowed me) (Good me) s → (i : ℕ) → s .lines i .framing ≡ fresh → (body : List ℕ) → length body ≤ mostBody
       → (ps : List (List ℕ)) → joined ps ≡ frame body → Arrives (box me) i body s (calls (box me) s (hands i ps))
+  -- a request gets what its fields call for
+  pub verdicts : AnsweredByVerdict me
   -- a reply is the message that the plain reading of the request calls for, it reads back as that message, and bytes after it stay
   pub replies : (who : Peer) → Roomed who → (body t k y : List ℕ) → leastReply ≤ length y → (n : ℕ) → dealOf me who body t k y .told ≡ told.Reply n
       → ReadsBack (verdictOf me who (messageOf body) t k) (dealOf me who body t k y) y n

@@ -1,2 +1,3 @@
 pub mod Contacts
+pub mod Claims
 pub mod Inner

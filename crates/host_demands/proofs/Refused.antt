@@ -10,12 +10,6 @@ use lib.Dec.{eqb, ltb}
 use borrow.Author.Tests.{eqb-true, eq-eqb, le-ltb}
 use Rattle.octets.proofs.Bools.{cond-yes, cond-no, or-fails}
 use Rattle.peer.specs.declared.Peer.{Peer}
-use Rattle.contact_calls.specs.declared.SeenOutcome.{SeenOutcome}
-use Rattle.contact_calls.specs.declared.SeenOutcome.the-variants as seen
-use Rattle.contact_calls.specs.declared.SettleOutcome.{SettleOutcome}
-use Rattle.contact_calls.specs.declared.SettleOutcome.the-variants as settle
-use Rattle.contact_calls.specs.declared.RemoveOutcome.{RemoveOutcome}
-use Rattle.contact_calls.specs.declared.RemoveOutcome.the-variants as remove
 use Rattle.records.specs.declared.Answer as stored
 use Rattle.records.specs.declared.Answer.the-variants as put
 use Rattle.records.specs.Store.{putAnswer, putAfter}
@@ -94,30 +88,14 @@ module _ (me : List ℕ) (m : Memory) where
 
   seen-kept : (id : List ℕ) (client : Bool) (addresses : List ℕ) → seenNumber (seenOf us (m .contacts) id client) < 64
       → seenAfter us (m .contacts) id client addresses ≡ m .contacts
-  seen-kept id client addresses h = go (seenOf us (m .contacts) id client) refl h
-    where
-      go : (x : SeenOutcome) → seenOf us (m .contacts) id client ≡ x → seenNumber x < 64 → seenAfter us (m .contacts) id client addresses ≡ m .contacts
-      go (seen.Moved i) e l = absurd (omega (arith, l))
-      go (seen.Joined i) e l = absurd (omega (arith, l))
-      go (seen.Probe k) e l = leaving .calls .probes us (m .contacts) id client addresses k e
-      go (seen.Refused r) e l = leaving .calls .sees us (m .contacts) id client addresses r e
+  seen-kept id client addresses = leaving .calls .sees us (m .contacts) id client addresses
 
   settle-kept : (head id : List ℕ) (client : Bool) (addresses : List ℕ) (answered : Bool) → settleNumber (settleOf us (m .contacts) head id client answered) < 64
       → settleAfter us (m .contacts) head id client addresses answered ≡ m .contacts
-  settle-kept head id client addresses answered h = go (settleOf us (m .contacts) head id client answered) refl h
-    where
-      go : (x : SettleOutcome) → settleOf us (m .contacts) head id client answered ≡ x → settleNumber x < 64
-          → settleAfter us (m .contacts) head id client addresses answered ≡ m .contacts
-      go settle.Kept e l = absurd (omega (arith, l))
-      go settle.Swapped e l = absurd (omega (arith, l))
-      go (settle.Refused r) e l = leaving .calls .settles us (m .contacts) head id client addresses answered r e
+  settle-kept head id client addresses answered = leaving .calls .settles us (m .contacts) head id client addresses answered
 
   remove-kept : (id : List ℕ) → removeNumber (removeOf us (m .contacts) id) < 64 → removeAfter us (m .contacts) id ≡ m .contacts
-  remove-kept id h = go (removeOf us (m .contacts) id) refl h
-    where
-      go : (x : RemoveOutcome) → removeOf us (m .contacts) id ≡ x → removeNumber x < 64 → removeAfter us (m .contacts) id ≡ m .contacts
-      go remove.Gone e l = absurd (omega (arith, l))
-      go (remove.Refused r) e l = leaving .calls .removes us (m .contacts) id r e
+  remove-kept id = leaving .calls .removes us (m .contacts) id
 
   -- ---- lookups
   step-kept : (x : List ℕ) (s : Step) → stepNumber (s .answer) < 64 → stepMemory x s ≡ x

@@ -3,7 +3,7 @@ use Prim.Native.Nat.{ℕ}
 use mathlib.Core.List.{List}
 use Rattle.message.specs.Claims.{ReadsWell, WalksAll, Claims}
 use Rattle.message.specs.View.{fieldsOf}
-use Rattle.message.proofs.Meaning.{absent-is-shown}
+use Rattle.message.proofs.Meaning.{absent-is-shown, walks-inside}
 use Rattle.message.proofs.Occurrences.{split-is-merged}
 use Rattle.message.proofs.Views.{read-whole, long-read, malformed-read, unknown-read, whole-read, closer-walked, providers-walked, addresses-walked, heard-meant}
 
@@ -25,6 +25,7 @@ claims =
       reads = reads-well;
       inside = λ s m e. read-whole s m e .lies;
       walks = walks-all;
+      walksInside = walks-inside;
       split = split-is-merged;
       absent = absent-is-shown;
     }

@@ -1,10 +1,10 @@
 -- The parts at a view's positions are what the body says, and they lie inside it. Assumes nothing.
-use Prim.Native.Nat.{ℕ, _<_}
+use Prim.Native.Nat.{ℕ, zero, suc, _<_}
 use mathlib.Core.Path.{_≡_, refl, sym, ap, ap₂, _∙_}
 use mathlib.Core.List.{List, [], _∷_, _++_, map, flatten as joined}
 use mathlib.Core.Bool.{Bool, true, _&&_}
 use native.Mathlib.Omega.{arith}
-use lib.ListN.{length}
+use lib.ListN.{length, getD}
 use Rattle.octets.specs.Search.{every, lastOf}
 use Rattle.octets.proofs.Searching.{last-map}
 use Rattle.wire.specs.Wire.{fields, fieldsIn, spans, nowhere}
@@ -15,7 +15,7 @@ use Rattle.wire.proofs.Within.{items-well, items-values, items-parts, in-well, 
 use Rattle.message.specs.Message.{peerOf, merged, messageOf, wellFormed, wellMessage}
 use Rattle.message.specs.View.{allSpans, fieldsOf, idAt, addressesAt, connectionAt, closerAt, providersAt, heldMeant, peerMeant, meant}
 pub use Rattle.message.specs.Claims.{Cuttable, FieldsIn}
-use Rattle.message.specs.Claims.{Shown, AbsentIsShown}
+use Rattle.message.specs.Claims.{Shown, AbsentIsShown, WalksInside}
 use Rattle.message.specs.Inner.{wellIn, wellFields}
 use Rattle.message.proofs.Occurrences.{each-well, held-key, held-value, merged-meant}
 
@@ -138,4 +138,18 @@ absent-is-shown s = record {
   key = last-shown 0 (length s) (spans 2 (fields s)) (inside s 2);
   record-key = rw (held-key s (spans 3 (fields s))) (last-shown 0 (length s) (allSpans s 1 (spans 3 (fields s))) (inner s 1));
   record-value = rw (held-value s (spans 3 (fields s))) (last-shown 0 (length s) (allSpans s 2 (spans 3 (fields s))) (inner s 2));
+}
+
+each-cuttable : (lo hi : ℕ) (ps : List Span) → AllInside lo hi ps → (i : ℕ) → i < length ps → Cuttable hi (getD ps i nowhere)
+each-cuttable lo hi [] a i h = absurd (omega arith)
+each-cuttable lo hi (p ∷ ps) a zero h = record { ordered = a .0 .ordered; ends = a .0 .ends }
+each-cuttable lo hi (p ∷ ps) a (suc i) h = each-cuttable lo hi ps (a .1) i (omega arith)
+
+pub walks-inside : (s : List ℕ) → WalksInside s
+unfolding closerAt providersAt addressesAt
+walks-inside s = record {
+  closer = each-cuttable 0 (length s) (spans 8 (fields s)) (inside s 8);
+  providers = each-cuttable 0 (length s) (spans 9 (fields s)) (inside s 9);
+  id = id-inside s;
+  addresses = λ p c. each-cuttable (p .at) (length s) (spans 2 (fieldsIn s p)) (in-inside s p (c .ordered) (c .ends) 2);
 }

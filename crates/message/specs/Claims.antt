@@ -5,7 +5,7 @@ use mathlib.Core.Path.{_≡_}
 use mathlib.Core.List.{List, [], _∷_, map, flatten as joined}
 use mathlib.Core.Bool.{false}
 use mathlib.Core.Option.{Option, none, some}
-use lib.ListN.{length, take}
+use lib.ListN.{length, getD, take}
 use Rattle.octets.specs.Search.{every, lastOf}
 use Rattle.refusal.specs.declared.Refusal.the-variants.{TooLong, Malformed, UnknownType}
 use Rattle.wire.specs.Wire.{fields, fieldsAt, spans, nowhere, firstOf, walk}
@@ -13,7 +13,7 @@ use Rattle.wire.specs.Items.{cut, items, parts}
 use Rattle.wire.specs.declared.Span.{Span}
 use Rattle.message.specs.Limits.{mostBody, mostKind, mostHeard}
 use Rattle.message.specs.Message.{Peer, Record, Message, messageOf, wellFormed, decode}
-use Rattle.message.specs.View.{allSpans, fieldsOf, readingOf, addressesAt, closerAt, providersAt, heardAt, meant}
+use Rattle.message.specs.View.{allSpans, fieldsOf, readingOf, idAt, addressesAt, closerAt, providersAt, heardAt, meant}
 use Rattle.message.specs.declared.Fields.{Fields}
 use Rattle.message.specs.declared.Reading.the-variants.{Whole, Refused}
 
@@ -40,6 +40,13 @@ pub record FieldsIn (hi : ℕ) (m : Fields) : Type 0 where
 
 abbrev pub PointsInside : Type 0
 PointsInside = (s : List ℕ) (m : Fields) → readingOf s ≡ Whole m → FieldsIn (length s) m
+
+-- and all that the walks and `peer_id` give: entries, and of each its id and addresses
+pub record WalksInside (s : List ℕ) : Type 0 where
+  pub closer : (i : ℕ) → i < length (closerAt s) → Cuttable (length s) (getD (closerAt s) i nowhere)
+  pub providers : (i : ℕ) → i < length (providersAt s) → Cuttable (length s) (getD (providersAt s) i nowhere)
+  pub id : (p : Span) → Cuttable (length s) p → Cuttable (length s) (idAt s p)
+  pub addresses : (p : Span) → Cuttable (length s) p → (i : ℕ) → i < length (addressesAt s p) → Cuttable (length s) (getD (addressesAt s p) i nowhere)
 
 -- the walks yield exactly the repeated fields, in order
 pub record WalksAll (s : List ℕ) : Type 0 where
@@ -90,5 +97,6 @@ pub record Claims : Type 0 where
   pub reads : (body : List ℕ) → ReadsWell body
   pub inside : PointsInside
   pub walks : (body : List ℕ) → WalksAll body
+  pub walksInside : (body : List ℕ) → WalksInside body
   pub split : SplitIsMerged
   pub absent : AbsentIsShown

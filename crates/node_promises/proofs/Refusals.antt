@@ -1,5 +1,5 @@
 -- Refused calls change nothing. Assumes nothing.
-use Prim.Native.Nat.{ℕ}
+use Prim.Native.Nat.{ℕ, _<_}
 use mathlib.Core.Path.{_≡_, refl, sym, ap, _∙_, subst}
 use mathlib.Core.Logic.{_⊎_, inl, inr, ⊎-elim}
 use mathlib.Core.Bool.{Bool, true, false, cond, not, _||_}
@@ -16,11 +16,11 @@ use Rattle.contacts.specs.Form.{inForm as contactsForm}
 use Rattle.records.specs.Store.{inForm as recordsForm}
 use Rattle.message.specs.Limits.{mostBody, leastReply}
 use Rattle.replies.specs.Verdicts.{keyFits}
-use Rattle.contact_calls.specs.declared.SeenOutcome.the-variants as seen
-use Rattle.contact_calls.specs.declared.SettleOutcome.the-variants as settle
-use Rattle.contact_calls.specs.declared.RemoveOutcome.the-variants as remove
-use Rattle.contact_calls.specs.Calls.{seenCall, seenCallTable, settleCall, settleCallTable, removeCall, removeCallTable}
-use Rattle.contact_calls.proofs.Theorems.{seen-refused, seen-probe, settle-refused, remove-refused}
+use Rattle.contact_calls.specs.declared.SeenOutcome.{SeenOutcome}
+use Rattle.contact_calls.specs.declared.SettleOutcome.{SettleOutcome}
+use Rattle.contact_calls.specs.declared.RemoveOutcome.{RemoveOutcome}
+use Rattle.contact_calls.specs.Calls.{seenCall, seenCallTable, settleCall, settleCallTable, removeCall, removeCallTable, seenNumber, settleNumber, removeNumber}
+use Rattle.contact_calls.proofs.Claims as calls
 use Rattle.stream.specs.declared.Framing.the-variants as framing
 use Rattle.stream.specs.declared.Ending.the-variants as ends
 use Rattle.stream.specs.Stream.{isShut}
@@ -145,25 +145,20 @@ own-cases C me f g = ⊎-elim f g (either (ownFits me))
 pub calls-refused : CallsRefused
 calls-refused =
     record {
-      sees = λ me t id client addresses r e.
+      sees = λ me t id client addresses l.
           own-cases _ me
           (λ h. let w = seen-on me t id client addresses (seenCall t (me .place) id client) (seenCallTable t (me .place) id client addresses) h (refl, refl) in
-          sym (w .1) ∙ seen-refused t (me .place) id client addresses r (w .0 ∙ e))
+          sym (w .1) ∙ calls.claims .seenRefused t (me .place) id client addresses (subst (λ (o : SeenOutcome). seenNumber o < 64) (sym (w .0)) l))
           (λ h. sym (seen-after-off me t id client addresses h));
-      probes = λ me t id client addresses x e.
-          own-cases _ me
-          (λ h. let w = seen-on me t id client addresses (seenCall t (me .place) id client) (seenCallTable t (me .place) id client addresses) h (refl, refl) in
-          sym (w .1) ∙ seen-probe t (me .place) id client addresses x (w .0 ∙ e))
-          (λ h. sym (seen-after-off me t id client addresses h));
-      settles = λ me t head id client addresses answered r e.
+      settles = λ me t head id client addresses answered l.
           own-cases _ me
           (λ h. let w = settle-on me t head id client addresses answered (settleCall t (me .place) head id client answered) (settleCallTable t (me .place) head id client addresses answered) h (refl, refl) in
-          sym (w .1) ∙ settle-refused t (me .place) head id client addresses answered r (w .0 ∙ e))
+          sym (w .1) ∙ calls.claims .settleRefused t (me .place) head id client addresses answered (subst (λ (o : SettleOutcome). settleNumber o < 64) (sym (w .0)) l))
           (λ h. sym (settle-off me t head id client addresses answered _ h refl .1));
-      removes = λ me t id r e.
+      removes = λ me t id l.
           own-cases _ me
           (λ h. let w = remove-on me t id (removeCall t (me .place) id) (removeCallTable t (me .place) id) h (refl, refl) in
-          sym (w .1) ∙ remove-refused t (me .place) id r (w .0 ∙ e))
+          sym (w .1) ∙ calls.claims .removeRefused t (me .place) id (subst (λ (o : RemoveOutcome). removeNumber o < 64) (sym (w .0)) l))
           (λ h. sym (remove-off me t id _ h refl .1));
     }
   where

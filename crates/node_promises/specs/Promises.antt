@@ -1,5 +1,5 @@
 -- What the box's calls promise, as statements; proofs/Refusals.antt, proofs/Doing.antt and proofs/Keeping.antt prove each.
-use Prim.Native.Nat.{ℕ}
+use Prim.Native.Nat.{ℕ, _<_}
 use mathlib.Core.Path.{_≡_}
 use mathlib.Core.Logic.{_⊎_}
 use mathlib.Core.Bool.{Bool, true, false, cond}
@@ -12,9 +12,7 @@ use Rattle.peer.specs.declared.Peer.{Peer}
 use Rattle.contacts.specs.Form.{inForm as contactsForm}
 use Rattle.records.specs.Store.{inForm as recordsForm}
 use Rattle.sightings.specs.Sightings.{sightingOf, seenTable}
-use Rattle.contact_calls.specs.declared.SeenOutcome.the-variants as seen
-use Rattle.contact_calls.specs.declared.SettleOutcome.the-variants as settle
-use Rattle.contact_calls.specs.declared.RemoveOutcome.the-variants as remove
+use Rattle.contact_calls.specs.Calls.{seenNumber, settleNumber, removeNumber}
 use Rattle.message.specs.View.{readingOf}
 use Rattle.message.specs.declared.Fields.{Fields}
 use Rattle.message.specs.declared.Reading.the-variants as reading
@@ -60,13 +58,12 @@ abbrev pub ReceiveRefused : Type 0
 ReceiveRefused =
     (me : Peer) (c : Conn) (m bs t k y : List ℕ) (r : Refusal) → receiveOf me c m bs t k y .got .answer ≡ Refused r → Refuses me c m bs t k y r
 
--- the host's calls: 13 too, which names a head to probe, changes nothing
+-- the host's calls: a number under 64 leaves the table, 13 too, which names a head to probe
 pub record CallsRefused : Type 0 where
-  pub sees : (me : Peer) (t id : List ℕ) (client : Bool) (addresses : List ℕ) (r : Refusal) → seenOf me t id client ≡ seen.Refused r → seenAfter me t id client addresses ≡ t
-  pub probes : (me : Peer) (t id : List ℕ) (client : Bool) (addresses : List ℕ) (h : ℕ) → seenOf me t id client ≡ seen.Probe h → seenAfter me t id client addresses ≡ t
-  pub settles : (me : Peer) (t head id : List ℕ) (client : Bool) (addresses : List ℕ) (answered : Bool) (r : Refusal)
-      → settleOf me t head id client answered ≡ settle.Refused r → settleAfter me t head id client addresses answered ≡ t
-  pub removes : (me : Peer) (t id : List ℕ) (r : Refusal) → removeOf me t id ≡ remove.Refused r → removeAfter me t id ≡ t
+  pub sees : (me : Peer) (t id : List ℕ) (client : Bool) (addresses : List ℕ) → seenNumber (seenOf me t id client) < 64 → seenAfter me t id client addresses ≡ t
+  pub settles : (me : Peer) (t head id : List ℕ) (client : Bool) (addresses : List ℕ) (answered : Bool) → settleNumber (settleOf me t head id client answered) < 64
+      → settleAfter me t head id client addresses answered ≡ t
+  pub removes : (me : Peer) (t id : List ℕ) → removeNumber (removeOf me t id) < 64 → removeAfter me t id ≡ t
 
 -- calls that only hand back values: a refused start gives nobody, a refused open a shut connection to nobody, an end with 0 the connection as it
 -- was, and a refused search no contacts

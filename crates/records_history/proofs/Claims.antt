@@ -2,7 +2,7 @@
 use mathlib.Core.Path.{refl}
 use Rattle.records_history.specs.Claims.{FormIsKept, HighestIsFound, Claims}
 use Rattle.records_history.proofs.Stays.{put-other, cleared-form, form-kept, step-taken, highest, found-accepted, holds-on}
-use Rattle.records_history.proofs.Holding.{held-is-found, judged-first}
+use Rattle.records_history.proofs.Holding.{held-is-found, judged-first, put-told}
 use Rattle.records_history.proofs.Blind.{form-is-blind}
 
 form-is-kept : FormIsKept
@@ -19,4 +19,4 @@ highest-is-found =
     }
 
 pub claims : Claims
-claims = record { form = form-is-kept; highest = highest-is-found; blind = form-is-blind; found = held-is-found; judged = judged-first }
+claims = record { form = form-is-kept; highest = highest-is-found; blind = form-is-blind; found = held-is-found; judged = judged-first; told = put-told }

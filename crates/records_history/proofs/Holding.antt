@@ -1,27 +1,28 @@
 -- What a store does with the value that it holds under a key, whatever that value is. Assumes nothing.
-use mathlib.Core.Path.{_≡_, refl, sym, _∙_, subst}
+use mathlib.Core.Path.{_≡_, refl, sym, ap, _∙_, subst}
 use mathlib.Core.Logic.{⊎-elim}
-use mathlib.Core.Bool.{Bool, true, false, cond, _&&_}
+use mathlib.Core.Bool.{Bool, true, false, cond, not, _&&_}
 use mathlib.Core.List.{List}
 use Prim.Native.Nat.{ℕ, _+_, _*_, _<_}
 use lib.Dec.{ltb}
+use native.Mathlib.Omega.{arith}
 use lib.ListN.{length}
-use borrow.Author.Tests.{ltb-true, ltb-false, lt-ltb}
+use borrow.Author.Tests.{ltb-true, ltb-false, lt-ltb, le-ltb}
 use Rattle.octets.specs.Octets.{part, same}
 use Rattle.octets.proofs.Bools.{all-head, either, not-both}
-use Rattle.octets.proofs.Searching.{all-at, first-hit}
+use Rattle.octets.proofs.Searching.{all-at, first-hit, first-miss, first-lt}
 use Rattle.octets.proofs.Strings.{same-eq, same-refl}
-use Rattle.refusal.specs.declared.Refusal.the-variants.{BrokenRecipe, Outranked}
+use Rattle.refusal.specs.declared.Refusal.the-variants.{OutOfForm, BreaksRules, BrokenRecipe, Outranked, NoRecordSlot}
 use Rattle.recipe.specs.Recipe.{isRecipe, outranks}
 use Rattle.recipe.proofs.Rank.{outranks-self}
 use Rattle.records.specs.Limits.{valueAt, slotSize}
-use Rattle.records.specs.Store.{slotsOf, slot, keyOf, valueOf, isKey, isRecord, holds, apart, inForm, slotWith, heldAt, found, findOf, heldPlan, planOf, answerOf, offerAnswer, putAnswer, putAfter}
+use Rattle.records.specs.Store.{slotsOf, slot, used, isFree, freeSlot, keyOf, valueOf, isKey, isRecord, holds, apart, inForm, slotWith, heldAt, found, findOf, heldPlan, planOf, answerOf, offerAnswer, putAnswer, putAfter}
 use Rattle.records.specs.declared.Found.the-variants.{Held}
 use Rattle.records.specs.declared.Plan.the-variants.{Write, Keep, Refuse}
 use Rattle.records.specs.declared.Answer.the-variants.{Taken, Refused}
 use Rattle.record_slots.proofs.Finding.{with-holds, holds-out, form-record, form-apart}
-use Rattle.records_history.specs.History.{Has, got, taken}
-use Rattle.records_history.specs.Claims.{HeldIsFound, JudgedFirst}
+use Rattle.records_history.specs.History.{Has, None, got, taken}
+use Rattle.records_history.specs.Claims.{HeldIsFound, JudgedFirst, PutTold}
 use Rattle.records_history.proofs.Kept.{got-held, got-none, found-is, apart-out}
 use Rattle.records_history.proofs.Stays.{has, none, put-is, put-got}
 
@@ -95,3 +96,32 @@ module _ (t k u v : List ℕ) (form : inForm t ≡ true) (g : got t k ≡ Has u)
 
 pub judged-first : JudgedFirst
 judged-first = record { broken = broken-first; ranked = then-ranked }
+
+-- ---- the other numbers
+broken-form : (t k v : List ℕ) → inForm t ≡ false → putAnswer t k v ≡ Refused OutOfForm
+unfolding putAnswer
+broken-form t k v f = rw f refl
+
+breaks : (t k v : List ℕ) → inForm t ≡ true → isKey k ≡ false → putAnswer t k v ≡ Refused BreaksRules
+unfolding offerAnswer planOf answerOf
+breaks t k v form e = put-is t k v form .0 ∙ rw e refl
+
+module _ (t k v : List ℕ) (form : inForm t ≡ true) (e : isKey k ≡ true) (r : isRecipe v ≡ true) (g : got t k ≡ None) where
+  out : ltb (slotWith t k) (slotsOf t) ≡ false
+  out = ⊎-elim (λ b. absurd (none (sym g ∙ got-held t k (slotWith t k) refl (ltb-true (slotWith t k) (slotsOf t) b)))) (λ b. b) (either (ltb (slotWith t k) (slotsOf t)))
+
+  no-slot : ((j : ℕ) → j < slotsOf t → used (slot t j) ≡ true) → putAnswer t k v ≡ Refused NoRecordSlot
+  unfolding offerAnswer planOf answerOf freeSlot isFree
+  no-slot h =
+      let m : slotsOf t ≡ freeSlot t = first-miss (isFree t) (slotsOf t) (λ j l. ap not (h j l)) in
+      let f : ltb (freeSlot t) (slotsOf t) ≡ false = le-ltb (freeSlot t) (slotsOf t) (omega (arith, m)) in
+      put-is t k v form .0 ∙ rw (e, r, out, f) refl
+
+  joins-it : (j : ℕ) → j < slotsOf t → used (slot t j) ≡ false → putAnswer t k v ≡ Taken
+  unfolding offerAnswer planOf answerOf freeSlot isFree
+  joins-it j l h =
+      let f : ltb (freeSlot t) (slotsOf t) ≡ true = lt-ltb (freeSlot t) (slotsOf t) (first-lt (isFree t) (slotsOf t) j l (ap not h)) in
+      put-is t k v form .0 ∙ rw (e, r, out, f) refl
+
+pub put-told : PutTold
+put-told = record { outOfForm = broken-form; rules = breaks; full = no-slot; new = joins-it }

@@ -7,13 +7,13 @@ use mathlib.Core.Bool.{true, false, cond}
 use mathlib.Core.List.{List}
 use lib.ListN.{length}
 use Rattle.octets.specs.Octets.{part}
-use Rattle.refusal.specs.declared.Refusal.the-variants.{BrokenRecipe, Outranked}
+use Rattle.refusal.specs.declared.Refusal.the-variants.{OutOfForm, BreaksRules, BrokenRecipe, Outranked, NoRecordSlot}
 use Rattle.recipe.specs.Recipe.{isRecipe, outranks}
 use Rattle.records.specs.Limits.{valueAt, slotSize}
-use Rattle.records.specs.Store.{slotsOf, slot, valueOf, isKey, holds, inForm, findOf, putAnswer, putAfter}
+use Rattle.records.specs.Store.{slotsOf, slot, used, valueOf, isKey, holds, inForm, findOf, putAnswer, putAfter}
 use Rattle.records.specs.declared.Found.the-variants.{Held}
 use Rattle.records.specs.declared.Answer.the-variants.{Taken, Refused}
-use Rattle.records_history.specs.History.{Has, got, Offer, accepts, offered, after, cleared, Accepted, Unbeaten}
+use Rattle.records_history.specs.History.{Has, None, got, Offer, accepts, offered, after, cleared, Accepted, Unbeaten}
 
 -- ---- over any list of puts, on any bytes
 
@@ -54,9 +54,19 @@ pub record JudgedFirst : Type 0 where
   pub ranked : (t k u v : List ℕ) → inForm t ≡ true → got t k ≡ Has u → isRecipe v ≡ true
       → (putAnswer t k v ≡ cond (outranks u v) (Refused Outranked) Taken) × (got (putAfter t k v) k ≡ Has (cond (outranks u v) u v))
 
+-- what a put is told else: 0, 8, and of a key that isn't held 11 exactly where "every record slot holds another key"
+pub record PutTold : Type 0 where
+  pub outOfForm : (t k v : List ℕ) → inForm t ≡ false → putAnswer t k v ≡ Refused OutOfForm
+  pub rules : (t k v : List ℕ) → inForm t ≡ true → isKey k ≡ false → putAnswer t k v ≡ Refused BreaksRules
+  pub full : (t k v : List ℕ) → inForm t ≡ true → isKey k ≡ true → isRecipe v ≡ true → got t k ≡ None
+      → ((j : ℕ) → j < slotsOf t → used (slot t j) ≡ true) → putAnswer t k v ≡ Refused NoRecordSlot
+  pub new : (t k v : List ℕ) → inForm t ≡ true → isKey k ≡ true → isRecipe v ≡ true → got t k ≡ None
+      → (j : ℕ) → j < slotsOf t → used (slot t j) ≡ false → putAnswer t k v ≡ Taken
+
 pub record Claims : Type 0 where
   pub form : FormIsKept
   pub highest : HighestIsFound
   pub blind : FormIsBlind
   pub found : HeldIsFound
   pub judged : JudgedFirst
+  pub told : PutTold
