@@ -15,15 +15,16 @@ use Rattle.refusal.specs.declared.Refusal.the-variants.{NoLongerFits, Client}
 use Rattle.contacts.specs.Table.{slotsOf, slot, used}
 use Rattle.contacts.specs.Form.{inForm}
 use Rattle.peer.specs.declared.Peer.{Peer}
-use Rattle.peer.specs.Peers.{badPeer, peerOf}
-use Rattle.peer.proofs.Meaning.{place-is}
+use Rattle.peer.specs.Addresses.{keptOf}
+use Rattle.peer.specs.Peers.{badPeer, peerOf, idIn, addressesIn}
+use Rattle.peer.proofs.Meaning.{place-is, id-whole, addresses-said, fits-most, not-bad-id}
 use Rattle.sightings.specs.declared.Sighting.{Sighting}
 use Rattle.sightings.specs.declared.Sighting.the-variants as sighting
 use Rattle.sightings.specs.Order.{heldAt, freeAt, tailOf}
 use Rattle.sightings.specs.Sightings.{held, newcomer, sightingOf, seenTable, fits, removedTable}
-use Rattle.sightings_kept.specs.Promises.{Fair, SameContact, HeadKept, HeadGone, Freed, holds}
+use Rattle.sightings_kept.specs.Promises.{Fair, SameContact, HeldSeen, NewSeen, Freed, HeadKept, HeadGone, StillFits, holds}
 use Rattle.sightings_kept.proofs.Theorems.{held-never-refused, no-slot-changes-nothing, seen-new}
-use Rattle.sightings_kept.proofs.Holds.{full-refused, one-left, none-left}
+use Rattle.sightings_kept.proofs.Holds.{full-refused, one-left, none-left, fits-still, still-fits, still-fails}
 use Rattle.sightings_kept.proofs.Claims.{claims as kept}
 use Rattle.contact_calls.specs.declared.SeenOutcome.{SeenOutcome}
 use Rattle.contact_calls.specs.declared.SeenOutcome.the-variants as seen
@@ -117,12 +118,12 @@ module _ (t ours head id : List ℕ) (client answered : Bool) where
     unfolding settleCall
     judged = cond-no (not (inForm t ours)) _ _ (ap not (a .form)) ∙ cond-no (badPeer ours head) _ _ (a .peer) ∙ cond-no (badPeer ours id) _ _ (b .peer)
 
-    settle-stale : fits t ours (placeOf head) (placeOf id) ≡ false → settled ≡ 15
-    settle-stale f = ap settleNumber (judged ∙ cond-yes (not (fits t ours (placeOf head) (placeOf id))) _ _ (ap not f))
+    settle-stale : (StillFits t ours (placeOf head) (placeOf id) → ⊥) → settled ≡ 15
+    settle-stale n = ap settleNumber (judged ∙ cond-yes (not (fits t ours (placeOf head) (placeOf id))) _ _ (ap not (still-fails t ours (placeOf head) (placeOf id) (a .form) n)))
 
-    module _ (f : fits t ours (placeOf head) (placeOf id) ≡ true) where
+    module _ (s : StillFits t ours (placeOf head) (placeOf id)) where
       fitting : settleCall t ours head id client answered ≡ cond client (settle.Refused Client) (cond answered settle.Kept settle.Swapped)
-      fitting = judged ∙ cond-no (not (fits t ours (placeOf head) (placeOf id))) _ _ (ap not f)
+      fitting = judged ∙ cond-no (not (fits t ours (placeOf head) (placeOf id))) _ _ (ap not (still-fits t ours (placeOf head) (placeOf id) (a .form) s))
 
       settle-client : client ≡ true → settled ≡ 18
       settle-client c = ap settleNumber (fitting ∙ cond-yes client _ _ c)
@@ -189,58 +190,84 @@ unfolding removeCallTable
 remove-leaves t ours id = remove-same t ours (placeOf id) (removeCall t ours id)
 
 -- ---- what each answer does
--- a sighting of any peer that may come in
-sighting-does : (t o : List ℕ) (p : Peer) → inForm t o ≡ true → Fair o p → SeenDoes t o p (outcomeOf (sightingOf t o (p .place))) (seenTable t o p)
-unfolding sightingOf newcomer
-sighting-does t o p y G = ⊎-elim was-held new (either (held t (p .place)))
-  where
-    answered : (s : Sighting) → sightingOf t o (p .place) ≡ s → SeenDoes t o p (outcomeOf s) (seenTable t o p) → SeenDoes t o p (outcomeOf (sightingOf t o (p .place))) (seenTable t o p)
-    answered s e d = subst (λ (x : Sighting). SeenDoes t o p (outcomeOf x) (seenTable t o p)) (sym e) d
+-- the peer that is made of an id and addresses says them: the id if refusal 12 lets it in, of the addresses those that are kept
+module _ (t ours id addresses : List ℕ) where
+  abbrev peer : Peer
+  peer = peerOf id (placeOf id) addresses
 
-    was-held : held t (p .place) ≡ true → SeenDoes t o p (outcomeOf (sightingOf t o (p .place))) (seenTable t o p)
-    was-held h = let k = kept t o y .moved p G h in answered (sighting.Moved (heldAt t (p .place))) (k .0) (k .1)
+  as-held : (i : ℕ) (u : List ℕ) → HeldSeen t ours (placeOf id) (addressesIn peer) i u → HeldSeen t ours (placeOf id) (keptOf addresses) i u
+  as-held i u = subst (λ (x : List (List ℕ)). HeldSeen t ours (placeOf id) x i u) (addresses-said id (placeOf id) addresses)
 
-    new : held t (p .place) ≡ false → SeenDoes t o p (outcomeOf (sightingOf t o (p .place))) (seenTable t o p)
-    new h = ⊎-elim full (λ r. ⊎-elim (joined r) (none r) (either (ltb (freeAt t) (slotsOf t)))) (either (leb 20 (tailOf t o (bucketOf (p .place) o))))
-      where
-        full : leb 20 (tailOf t o (bucketOf (p .place) o)) ≡ true → SeenDoes t o p (outcomeOf (sightingOf t o (p .place))) (seenTable t o p)
-        full f =
-            let k = kept t o y .full p h (omega (arith, leb-true 20 (tailOf t o (bucketOf (p .place) o)) f, kept t o y .counted (bucketOf (p .place) o))) in
-            answered (sighting.Full (k .0)) (k .1) (k .2, k .3, k .4)
+  module _ (g : badPeer ours id ≡ false) where
+    own-id : idIn peer ≡ id
+    own-id = id-whole id (placeOf id) addresses (fits-most id (not-bad-id ours id g))
 
-        joined : leb 20 (tailOf t o (bucketOf (p .place) o)) ≡ false → ltb (freeAt t) (slotsOf t) ≡ true → SeenDoes t o p (outcomeOf (sightingOf t o (p .place))) (seenTable t o p)
-        joined r f =
-            let k = seen-new t o p G h (leb-false 20 (tailOf t o (bucketOf (p .place) o)) r) (ltb-true (freeAt t) (slotsOf t) f) in
-            answered (sighting.Joined (freeAt t)) (k .0) (k .1)
+    as-new : (i : ℕ) (u : List ℕ) → NewSeen t ours (placeOf id) (idIn peer) (addressesIn peer) i u → NewSeen t ours (placeOf id) id (keptOf addresses) i u
+    as-new i u n =
+        subst (λ (x : List ℕ). NewSeen t ours (placeOf id) x (keptOf addresses) i u) own-id
+        (subst (λ (x : List (List ℕ)). NewSeen t ours (placeOf id) (idIn peer) x i u) (addresses-said id (placeOf id) addresses) n)
 
-        none : leb 20 (tailOf t o (bucketOf (p .place) o)) ≡ false → ltb (freeAt t) (slotsOf t) ≡ false → SeenDoes t o p (outcomeOf (sightingOf t o (p .place))) (seenTable t o p)
-        none r f = let e = cond-no (held t (p .place)) _ _ h ∙ cond-no (leb 20 (tailOf t o (bucketOf (p .place) o))) _ _ r ∙ cond-no (ltb (freeAt t) (slotsOf t)) _ _ f in
-            answered sighting.NoSlot e (no-slot-changes-nothing t o p e)
+    as-gone : (head u : List ℕ) → HeadGone t ours head (placeOf id) (idIn peer) (addressesIn peer) u → HeadGone t ours head (placeOf id) id (keptOf addresses) u
+    as-gone head u n =
+        subst (λ (x : List ℕ). HeadGone t ours head (placeOf id) x (keptOf addresses) u) own-id
+        (subst (λ (x : List (List ℕ)). HeadGone t ours head (placeOf id) (idIn peer) x u) (addresses-said id (placeOf id) addresses) n)
+
+    -- a sighting
+    module _ (y : inForm t ours ≡ true) (G : Fair ours peer) where
+      abbrev Does : Sighting → Type 0
+      Does s = SeenDoes t ours id addresses (outcomeOf s) (seenTable t ours peer)
+
+      answered : (s : Sighting) → sightingOf t ours (placeOf id) ≡ s → Does s → Does (sightingOf t ours (placeOf id))
+      answered s e d = subst Does (sym e) d
+
+      was-held : held t (placeOf id) ≡ true → Does (sightingOf t ours (placeOf id))
+      unfolding peerOf
+      was-held h = let k = kept t ours y .moved peer G h in answered (sighting.Moved (heldAt t (placeOf id))) (k .0) (as-held _ _ (k .1))
+
+      is-new : held t (placeOf id) ≡ false → Does (sightingOf t ours (placeOf id))
+      unfolding peerOf sightingOf newcomer
+      is-new h =
+          ⊎-elim full (λ r. ⊎-elim (joined r) (none r) (either (ltb (freeAt t) (slotsOf t)))) (either (leb 20 (tailOf t ours (bucketOf (placeOf id) ours))))
+        where
+          full : leb 20 (tailOf t ours (bucketOf (placeOf id) ours)) ≡ true → Does (sightingOf t ours (placeOf id))
+          full f =
+              let k = kept t ours y .full peer h (omega (arith, leb-true 20 (tailOf t ours (bucketOf (placeOf id) ours)) f, kept t ours y .counted (bucketOf (placeOf id) ours))) in
+              answered (sighting.Full (k .0)) (k .1) (k .2, k .3, k .4)
+
+          joined : leb 20 (tailOf t ours (bucketOf (placeOf id) ours)) ≡ false → ltb (freeAt t) (slotsOf t) ≡ true → Does (sightingOf t ours (placeOf id))
+          joined r f =
+              let k = seen-new t ours peer G h (leb-false 20 (tailOf t ours (bucketOf (placeOf id) ours)) r) (ltb-true (freeAt t) (slotsOf t) f) in
+              answered (sighting.Joined (freeAt t)) (k .0) (as-new _ _ (k .1))
+
+          none : leb 20 (tailOf t ours (bucketOf (placeOf id) ours)) ≡ false → ltb (freeAt t) (slotsOf t) ≡ false → Does (sightingOf t ours (placeOf id))
+          none r f = let e = cond-no (held t (placeOf id)) _ _ h ∙ cond-no (leb 20 (tailOf t ours (bucketOf (placeOf id) ours))) _ _ r ∙ cond-no (ltb (freeAt t) (slotsOf t)) _ _ f in
+              answered sighting.NoSlot e (no-slot-changes-nothing t ours peer e)
+
+      sighting-does : Does (sightingOf t ours (placeOf id))
+      sighting-does = ⊎-elim was-held is-new (either (held t (placeOf id)))
 
 module _ (t ours : List ℕ) (l : length ours ≡ 32) (b : Bytes ours) where
-  seen-does : (id : List ℕ) (client : Bool) (addresses : List ℕ)
-      → SeenDoes t ours (peerOf id (placeOf id) addresses) (seenCall t ours id client) (seenCallTable t ours id client addresses)
+  seen-does : (id : List ℕ) (client : Bool) (addresses : List ℕ) → SeenDoes t ours id addresses (seenCall t ours id client) (seenCallTable t ours id client addresses)
   unfolding seenCallTable seenCall afterSeen
   seen-does id client addresses =
       step (not (inForm t ours)) _ _ (λ _. refl) (λ f. step (badPeer ours id) _ _ (λ _. refl) (λ g. step client _ _ (λ _. refl) (λ _. taken (not-false _ f) g)))
     where
-      step : (c : Bool) (r s : SeenOutcome)
-          → (c ≡ true → SeenDoes t ours (peerOf id (placeOf id) addresses) r (afterSeen t ours (peerOf id (placeOf id) addresses) r))
-          → (c ≡ false → SeenDoes t ours (peerOf id (placeOf id) addresses) s (afterSeen t ours (peerOf id (placeOf id) addresses) s))
-          → SeenDoes t ours (peerOf id (placeOf id) addresses) (cond c r s) (afterSeen t ours (peerOf id (placeOf id) addresses) (cond c r s))
-      step = cond-ind (λ (r : SeenOutcome). SeenDoes t ours (peerOf id (placeOf id) addresses) r (afterSeen t ours (peerOf id (placeOf id) addresses) r))
+      step : (c : Bool) (r s : SeenOutcome) → (c ≡ true → SeenDoes t ours id addresses r (afterSeen t ours (peerOf id (placeOf id) addresses) r))
+          → (c ≡ false → SeenDoes t ours id addresses s (afterSeen t ours (peerOf id (placeOf id) addresses) s))
+          → SeenDoes t ours id addresses (cond c r s) (afterSeen t ours (peerOf id (placeOf id) addresses) (cond c r s))
+      step = cond-ind (λ (r : SeenOutcome). SeenDoes t ours id addresses r (afterSeen t ours (peerOf id (placeOf id) addresses) r))
 
       taken : inForm t ours ≡ true → badPeer ours id ≡ false
-          → SeenDoes t ours (peerOf id (placeOf id) addresses) (outcomeOf (sightingOf t ours (placeOf id))) (afterSeen t ours (peerOf id (placeOf id) addresses) (outcomeOf (sightingOf t ours (placeOf id))))
+          → SeenDoes t ours id addresses (outcomeOf (sightingOf t ours (placeOf id))) (afterSeen t ours (peerOf id (placeOf id) addresses) (outcomeOf (sightingOf t ours (placeOf id))))
       taken y g =
-          subst (λ (x : List ℕ). SeenDoes t ours (peerOf id (placeOf id) addresses) (outcomeOf (sightingOf t ours x)) (afterSeen t ours (peerOf id (placeOf id) addresses) (outcomeOf (sightingOf t ours x))))
-          (place-is id (placeOf id) addresses)
-          (subst (SeenDoes t ours (peerOf id (placeOf id) addresses) (outcomeOf (sightingOf t ours (peerOf id (placeOf id) addresses .place)))) (seen-table t ours (peerOf id (placeOf id) addresses))
-          (sighting-does t ours (peerOf id (placeOf id) addresses) y (fair ours id addresses l b g)))
+          subst (SeenDoes t ours id addresses (outcomeOf (sightingOf t ours (placeOf id))))
+          (seen-table t ours (peerOf id (placeOf id) addresses)
+          ∙ ap (λ (x : List ℕ). afterSeen t ours (peerOf id (placeOf id) addresses) (outcomeOf (sightingOf t ours x))) (place-is id (placeOf id) addresses))
+          (sighting-does t ours id addresses g y (fair ours id addresses l b g))
 
   settle-does : (head id : List ℕ) (client : Bool) (addresses : List ℕ) (answered : Bool)
-      → SettleDoes t ours (placeOf head) (peerOf id (placeOf id) addresses) (settleCall t ours head id client answered) (settleCallTable t ours head id client addresses answered)
-  unfolding settleCallTable settleCall afterSettle
+      → SettleDoes t ours head id addresses (settleCall t ours head id client answered) (settleCallTable t ours head id client addresses answered)
+  unfolding settleCallTable settleCall afterSettle peerOf
   settle-does head id client addresses answered =
       step (not (inForm t ours)) _ _ (λ _. refl)
       (λ f. step (badPeer ours head) _ _ (λ _. refl)
@@ -248,30 +275,29 @@ module _ (t ours : List ℕ) (l : length ours ≡ 32) (b : Bytes ours) where
       (λ g. step (not (fits t ours (placeOf head) (placeOf id))) _ _ (λ _. refl)
       (λ h. step client _ _ (λ _. refl) (λ _. taken (not-false _ f) g (not-false _ h) answered)))))
     where
-      step : (c : Bool) (r s : SettleOutcome)
-          → (c ≡ true → SettleDoes t ours (placeOf head) (peerOf id (placeOf id) addresses) r (afterSettle t ours (placeOf head) (peerOf id (placeOf id) addresses) r))
-          → (c ≡ false → SettleDoes t ours (placeOf head) (peerOf id (placeOf id) addresses) s (afterSettle t ours (placeOf head) (peerOf id (placeOf id) addresses) s))
-          → SettleDoes t ours (placeOf head) (peerOf id (placeOf id) addresses) (cond c r s) (afterSettle t ours (placeOf head) (peerOf id (placeOf id) addresses) (cond c r s))
-      step = cond-ind (λ (r : SettleOutcome). SettleDoes t ours (placeOf head) (peerOf id (placeOf id) addresses) r (afterSettle t ours (placeOf head) (peerOf id (placeOf id) addresses) r))
+      step : (c : Bool) (r s : SettleOutcome) → (c ≡ true → SettleDoes t ours head id addresses r (afterSettle t ours (placeOf head) (peerOf id (placeOf id) addresses) r))
+          → (c ≡ false → SettleDoes t ours head id addresses s (afterSettle t ours (placeOf head) (peerOf id (placeOf id) addresses) s))
+          → SettleDoes t ours head id addresses (cond c r s) (afterSettle t ours (placeOf head) (peerOf id (placeOf id) addresses) (cond c r s))
+      step = cond-ind (λ (r : SettleOutcome). SettleDoes t ours head id addresses r (afterSettle t ours (placeOf head) (peerOf id (placeOf id) addresses) r))
 
       taken : inForm t ours ≡ true → badPeer ours id ≡ false → fits t ours (placeOf head) (placeOf id) ≡ true → (a : Bool)
-          → SettleDoes t ours (placeOf head) (peerOf id (placeOf id) addresses) (cond a settle.Kept settle.Swapped) (afterSettle t ours (placeOf head) (peerOf id (placeOf id) addresses) (cond a settle.Kept settle.Swapped))
+          → SettleDoes t ours head id addresses (cond a settle.Kept settle.Swapped) (afterSettle t ours (placeOf head) (peerOf id (placeOf id) addresses) (cond a settle.Kept settle.Swapped))
       taken y g h true =
-          let w = ap (fits t ours (placeOf head)) (place-is id (placeOf id) addresses) ∙ h in
-          subst (HeadKept t ours (placeOf head)) (settle-table t ours (placeOf head) (peerOf id (placeOf id) addresses) true w) (kept t ours y .kept (placeOf head) (peerOf id (placeOf id) addresses) w .1)
+          subst (HeadKept t ours (placeOf head)) (settle-table t ours (placeOf head) (peerOf id (placeOf id) addresses) true h)
+          (kept t ours y .kept (placeOf head) (peerOf id (placeOf id) addresses) (fits-still t ours (placeOf head) (placeOf id) y h) .1)
       taken y g h false =
-          let w = ap (fits t ours (placeOf head)) (place-is id (placeOf id) addresses) ∙ h in
-          subst (HeadGone t ours (placeOf head) (peerOf id (placeOf id) addresses)) (settle-table t ours (placeOf head) (peerOf id (placeOf id) addresses) false w)
-          (kept t ours y .swapped (placeOf head) (peerOf id (placeOf id) addresses) (fair ours id addresses l b g) w .1)
+          subst (HeadGone t ours (placeOf head) (placeOf id) id (keptOf addresses)) (settle-table t ours (placeOf head) (peerOf id (placeOf id) addresses) false h)
+          (as-gone t ours id addresses g (placeOf head) _
+          (kept t ours y .swapped (placeOf head) (peerOf id (placeOf id) addresses) (fair ours id addresses l b g) (fits-still t ours (placeOf head) (placeOf id) y h) .1))
 
-remove-does : (t ours id : List ℕ) → RemoveDoes t ours (placeOf id) (removeCall t ours id) (removeCallTable t ours id)
+remove-does : (t ours id : List ℕ) → RemoveDoes t ours id (removeCall t ours id) (removeCallTable t ours id)
 unfolding removeCallTable removeCall afterRemove
 remove-does t ours id =
     step (not (inForm t ours)) _ _ (λ _. refl) (λ f. step (badPeer ours id) _ _ (λ _. refl) (λ _. step (not (held t (placeOf id))) _ _ (λ _. refl) (λ h. taken (not-false _ f) (not-false _ h))))
   where
-    step : (c : Bool) (r s : RemoveOutcome) → (c ≡ true → RemoveDoes t ours (placeOf id) r (afterRemove t ours (placeOf id) r))
-        → (c ≡ false → RemoveDoes t ours (placeOf id) s (afterRemove t ours (placeOf id) s)) → RemoveDoes t ours (placeOf id) (cond c r s) (afterRemove t ours (placeOf id) (cond c r s))
-    step = cond-ind (λ (r : RemoveOutcome). RemoveDoes t ours (placeOf id) r (afterRemove t ours (placeOf id) r))
+    step : (c : Bool) (r s : RemoveOutcome) → (c ≡ true → RemoveDoes t ours id r (afterRemove t ours (placeOf id) r)) → (c ≡ false → RemoveDoes t ours id s (afterRemove t ours (placeOf id) s))
+        → RemoveDoes t ours id (cond c r s) (afterRemove t ours (placeOf id) (cond c r s))
+    step = cond-ind (λ (r : RemoveOutcome). RemoveDoes t ours id r (afterRemove t ours (placeOf id) r))
 
     taken : inForm t ours ≡ true → held t (placeOf id) ≡ true → Freed t ours (placeOf id) (heldAt t (placeOf id)) (afterRemove t ours (placeOf id) remove.Gone)
     taken y h = subst (Freed t ours (placeOf id) (heldAt t (placeOf id))) (remove-table t ours (placeOf id) h) (kept t ours y .gone (placeOf id) h .1)

@@ -4,7 +4,6 @@ use Prim.Native.Nat.{ℕ}
 use mathlib.Core.Bool.{Bool, not, cond}
 use mathlib.Core.List.{List}
 use Rattle.place.specs.Place.{placeOf}
-use Rattle.refusal.specs.declared.Refusal.{Refusal}
 use Rattle.refusal.specs.declared.Refusal.the-variants.{OutOfForm, BadPeer, BucketFull, NoContactSlot, NoLongerFits, Client}
 use Rattle.refusal.specs.Refusal.{numberOf}
 use Rattle.contacts.specs.Form.{inForm}

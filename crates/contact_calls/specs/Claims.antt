@@ -8,11 +8,11 @@ use Rattle.octets.specs.Octets.{Bytes}
 use Rattle.place.specs.Place.{placeOf, bucketOf}
 use Rattle.contacts.specs.Table.{slotsOf, slot, used}
 use Rattle.contacts.specs.Form.{inForm}
-use Rattle.peer.specs.declared.Peer.{Peer}
-use Rattle.peer.specs.Peers.{badPeer, peerOf}
+use Rattle.peer.specs.Addresses.{keptOf}
+use Rattle.peer.specs.Peers.{badPeer}
 use Rattle.sightings.specs.Order.{isHead, heldAt}
-use Rattle.sightings.specs.Sightings.{held, fits}
-use Rattle.sightings_kept.specs.Promises.{SameContact, HeldSeen, NewSeen, Freed, HeadKept, HeadGone, holds}
+use Rattle.sightings.specs.Sightings.{held}
+use Rattle.sightings_kept.specs.Promises.{SameContact, HeldSeen, NewSeen, Freed, HeadKept, HeadGone, StillFits, holds}
 use Rattle.contact_calls.specs.declared.SeenOutcome.{SeenOutcome}
 use Rattle.contact_calls.specs.declared.SeenOutcome.the-variants as seen
 use Rattle.contact_calls.specs.declared.SettleOutcome.{SettleOutcome}
@@ -49,10 +49,10 @@ pub record SettleTold (t ours head id : List ℕ) (client answered : Bool) (n : 
   pub badHead : inForm t ours ≡ true → badPeer ours head ≡ true → n ≡ 12
   pub badId : inForm t ours ≡ true → badPeer ours id ≡ true → n ≡ 12
   -- "settle .. no longer fits the table"
-  pub stale : Admits t ours head → Admits t ours id → fits t ours (placeOf head) (placeOf id) ≡ false → n ≡ 15
-  pub isClient : Admits t ours head → Admits t ours id → fits t ours (placeOf head) (placeOf id) ≡ true → client ≡ true → n ≡ 18
-  pub kept : Admits t ours head → Admits t ours id → fits t ours (placeOf head) (placeOf id) ≡ true → client ≡ false → answered ≡ true → n ≡ 64
-  pub swapped : Admits t ours head → Admits t ours id → fits t ours (placeOf head) (placeOf id) ≡ true → client ≡ false → answered ≡ false → n ≡ 65
+  pub stale : Admits t ours head → Admits t ours id → (StillFits t ours (placeOf head) (placeOf id) → ⊥) → n ≡ 15
+  pub isClient : Admits t ours head → Admits t ours id → StillFits t ours (placeOf head) (placeOf id) → client ≡ true → n ≡ 18
+  pub kept : Admits t ours head → Admits t ours id → StillFits t ours (placeOf head) (placeOf id) → client ≡ false → answered ≡ true → n ≡ 64
+  pub swapped : Admits t ours head → Admits t ours id → StillFits t ours (placeOf head) (placeOf id) → client ≡ false → answered ≡ false → n ≡ 65
 
 -- of remove
 pub record RemoveTold (t ours id : List ℕ) (n : ℕ) : Type 0 where
@@ -65,21 +65,22 @@ abbrev pub Neither13Nor14 : ℕ → Type 0
 Neither13Nor14 n = (n ≡ 13 → ⊥) × (n ≡ 14 → ⊥)
 
 -- ---- what each answer makes of the table t: u. In each, nobody else's id, place, addresses or order changes
-abbrev pub SeenDoes : List ℕ → List ℕ → Peer → SeenOutcome → List ℕ → Type 0
-SeenDoes t ours p (seen.Moved i) u = HeldSeen t ours p i u
-SeenDoes t ours p (seen.Joined i) u = NewSeen t ours p i u
+-- "takes the new addresses if any is usable (..; the first four usable)"; a newcomer has the id that was handed in
+abbrev pub SeenDoes : List ℕ → List ℕ → List ℕ → List ℕ → SeenOutcome → List ℕ → Type 0
+SeenDoes t ours id addresses (seen.Moved i) u = HeldSeen t ours (placeOf id) (keptOf addresses) i u
+SeenDoes t ours id addresses (seen.Joined i) u = NewSeen t ours (placeOf id) id (keptOf addresses) i u
 -- "its head is named for a probe"
-SeenDoes t ours p (seen.Probe h) u = (h < slotsOf t) × (isHead ours (bucketOf (p .place) ours) (slot t h) ≡ true) × (u ≡ t)
-SeenDoes t ours p (seen.Refused r) u = u ≡ t
+SeenDoes t ours id addresses (seen.Probe h) u = (h < slotsOf t) × (isHead ours (bucketOf (placeOf id) ours) (slot t h) ≡ true) × (u ≡ t)
+SeenDoes t ours id addresses (seen.Refused r) u = u ≡ t
 
-abbrev pub SettleDoes : List ℕ → List ℕ → List ℕ → Peer → SettleOutcome → List ℕ → Type 0
-SettleDoes t ours head p settle.Kept u = HeadKept t ours head u
-SettleDoes t ours head p settle.Swapped u = HeadGone t ours head p u
-SettleDoes t ours head p (settle.Refused r) u = u ≡ t
+abbrev pub SettleDoes : List ℕ → List ℕ → List ℕ → List ℕ → List ℕ → SettleOutcome → List ℕ → Type 0
+SettleDoes t ours head id addresses settle.Kept u = HeadKept t ours (placeOf head) u
+SettleDoes t ours head id addresses settle.Swapped u = HeadGone t ours (placeOf head) (placeOf id) id (keptOf addresses) u
+SettleDoes t ours head id addresses (settle.Refused r) u = u ≡ t
 
 abbrev pub RemoveDoes : List ℕ → List ℕ → List ℕ → RemoveOutcome → List ℕ → Type 0
-RemoveDoes t ours p remove.Gone u = Freed t ours p (heldAt t p) u
-RemoveDoes t ours p (remove.Refused r) u = u ≡ t
+RemoveDoes t ours id remove.Gone u = Freed t ours (placeOf id) (heldAt t (placeOf id)) u
+RemoveDoes t ours id (remove.Refused r) u = u ≡ t
 
 -- ---- the claims
 pub record Claims : Type 0 where
@@ -97,10 +98,10 @@ pub record Claims : Type 0 where
   pub removeRefused : (t ours id : List ℕ) → removeNumber (removeCall t ours id) < 64 → removeCallTable t ours id ≡ t
   -- each answer does what it says; those of seen and settle, where ours is a place
   pub seenDoes : (t ours id : List ℕ) (client : Bool) (addresses : List ℕ) → length ours ≡ 32 → Bytes ours
-      → SeenDoes t ours (peerOf id (placeOf id) addresses) (seenCall t ours id client) (seenCallTable t ours id client addresses)
+      → SeenDoes t ours id addresses (seenCall t ours id client) (seenCallTable t ours id client addresses)
   pub settleDoes : (t ours head id : List ℕ) (client : Bool) (addresses : List ℕ) (answered : Bool) → length ours ≡ 32 → Bytes ours
-      → SettleDoes t ours (placeOf head) (peerOf id (placeOf id) addresses) (settleCall t ours head id client answered) (settleCallTable t ours head id client addresses answered)
-  pub removeDoes : (t ours id : List ℕ) → RemoveDoes t ours (placeOf id) (removeCall t ours id) (removeCallTable t ours id)
+      → SettleDoes t ours head id addresses (settleCall t ours head id client answered) (settleCallTable t ours head id client addresses answered)
+  pub removeDoes : (t ours id : List ℕ) → RemoveDoes t ours id (removeCall t ours id) (removeCallTable t ours id)
   -- "Evicting a head that answered" can't be: every contact is still there, whatever the table
   pub unevicted : (t ours head id : List ℕ) (client : Bool) (addresses : List ℕ) (j : ℕ) → j < slotsOf t
       → SameContact (slot (settleCallTable t ours head id client addresses true) j) (slot t j)

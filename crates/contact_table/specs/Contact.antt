@@ -1,4 +1,4 @@
--- What a reply gives of a contact. In a table in form these are the slot's id and addresses (crates/contact_form, proofs/EntryFacts); each is cut at its limit, so that it
+-- What a reply gives of a contact. In a table in form these are the slot's id and addresses (crates/contact_form, specs/Claims); each is cut at its limit, so that it
 -- has a meaning in a table of any bytes too.
 use Prim.Native.Nat.{ℕ, zero, suc, min}
 use mathlib.Core.List.{List, [], _∷_, _++_}

@@ -1,11 +1,8 @@
 -- Each claim of specs/Claims.antt, from contact_calls. Assumes nothing.
-use Prim.Native.Nat.{ℕ}
 use mathlib.Core.Path.{_≡_, refl, subst}
 use mathlib.Core.Bool.{Bool}
 use mathlib.Core.List.{List, []}
-use Rattle.place.specs.Place.{placeOf}
 use Rattle.peer.specs.declared.Peer.{Peer}
-use Rattle.peer.specs.Peers.{peerOf}
 use Rattle.contact_calls.specs.declared.SeenOutcome.{SeenOutcome}
 use Rattle.contact_calls.specs.declared.SettleOutcome.{SettleOutcome}
 use Rattle.contact_calls.specs.declared.RemoveOutcome.{RemoveOutcome}
@@ -26,7 +23,7 @@ claims me h l w = record {
   seenTold = λ t id client. subst (λ (o : SeenOutcome). SeenTold t (me .place) id client (seenNumber o)) (seen-on me t id client [] _ _ h (refl, refl) .0) (calls.claims .seenTold t (me .place) id client);
   settleTold = λ t head id client answered. subst (λ (o : SettleOutcome). SettleTold t (me .place) head id client answered (settleNumber o)) (settle-on me t head id client [] answered _ _ h (refl, refl) .0) (calls.claims .settleTold t (me .place) head id client answered);
   removeTold = λ t id. subst (λ (o : RemoveOutcome). RemoveTold t (me .place) id (removeNumber o)) (remove-on me t id _ _ h (refl, refl) .0) (calls.claims .removeTold t (me .place) id);
-  seenDoes = λ t id client addresses. both (SeenDoes t (me .place) (peerOf id (placeOf id) addresses)) _ _ _ _ (seen-on me t id client addresses _ _ h (refl, refl)) (calls.claims .seenDoes t (me .place) id client addresses l w);
-  settleDoes = λ t head id client addresses answered. both (SettleDoes t (me .place) (placeOf head) (peerOf id (placeOf id) addresses)) _ _ _ _ (settle-on me t head id client addresses answered _ _ h (refl, refl)) (calls.claims .settleDoes t (me .place) head id client addresses answered l w);
-  removeDoes = λ t id. both (RemoveDoes t (me .place) (placeOf id)) _ _ _ _ (remove-on me t id _ _ h (refl, refl)) (calls.claims .removeDoes t (me .place) id);
+  seenDoes = λ t id client addresses. both (SeenDoes t (me .place) id addresses) _ _ _ _ (seen-on me t id client addresses _ _ h (refl, refl)) (calls.claims .seenDoes t (me .place) id client addresses l w);
+  settleDoes = λ t head id client addresses answered. both (SettleDoes t (me .place) head id addresses) _ _ _ _ (settle-on me t head id client addresses answered _ _ h (refl, refl)) (calls.claims .settleDoes t (me .place) head id client addresses answered l w);
+  removeDoes = λ t id. both (RemoveDoes t (me .place) id) _ _ _ _ (remove-on me t id _ _ h (refl, refl)) (calls.claims .removeDoes t (me .place) id);
 }

@@ -4,3 +4,4 @@ pub mod Parts
 pub mod Strings
 pub mod Numbers
 pub mod Stores
+pub mod Claims

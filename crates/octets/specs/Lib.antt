@@ -1,2 +1,3 @@
 pub mod Octets
 pub mod Search
+pub mod Claims

@@ -35,6 +35,11 @@ found-back : (f : Found) → entryFound (entryOf f) ≡ f
 found-back (FoundAt p) = refl
 found-back FoundNothing = refl
 
+found-told : (f : Found) → entryRefusal (entryOf f) ≡ []
+unfolding entryRefusal
+found-told (FoundAt p) = refl
+found-told FoundNothing = refl
+
 walk-same : (k : ℕ) (f g : ℕ → Found) → ((n : ℕ) → f n ≡ g n) → (at : ℕ) → walk k f at ≡ walk k g at
 unfolding walk
 walk-same zero f g h at = refl
@@ -47,6 +52,9 @@ walk-same (suc k) f g h at = ap (λ (x : Found). onFound x (λ p. p ∷ walk k f
 module _ (s : List ℕ) (v : Fields) (h : isView s v ≡ true) where
   found-viewed : (f : Found) → entryFound (foundIf (isView s v) f) ≡ f
   found-viewed f = ap (λ (b : Bool). entryFound (foundIf b f)) h ∙ found-back f
+
+  told-viewed : (f : Found) → entryRefusal (foundIf (isView s v) f) ≡ []
+  told-viewed f = ap (λ (b : Bool). entryRefusal (foundIf b f)) h ∙ found-told f
 
   held-bare : v .held .there ≡ false → heldMeant s (v .held) ≡ none
   unfolding heldMeant
@@ -87,6 +95,9 @@ module _ (s : List ℕ) (v : Fields) (h : isView s v ≡ true) where
         id = λ p. ap (λ (b : Bool). partIf b (idAt s p)) h;
         connection = λ p. ap (λ (b : Bool). numberIf b (connectionAt s p)) h;
         addresses = λ p. walk-same (suc (length (take (p .end) s))) _ _ (λ n. found-viewed (firstOf (spans 2 (fieldsAt (take (p .end) s) n)))) (p .at) ∙ addresses-walked s p;
+        closerTold = λ n. told-viewed (firstOf (spans 8 (fieldsAt s n)));
+        providerTold = λ n. told-viewed (firstOf (spans 9 (fieldsAt s n)));
+        addressTold = λ p n. told-viewed (firstOf (spans 2 (fieldsAt (take (p .end) s) n)));
         closerPeers = closer-meant s;
         providerPeers = providers-meant s;
       }

@@ -75,6 +75,10 @@ pub record Meant (s : List ℕ) (v : Fields) : Type 0 where
   pub id : (p : Span) → peerIdOf s v p ≡ PartAt (idAt s p)
   pub connection : (p : Span) → peerConnectionOf s v p ≡ Is (connectionAt s p)
   pub addresses : (p : Span) → walk (suc (length (take (p .end) s))) (λ from. entryFound (peerAddressOf s v p from)) (p .at) ≡ addressesAt s p
+  -- a walk ends with nothing, never with a refusal
+  pub closerTold : (from : ℕ) → entryRefusal (closerOf s v from) ≡ []
+  pub providerTold : (from : ℕ) → entryRefusal (providerOf s v from) ≡ []
+  pub addressTold : (p : Span) (from : ℕ) → entryRefusal (peerAddressOf s v p from) ≡ []
   pub closerPeers : map (peerMeant s) (closerAt s) ≡ messageOf s .closer
   pub providerPeers : map (peerMeant s) (providersAt s) ≡ messageOf s .providers
 

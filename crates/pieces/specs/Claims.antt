@@ -1,7 +1,7 @@
 -- The largest sizes of document 01: nothing within the limits is larger, and something is as large. proofs/Largest.antt shows each.
 use Prim.Native.Nat.{ℕ, _≤_, _<_}
 use mathlib.Core.Path.{_≡_}
-use mathlib.Core.List.{List, []}
+use mathlib.Core.List.{[]}
 use mathlib.Core.Bool.{true}
 use lib.ListN.{length}
 use Rattle.octets.specs.Search.{every}

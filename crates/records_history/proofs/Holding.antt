@@ -17,7 +17,7 @@ use Rattle.recipe.specs.Recipe.{isRecipe, outranks}
 use Rattle.recipe.proofs.Rank.{outranks-self}
 use Rattle.records.specs.Limits.{valueAt, slotSize}
 use Rattle.records.specs.Store.{slotsOf, slot, used, isFree, freeSlot, keyOf, valueOf, isKey, isRecord, holds, apart, inForm, slotWith, heldAt, found, findOf, heldPlan, planOf, answerOf, offerAnswer, putAnswer, putAfter}
-use Rattle.records.specs.declared.Found.the-variants.{Held}
+use Rattle.records.specs.declared.Found.the-variants.{Held, NotHeld}
 use Rattle.records.specs.declared.Plan.the-variants.{Write, Keep, Refuse}
 use Rattle.records.specs.declared.Answer.the-variants.{Taken, Refused}
 use Rattle.record_slots.proofs.Finding.{with-holds, holds-out, form-record, form-apart}
@@ -62,8 +62,20 @@ value-found : (t k u : List ℕ) → inForm t ≡ true → got t k ≡ Has u →
 unfolding findOf
 value-found t k u form g = let f = held-found t k u g in (f .0, f .1, rw form (f .2), f .3)
 
+-- and a key that gives none is in no slot
+not-in : (t k : List ℕ) → got t k ≡ None → ltb (slotWith t k) (slotsOf t) ≡ false
+not-in t k g = ⊎-elim (λ b. absurd (none (sym g ∙ got-held t k (slotWith t k) refl (ltb-true (slotWith t k) (slotsOf t) b)))) (λ b. b) (either (ltb (slotWith t k) (slotsOf t)))
+
+pub not-found : (t k : List ℕ) → got t k ≡ None → found t k ≡ NotHeld
+unfolding found
+not-found t k g = rw (not-in t k g) refl
+
+none-found : (t k : List ℕ) → inForm t ≡ true → got t k ≡ None → findOf t k ≡ NotHeld
+unfolding findOf
+none-found t k form g = rw form (not-found t k g)
+
 pub held-is-found : HeldIsFound
-held-is-found = record { held = slot-holds; found = value-found }
+held-is-found = record { held = slot-holds; found = value-found; missing = none-found }
 
 -- ---- what is offered
 broken-first : (t k v : List ℕ) → inForm t ≡ true → isKey k ≡ true → isRecipe v ≡ false → putAnswer t k v ≡ Refused BrokenRecipe
@@ -107,21 +119,18 @@ unfolding offerAnswer planOf answerOf
 breaks t k v form e = put-is t k v form .0 ∙ rw e refl
 
 module _ (t k v : List ℕ) (form : inForm t ≡ true) (e : isKey k ≡ true) (r : isRecipe v ≡ true) (g : got t k ≡ None) where
-  out : ltb (slotWith t k) (slotsOf t) ≡ false
-  out = ⊎-elim (λ b. absurd (none (sym g ∙ got-held t k (slotWith t k) refl (ltb-true (slotWith t k) (slotsOf t) b)))) (λ b. b) (either (ltb (slotWith t k) (slotsOf t)))
-
   no-slot : ((j : ℕ) → j < slotsOf t → used (slot t j) ≡ true) → putAnswer t k v ≡ Refused NoRecordSlot
   unfolding offerAnswer planOf answerOf freeSlot isFree
   no-slot h =
       let m : slotsOf t ≡ freeSlot t = first-miss (isFree t) (slotsOf t) (λ j l. ap not (h j l)) in
       let f : ltb (freeSlot t) (slotsOf t) ≡ false = le-ltb (freeSlot t) (slotsOf t) (omega (arith, m)) in
-      put-is t k v form .0 ∙ rw (e, r, out, f) refl
+      put-is t k v form .0 ∙ rw (e, r, not-in t k g, f) refl
 
   joins-it : (j : ℕ) → j < slotsOf t → used (slot t j) ≡ false → putAnswer t k v ≡ Taken
   unfolding offerAnswer planOf answerOf freeSlot isFree
   joins-it j l h =
       let f : ltb (freeSlot t) (slotsOf t) ≡ true = lt-ltb (freeSlot t) (slotsOf t) (first-lt (isFree t) (slotsOf t) j l (ap not h)) in
-      put-is t k v form .0 ∙ rw (e, r, out, f) refl
+      put-is t k v form .0 ∙ rw (e, r, not-in t k g, f) refl
 
 pub put-told : PutTold
 put-told = record { outOfForm = broken-form; rules = breaks; full = no-slot; new = joins-it }

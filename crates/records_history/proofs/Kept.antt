@@ -62,13 +62,6 @@ found-is t k {a} {e} q = ⊎-elim (λ b. held (ltb-true (slotWith t k) (slotsOf 
         let g = slot-in t (slotWith t k) l in
         (omega arith, omega arith, got-held t k (slotWith t k) refl l ∙ ap Has (value-part t (slotWith t k) l ∙ ap₂ (λ (x y : ℕ). part t x y) ea ee))
 
-pub found-not : (t k : List ℕ) → found t k ≡ NotHeld → got t k ≡ None
-unfolding found heldAt
-found-not t k q = ⊎-elim (λ b. absurd (held (sym (cond-yes (ltb (slotWith t k) (slotsOf t)) (heldAt t (slotWith t k)) NotHeld b) ∙ q))) (λ b. got-none t k (ltb-false (slotWith t k) (slotsOf t) b)) (either (ltb (slotWith t k) (slotsOf t)))
-  where
-    held : {a e : ℕ} → Held a e ≡ NotHeld → ⊥
-    held w = let z : _≡_ {A = ℕ} 0 1 = cc in omega arith
-
 -- and a value that a key gives stands where `look` says
 pub got-found : (t k v : List ℕ) → got t k ≡ Has v → (a : ℕ) × (e : ℕ) × (found t k ≡ Held a e) × (part t a e ≡ v)
 unfolding found heldAt
@@ -82,22 +75,6 @@ got-found t k v g = ⊎-elim (λ b. there (cond-yes (ltb (slotWith t k) (slotsOf
 
     there : {a e : ℕ} → found t k ≡ Held a e → (a : ℕ) × (e : ℕ) × (found t k ≡ Held a e) × (part t a e ≡ v)
     there {a} {e} q = (a, e, q, the (sym (found-is t k q .2) ∙ g))
-
-key-of : (r : List ℕ) → isRecord r ≡ true → isKey (keyOf r) ≡ true
-unfolding isRecord
-key-of r e = all-head _ _ e
-
--- a key that gives a value, in a store in form, is a record key
-pub got-key : (t k v : List ℕ) → inForm t ≡ true → got t k ≡ Has v → isKey k ≡ true
-got-key t k v form g = ⊎-elim (λ b. held (ltb-true (slotWith t k) (slotsOf t) b)) (λ b. absurd (gone (sym (got-none t k (ltb-false (slotWith t k) (slotsOf t) b)) ∙ g))) (either (ltb (slotWith t k) (slotsOf t)))
-  where
-    gone : None ≡ Has v → ⊥
-    gone w = let z : _≡_ {A = ℕ} 0 1 = cc in omega arith
-
-    held : slotWith t k < slotsOf t → isKey k ≡ true
-    held l =
-        let o = holds-out t k (slotWith t k) (with-holds t k l) in
-        subst (λ (x : List ℕ). isKey x ≡ true) (o .1) (key-of (slot t (slotWith t k)) (form-record t (slotWith t k) form l (o .0)))
 
 -- ---- keys apart
 pub apart-out : (t : List ℕ) (i j : ℕ) → apart t i j ≡ true → holds t (keyOf (slot t i)) j ≡ false

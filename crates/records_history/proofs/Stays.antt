@@ -172,10 +172,6 @@ unfolding after offered
 form-kept t [] form = form
 form-kept t (o ∷ os) form = form-kept (putAfter t (o .key) (o .value)) os (put-form t (o .key) (o .value) form)
 
--- memory once cleared and since changed by puts alone never gives 0
-pub cleared-never-0 : (n : ℕ) (os : List Offer) (k v : List ℕ) → putAnswer (after (cleared n) os) k v ≡ Refused OutOfForm → ⊥
-cleared-never-0 n os k v = never-0 (after (cleared n) os) k v (form-kept (cleared n) os (cleared-form n))
-
 -- ---- over any list of puts
 -- what a key gives after one more put
 module _ (k t : List ℕ) (o : Offer) where

@@ -11,7 +11,7 @@ use Rattle.refusal.specs.declared.Refusal.the-variants.{OutOfForm, BreaksRules,
 use Rattle.recipe.specs.Recipe.{isRecipe, outranks}
 use Rattle.records.specs.Limits.{valueAt, slotSize}
 use Rattle.records.specs.Store.{slotsOf, slot, used, valueOf, isKey, holds, inForm, findOf, putAnswer, putAfter}
-use Rattle.records.specs.declared.Found.the-variants.{Held}
+use Rattle.records.specs.declared.Found.the-variants.{Held, NotHeld}
 use Rattle.records.specs.declared.Answer.the-variants.{Taken, Refused}
 use Rattle.records_history.specs.History.{Has, None, got, Offer, accepts, offered, after, cleared, Accepted, Unbeaten}
 
@@ -43,10 +43,11 @@ FormIsBlind =
     → ((i : ℕ) → i < slotsOf s → part s (i * slotSize) (i * slotSize + valueAt) ≡ part t (i * slotSize) (i * slotSize + valueAt))
     → inForm s ≡ inForm t
 
--- the value in the slot that holds a key is the one held under it, and is found: it stands where find says
+-- the value in the slot that holds a key is the one held under it, and is found: it stands where find says; where none is held, none is found
 pub record HeldIsFound : Type 0 where
   pub held : (t k : List ℕ) (i : ℕ) → inForm t ≡ true → i < slotsOf t → holds t k i ≡ true → got t k ≡ Has (valueOf (slot t i))
   pub found : (t k u : List ℕ) → inForm t ≡ true → got t k ≡ Has u → (a : ℕ) × (e : ℕ) × (findOf t k ≡ Held a e) × (part t a e ≡ u)
+  pub missing : (t k : List ℕ) → inForm t ≡ true → got t k ≡ None → findOf t k ≡ NotHeld
 
 -- what is offered is judged first: 9, whatever is held. Only then it is compared: 10, if what is held ranks higher; else it is the one that is held
 pub record JudgedFirst : Type 0 where

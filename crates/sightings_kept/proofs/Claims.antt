@@ -11,6 +11,7 @@ use Rattle.place.specs.Place.{bucketOf}
 use Rattle.contacts.specs.Table.{slotsOf, slot, used}
 use Rattle.contacts.specs.Form.{inForm}
 use Rattle.peer.specs.declared.Peer.{Peer}
+use Rattle.peer.specs.Peers.{idIn, addressesIn}
 use Rattle.sightings.specs.declared.Sighting.{Sighting}
 use Rattle.sightings.specs.declared.Sighting.the-variants.{Moved, Joined, Full, NoSlot}
 use Rattle.sightings.specs.declared.Settled.the-variants.{Stale}
@@ -21,7 +22,7 @@ use Rattle.contact_order.proofs.Tests.{free-there}
 use Rattle.sightings_kept.specs.Promises.{Fair, NewSeen, holds, Claims}
 use Rattle.sightings_kept.proofs.Forms.{seen-keeps, settle-keeps, remove-keeps}
 use Rattle.sightings_kept.proofs.Theorems.{held-never-refused, full-changes-nothing, no-slot-changes-nothing, stale-same, not-held-same, seen-held, seen-new, remove-frees, settle-answered, settle-silent, answered-never-evicted}
-use Rattle.sightings_kept.proofs.Holds.{tail-is-count, full-refused, none-left, head-there}
+use Rattle.sightings_kept.proofs.Holds.{tail-is-count, full-refused, none-left, head-there, still-fits, still-fails}
 use Rattle.sightings_kept.proofs.Hashed.{seen-hashed, settle-hashed, remove-hashed}
 
 -- ---- where a slot is free, nobody is refused for want of one
@@ -50,7 +51,7 @@ module _ (t o : List ℕ) (y : inForm t o ≡ true) (p : Peer) (new : held t (p 
       (headAt t o (bucketOf (p .place) o), e, h .0, h .1, full-changes-nothing t o p _ e)
 
   module _ (room : holds t o (bucketOf (p .place) o) < 20) where
-    joins-in : Fair o p → (j : ℕ) → j < slotsOf t → used (slot t j) ≡ false → (sightingOf t o (p .place) ≡ Joined (freeAt t)) × NewSeen t o p (freeAt t) (seenTable t o p)
+    joins-in : Fair o p → (j : ℕ) → j < slotsOf t → used (slot t j) ≡ false → (sightingOf t o (p .place) ≡ Joined (freeAt t)) × NewSeen t o (p .place) (idIn p) (addressesIn p) (freeAt t) (seenTable t o p)
     joins-in G j l free = seen-new t o p G new (omega (arith, tail-is-count t o y (bucketOf (p .place) o))) (free-there t j l free)
 
     left-out : ((j : ℕ) → j < slotsOf t → used (slot t j) ≡ true) → (sightingOf t o (p .place) ≡ NoSlot) × (seenTable t o p ≡ t)
@@ -77,9 +78,9 @@ claims t o y = record {
   full = full-named t o y;
   joined = λ p G new room. joins-in t o y p new room G;
   noSlot = left-out t o y;
-  kept = λ head p f. settle-answered t o head p y f;
-  swapped = λ head p G f. settle-silent t o head p y f G;
-  stale = λ head p answered f. (stale-answer t o head p answered f, stale-same t o head p answered f);
+  kept = λ head p s. settle-answered t o head p y (still-fits t o head (p .place) y s);
+  swapped = λ head p G s. settle-silent t o head p y (still-fits t o head (p .place) y s) G;
+  stale = λ head p answered n. let f = still-fails t o head (p .place) y n in (stale-answer t o head p answered f, stale-same t o head p answered f);
   unevicted = λ head p j l. answered-never-evicted t o head p y j l;
   gone = λ p h. remove-frees t o p y h;
   notHeld = λ p h. (not-held-answer t p h, not-held-same t o p h);

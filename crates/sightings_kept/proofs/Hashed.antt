@@ -1,29 +1,26 @@
 -- Seen, settle and remove leave every contact at the hash of its id, where newcomers are. Assumes nothing.
 use Prim.Native.Nat.{ℕ, _<_}
-use mathlib.Core.Path.{_≡_, refl, sym, ap, _∙_, subst}
-use mathlib.Core.Logic.{_⊎_, inl, inr, ⊎-elim}
-use mathlib.Core.Bool.{Bool, true, false, cond}
+use mathlib.Core.Path.{_≡_, sym, ap, _∙_, subst}
+use mathlib.Core.Logic.{⊎-elim}
+use mathlib.Core.Bool.{Bool, true, false}
 use mathlib.Core.List.{List}
 use lib.Dec.{leb, ltb}
-use borrow.Author.Tests.{leb-true, leb-false, ltb-true, ltb-false}
-use native.Mathlib.Omega.{arith}
+use borrow.Author.Tests.{leb-false, ltb-true}
 use Rattle.octets.proofs.Bools.{not-both, either, eq-or-ne, cond-yes, cond-no}
 use Rattle.place.specs.Place.{placeOf, bucketOf}
 use Rattle.contacts.specs.Table.{bucketSize, slotsOf, slot, used, place, id}
 use Rattle.contacts.specs.Form.{inForm}
 use Rattle.contact_form.proofs.FormFacts.{form-elim}
 use Rattle.peer.specs.declared.Peer.{Peer}
-use Rattle.peer.specs.Peers.{idIn}
-use Rattle.sightings.specs.declared.Sighting.{Sighting}
-use Rattle.sightings.specs.declared.Sighting.the-variants.{Moved, Joined, Full, NoSlot}
-use Rattle.sightings.specs.Order.{heldAt, freeAt, headAt, tailOf, dropped, freeBytes}
-use Rattle.sightings.specs.Sightings.{held, newcomer, sightingOf, afterSighting, seenTable, fits, settledTable, removedTable}
+use Rattle.peer.specs.Peers.{idIn, addressesIn}
+use Rattle.sightings.specs.Order.{heldAt, freeAt, tailOf, dropped}
+use Rattle.sightings.specs.Sightings.{held, newcomer, sightingOf, seenTable, fits, settledTable, removedTable}
 use Rattle.contact_order.proofs.Tests.{held-lt, held-is, at-used, at-place}
-use Rattle.sightings.proofs.Dropping.{none-free, drop-free}
+use Rattle.sightings.proofs.Dropping.{none-free}
 use Rattle.sightings.proofs.Calls.{fits-held}
 use Rattle.sightings_kept.specs.Promises.{Fair, SameContact, Others, HeldSeen, NewSeen, Freed, Hashed, HashedPeer}
 use Rattle.sightings_kept.proofs.Ordered.{from-form}
-use Rattle.sightings_kept.proofs.Theorems.{full-changes-nothing, no-slot-changes-nothing, stale-same, not-held-same, frees, joins, seen-held, seen-new, remove-frees, settle-answered, settle-silent}
+use Rattle.sightings_kept.proofs.Theorems.{full-changes-nothing, no-slot-changes-nothing, stale-same, not-held-same, frees, seen-held, seen-new, remove-frees, settle-answered, settle-silent}
 
 -- a slot that says the same of a contact
 same-hashed : (s v : List ℕ) → SameContact s v → (used v ≡ true → place v ≡ placeOf (id v)) → used s ≡ true → place s ≡ placeOf (id s)
@@ -43,11 +40,11 @@ but-one t o u i x h k j lj uj = ⊎-elim (λ e. here e) (λ n. other n) (eq-or-n
     other n = same-hashed (slot u j) (slot t j) (x .contact j lt n) (h j lt) uj
 
 module _ (o : List ℕ) (p : Peer) (P : HashedPeer p) where
-  held-hashed : (t u : List ℕ) (i : ℕ) → i < slotsOf t → used (slot t i) ≡ true → place (slot t i) ≡ p .place → HeldSeen t o p i u → Hashed t → Hashed u
+  held-hashed : (t u : List ℕ) (i : ℕ) → i < slotsOf t → used (slot t i) ≡ true → place (slot t i) ≡ p .place → HeldSeen t o (p .place) (addressesIn p) i u → Hashed t → Hashed u
   held-hashed t u i l ui e x h =
       but-one t o u i (x .others) h (λ v. at-place (p .place) (slot u i) (x .tail .here) ∙ sym e ∙ h i l ui ∙ ap placeOf (sym (x .sameId)))
 
-  new-hashed : (t u : List ℕ) (i : ℕ) → NewSeen t o p i u → Hashed t → Hashed u
+  new-hashed : (t u : List ℕ) (i : ℕ) → NewSeen t o (p .place) (idIn p) (addressesIn p) i u → Hashed t → Hashed u
   new-hashed t u i x h = but-one t o u i (x .others) h (λ v. at-place (p .place) (slot u i) (x .tail .here) ∙ P ∙ ap placeOf (sym (x .sameId)))
 
 freed-hashed : (t o p : List ℕ) (i : ℕ) (u : List ℕ) → Freed t o p i u → Hashed t → Hashed u

@@ -2,7 +2,7 @@
 use Prim.Native.Nat.{ℕ, zero, suc, _+_, _-_, _<_, _≤_}
 use mathlib.Core.Path.{_≡_, refl, sym, ap, ap₂, _∙_, subst}
 use mathlib.Core.Logic.{⊎-elim}
-use mathlib.Core.Bool.{Bool, true, false, _&&_, cond}
+use mathlib.Core.Bool.{Bool, true, false, not, _&&_, cond}
 use mathlib.Core.List.{List}
 use native.Mathlib.Nat.{not-suc-le-zero, eq-or-lt-of-le, le-of-suc-le-suc}
 use native.Mathlib.Omega.{arith}
@@ -16,10 +16,11 @@ use Rattle.contacts.specs.Table.{slotsOf, slot, mark, used}
 use Rattle.contacts.specs.Form.{inForm}
 use Rattle.contact_form.proofs.FormFacts.{form-elim}
 use Rattle.sightings.specs.declared.Sighting.the-variants.{Joined, Full, NoSlot}
-use Rattle.sightings.specs.Order.{ofBucket, isHead, freeAt, headAt, tailOf}
-use Rattle.sightings.specs.Sightings.{held, newcomer, sightingOf}
-use Rattle.sightings_kept.specs.Promises.{holds}
-use Rattle.contact_order.proofs.Tests.{of-mark, free-is, free-there, tail-ge, tail-at}
+use Rattle.sightings.specs.Order.{ofBucket, isHead, heldAt, freeAt, headAt, tailOf}
+use Rattle.sightings.specs.Sightings.{held, newcomer, sightingOf, fits}
+use Rattle.sightings_kept.specs.Promises.{holds, StillFits}
+use Rattle.contact_order.proofs.Tests.{of-make, of-mark, at-used, at-place, held-is, free-is, free-there, tail-ge, tail-at}
+use Rattle.sightings.proofs.Calls.{fits-held, fits-head, fits-bucket, fits-full, fits-new}
 use Rattle.sightings_kept.proofs.Ordered.{Ordered, from-form}
 
 -- ---- counting. for octets
@@ -153,3 +154,31 @@ head-there t o y b h =
     let i : isHead o b (slot t (r .0)) ≡ true = and-i (eqb (mark (slot t (r .0))) 1) _ (eq-eqb _ 1 one) (r .2) in
     let l = first-lt (λ (k : ℕ). isHead o b (slot t k)) (slotsOf t) (r .0) (r .1) i in
     (l, first-is (λ (k : ℕ). isHead o b (slot t k)) (slotsOf t) .here l)
+
+-- ---- the test of a settle is what the document says of it
+module _ (t o head p : List ℕ) (y : inForm t o ≡ true) where
+  pub fits-still : fits t o head p ≡ true → StillFits t o head p
+  unfolding held isHead
+  fits-still f =
+      let l = fits-held t o head p f in
+      let a = held-is t head l in
+      record {
+        headHeld = lt-ltb (heldAt t head) (slotsOf t) l;
+        stillHead =
+            and-i (eqb (mark (slot t (heldAt t head))) 1) _ (eq-eqb _ 1 (fits-head t o head p f))
+            (of-make o (bucketOf head o) (slot t (heldAt t head)) (at-used head _ a) (ap (λ (x : List ℕ). bucketOf x o) (at-place head _ a)));
+        full = sym (tail-is-count t o y (bucketOf head o)) ∙ ap (tailOf t o) (sym (fits-bucket t o head p f)) ∙ fits-full t o head p f;
+        ofThat = fits-bucket t o head p f;
+        notHeld = fits-new t o head p f;
+      }
+
+  pub still-fits : StillFits t o head p → fits t o head p ≡ true
+  unfolding fits isHead
+  still-fits s =
+      and-i (held t head) _ (s .headHeld)
+      (and-i (eqb (mark (slot t (heldAt t head))) 1) _ (and-l _ (ofBucket o (bucketOf head o) (slot t (heldAt t head))) (s .stillHead))
+      (and-i (eqb (bucketOf p o) (bucketOf head o)) _ (eq-eqb _ _ (s .ofThat))
+      (and-i (eqb (tailOf t o (bucketOf head o)) 20) _ (eq-eqb _ 20 (tail-is-count t o y (bucketOf head o) ∙ s .full)) (ap not (s .notHeld)))))
+
+  pub still-fails : (StillFits t o head p → ⊥) → fits t o head p ≡ false
+  still-fails n = to-false (fits t o head p) (λ f. n (fits-still f))

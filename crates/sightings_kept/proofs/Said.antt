@@ -64,6 +64,20 @@ unfolding addressesTo peers.addressesTo
 agree s p zero h = refl
 agree s p (suc n) h = ap₂ (λ (l : List (List ℕ)) (a : List ℕ). l ++ (a ∷ [])) (agree s p n (λ k l. h k (omega arith))) (h n (omega arith))
 
+-- ---- a peer says as many addresses as it counts, so it says none where it counts none
+some-long : (p : Peer) (n : ℕ) → length (peers.addressesTo p n) ≡ n
+unfolding peers.addressesTo
+some-long p zero = refl
+some-long p (suc n) = omega (arith, length-append (peers.addressesTo p n) (addressIn p n ∷ []), some-long p n)
+
+pub says-none : (p : Peer) → p .count ≡ 0 → addressesIn p ≡ []
+unfolding addressesIn peers.addressesTo
+says-none p z = ap (peers.addressesTo p) z
+
+pub none-said : (p : Peer) → addressesIn p ≡ [] → p .count ≡ 0
+unfolding addressesIn
+none-said p e = sym (some-long p (p .count)) ∙ ap length e
+
 -- ---- a slot that a peer was written to
 module _ (o : List ℕ) (p : Peer) (G : Fair o p) (m : ℕ) where
   abbrev front : List ℕ

@@ -34,7 +34,7 @@ use Rattle.sightings.proofs.Calls.{fits-held, fits-new}
 use Rattle.sightings_kept.proofs.Ordered.{Ordered, from-form, mark-byte}
 use Rattle.sightings_kept.proofs.Kept.{kept-used, view, drop-tail-down}
 use Rattle.sightings_kept.proofs.Forms.{bytes-long, bytes-mark, bytes-place, addr-mark, addr-place, addr-long, tailed-place, tailed-mark}
-use Rattle.sightings_kept.proofs.Said.{rest-same, lowered-rest, mark-rest, bytes-id, bytes-addresses, renewed-addresses, renewed-id}
+use Rattle.sightings_kept.proofs.Said.{rest-same, lowered-rest, mark-rest, bytes-id, bytes-addresses, renewed-addresses, renewed-id, says-none, none-said}
 
 -- ---- others: one slot written, one slot dropped, and one step after another
 same-self : (s v : List ℕ) → s ≡ v → SameContact s v
@@ -198,7 +198,7 @@ pub not-held-same : (t o p : List ℕ) → held t p ≡ false → removedTable t
 unfolding removedTable removalOf afterRemoval
 not-held-same t o p h = ap (afterRemoval t o p) (cond-no (held t p) _ _ h)
 
-pub joins : (t o : List ℕ) (p : Peer) → Fair o p → freeAt t < slotsOf t → NewSeen t o p (freeAt t) (join t o p)
+pub joins : (t o : List ℕ) (p : Peer) → Fair o p → freeAt t < slotsOf t → NewSeen t o (p .place) (idIn p) (addressesIn p) (freeAt t) (join t o p)
 unfolding join joinAt
 joins t o p G l =
     let m : ℕ = tailOf t o (bucketOf (p .place) o) + 1 in
@@ -232,16 +232,16 @@ module _ (t o : List ℕ) (i : ℕ) (l : i < slotsOf t) (F : Ordered t o) (u : u
   tailed-few = omega (arith, mark-byte (tailOf t o (bucketOf (place (slot t i)) o)) (slot t i) 2 (omega arith), F .sound i l u .0 .idMost)
 
   module _ (p : Peer) (G : Fair o p) (at : place (slot t i) ≡ p .place) where
-    renew-seen : HeldSeen t o p i (moveAndRenew t o i p)
+    renew-seen : HeldSeen t o (p .place) (addressesIn p) i (moveAndRenew t o i p)
     unfolding moveAndRenew renewed
     renew-seen =
-        cond-ind (λ (x : List ℕ). HeldSeen t o p i (putSlot (leave t o i) i x)) (eqb (p .count) 0) (tailed t o i) (withAddresses p (tailed t o i))
+        cond-ind (λ (x : List ℕ). HeldSeen t o (p .place) (addressesIn p) i (putSlot (leave t o i) i x)) (eqb (p .count) 0) (tailed t o i) (withAddresses p (tailed t o i))
         (λ e. stay (eqb-true (p .count) 0 e)) (λ e. new (eqb-false (p .count) 0 e))
       where
         long : length (tailed t o i) ≡ 616
         long = tailed-long t o i l
 
-        stay : p .count ≡ 0 → HeldSeen t o p i (putSlot (leave t o i) i (tailed t o i))
+        stay : p .count ≡ 0 → HeldSeen t o (p .place) (addressesIn p) i (putSlot (leave t o i) i (tailed t o i))
         stay z =
             let is = moved-is t o i l F u (tailed t o i) long (tailed-place t o i l F u) (tailed-mark t o i l F u) in
             record {
@@ -249,10 +249,10 @@ module _ (t o : List ℕ) (i : ℕ) (l : i < slotsOf t) (F : Ordered t o) (u : u
               tail = subst (λ (x : List ℕ). AtTail o x i (putSlot (leave t o i) i (tailed t o i))) at (moved-tail t o i l F u (tailed t o i) long (tailed-place t o i l F u) (tailed-mark t o i l F u));
               sameId = ap id is ∙ tailed-same .sameId;
               oldAddresses = λ _. ap addresses is ∙ tailed-same .sameAddresses;
-              newAddresses = λ n. absurd (n z);
+              newAddresses = λ n. absurd (n (says-none p z));
             }
 
-        new : (p .count ≡ 0 → ⊥) → HeldSeen t o p i (putSlot (leave t o i) i (withAddresses p (tailed t o i)))
+        new : (p .count ≡ 0 → ⊥) → HeldSeen t o (p .place) (addressesIn p) i (putSlot (leave t o i) i (withAddresses p (tailed t o i)))
         new n =
             let w : List ℕ = withAddresses p (tailed t o i) in
             let lw : length (withAddresses p (tailed t o i)) ≡ 616 = addr-long o p G (tailed t o i) long in
@@ -263,18 +263,18 @@ module _ (t o : List ℕ) (i : ℕ) (l : i < slotsOf t) (F : Ordered t o) (u : u
               others = moved-others t o i l F u w lw pw mw;
               tail = subst (λ (x : List ℕ). AtTail o x i (putSlot (leave t o i) i (withAddresses p (tailed t o i)))) at (moved-tail t o i l F u w lw pw mw);
               sameId = ap id is ∙ renewed-id o p G (tailed t o i) long tailed-few ∙ tailed-same .sameId;
-              oldAddresses = λ z. absurd (n z);
+              oldAddresses = λ e. absurd (n (none-said p e));
               newAddresses = λ _. ap addresses is ∙ renewed-addresses o p G (tailed t o i) long;
             }
 
 -- ---- seen
 module _ (t o : List ℕ) (p : Peer) (G : Fair o p) where
-  pub seen-held : inForm t o ≡ true → held t (p .place) ≡ true → HeldSeen t o p (heldAt t (p .place)) (seenTable t o p)
+  pub seen-held : inForm t o ≡ true → held t (p .place) ≡ true → HeldSeen t o (p .place) (addressesIn p) (heldAt t (p .place)) (seenTable t o p)
   unfolding seenTable afterSighting
   seen-held y h =
       let l = held-lt t (p .place) h in
       let a = held-is t (p .place) l in
-      subst (λ (r : Sighting). HeldSeen t o p (heldAt t (p .place)) (afterSighting t o p r)) (sym (held-never-refused t o (p .place) h))
+      subst (λ (r : Sighting). HeldSeen t o (p .place) (addressesIn p) (heldAt t (p .place)) (afterSighting t o p r)) (sym (held-never-refused t o (p .place) h))
       (renew-seen t o (heldAt t (p .place)) l (from-form t o (form-elim t o y)) (at-used (p .place) _ a) p G (at-place (p .place) _ a))
 
   new-answer : held t (p .place) ≡ false → tailOf t o (bucketOf (p .place) o) < 20 → freeAt t < slotsOf t → sightingOf t o (p .place) ≡ Joined (freeAt t)
@@ -284,10 +284,10 @@ module _ (t o : List ℕ) (p : Peer) (G : Fair o p) where
       ∙ cond-yes (ltb (freeAt t) (slotsOf t)) _ _ (lt-ltb (freeAt t) (slotsOf t) l)
 
   pub seen-new : held t (p .place) ≡ false → tailOf t o (bucketOf (p .place) o) < 20 → freeAt t < slotsOf t
-      → (sightingOf t o (p .place) ≡ Joined (freeAt t)) × NewSeen t o p (freeAt t) (seenTable t o p)
+      → (sightingOf t o (p .place) ≡ Joined (freeAt t)) × NewSeen t o (p .place) (idIn p) (addressesIn p) (freeAt t) (seenTable t o p)
   unfolding seenTable afterSighting join
   seen-new h k l =
-      (new-answer h k l, subst (λ (r : Sighting). NewSeen t o p (freeAt t) (afterSighting t o p r)) (sym (new-answer h k l)) (joins t o p G l))
+      (new-answer h k l, subst (λ (r : Sighting). NewSeen t o (p .place) (idIn p) (addressesIn p) (freeAt t) (afterSighting t o p r)) (sym (new-answer h k l)) (joins t o p G l))
 
 -- ---- remove
 module _ (t o : List ℕ) (F : Ordered t o) (p : List ℕ) (l : heldAt t p < slotsOf t) where
@@ -360,7 +360,7 @@ module _ (t o head : List ℕ) (p : Peer) (y : inForm t o ≡ true) (f : fits t 
       (e, subst (λ (r : Settled). HeadKept t o head (afterSettling t o head p r)) (sym e) head-kept)
 
   module _ (H : Fair o p) where
-    joined : NewSeen (dropped t o (heldAt t head)) o p (freeAt (dropped t o (heldAt t head))) (join (dropped t o (heldAt t head)) o p)
+    joined : NewSeen (dropped t o (heldAt t head)) o (p .place) (idIn p) (addressesIn p) (freeAt (dropped t o (heldAt t head))) (join (dropped t o (heldAt t head)) o p)
     joined = joins (dropped t o (heldAt t head)) o p H (drop-free t o (heldAt t head) lh)
 
     -- the newcomer has another place than the head
@@ -368,7 +368,7 @@ module _ (t o head : List ℕ) (p : Peer) (y : inForm t o ≡ true) (f : fits t 
     differ e = not-both (held t (p .place)) (ap (held t) e ∙ held-here t head (heldAt t head) lh (held-is t head lh)) (fits-new t o head (p .place) f)
 
     -- the head was silent
-    head-gone : HeadGone t o head p (join (dropped t o (heldAt t head)) o p)
+    head-gone : HeadGone t o head (p .place) (idIn p) (addressesIn p) (join (dropped t o (heldAt t head)) o p)
     head-gone = record {
       others =
           then t o (dropped t o (heldAt t head)) (join (dropped t o (heldAt t head)) o p) (λ j. j ≡ heldAt t head) (λ j. j ≡ freeAt (dropped t o (heldAt t head)))
@@ -388,11 +388,11 @@ module _ (t o head : List ℕ) (p : Peer) (y : inForm t o ≡ true) (f : fits t 
             (at-make head _ (sym (c .sameUse) ∙ at-used head _ q) (sym (c .samePlace) ∙ at-place head _ q)))
             (eq-or-ne (heldAt (join (dropped t o (heldAt t head)) o p) head) (freeAt (dropped t o (heldAt t head))))
 
-    pub settle-silent : (settlementOf t o head (p .place) false ≡ Swapped) × HeadGone t o head p (settledTable t o head p false)
+    pub settle-silent : (settlementOf t o head (p .place) false ≡ Swapped) × HeadGone t o head (p .place) (idIn p) (addressesIn p) (settledTable t o head p false)
     unfolding settledTable settlementOf afterSettling
     settle-silent =
         let e : settlementOf t o head (p .place) false ≡ Swapped = cond-yes (fits t o head (p .place)) _ _ f in
-        (e, subst (λ (r : Settled). HeadGone t o head p (afterSettling t o head p r)) (sym e) head-gone)
+        (e, subst (λ (r : Settled). HeadGone t o head (p .place) (idIn p) (addressesIn p) (afterSettling t o head p r)) (sym e) head-gone)
 
 -- "Evicting a head that answered" can't be: where it answered, every contact of the table is still there
 pub answered-never-evicted : (t o head : List ℕ) (p : Peer) → inForm t o ≡ true → (j : ℕ) → j < slotsOf t → SameContact (slot (settledTable t o head p true) j) (slot t j)

@@ -1,9 +1,9 @@
 -- What seen, settle and remove promise of a table in form: who moves, who comes, who goes, and that nobody else is touched. `claims` (proofs/Claims.antt) has all of it.
-use Prim.Native.Nat.{ℕ, _+_, _*_, _<_, _≤_}
+use Prim.Native.Nat.{ℕ, _*_, _<_, _≤_}
 use mathlib.Core.Path.{_≡_}
 use mathlib.Core.Logic.{_⊎_}
 use mathlib.Core.Bool.{Bool, true, false}
-use mathlib.Core.List.{List}
+use mathlib.Core.List.{List, []}
 use lib.ListN.{length, getD, drop}
 use lib.Dec.{ltb}
 use Rattle.octets.specs.Search.{count}
@@ -15,8 +15,8 @@ use Rattle.peer.specs.Peers.{idIn, addressesIn}
 use Rattle.sightings.specs.declared.Sighting.the-variants.{Moved, Joined, Full, NoSlot}
 use Rattle.sightings.specs.declared.Settled.the-variants.{Kept, Swapped, Stale}
 use Rattle.sightings.specs.declared.Removed.the-variants.{Gone, NotHeld}
-use Rattle.sightings.specs.Order.{ofBucket, isAt, isHead, heldAt, freeAt, headAt, tailOf, freeBytes, dropped}
-use Rattle.sightings.specs.Sightings.{held, sightingOf, seenTable, fits, settlementOf, settledTable, removalOf, removedTable}
+use Rattle.sightings.specs.Order.{ofBucket, isAt, isHead, heldAt, freeAt, tailOf, freeBytes, dropped}
+use Rattle.sightings.specs.Sightings.{held, sightingOf, seenTable, settlementOf, settledTable, removalOf, removedTable}
 
 -- a peer that may come in: an id of 1 to 64 bytes, up to four addresses of 1 to 128, a place that isn't ours
 pub record Fair (ours : List ℕ) (p : Peer) : Type 0 where
@@ -55,6 +55,14 @@ pub record AtTail (ours : List ℕ) (p : List ℕ) (i : ℕ) (u : List ℕ) : Ty
 unfoldable pub holds : List ℕ → List ℕ → ℕ → ℕ
 holds t ours b = count (slotsOf t) (λ i. ofBucket ours b (slot t i))
 
+-- a settle still fits the table: "the bucket is full, the head is still its head, and the newcomer is of that bucket and not held"
+pub record StillFits (t ours head p : List ℕ) : Type 0 where
+  pub headHeld : held t head ≡ true
+  pub stillHead : isHead ours (bucketOf head ours) (slot t (heldAt t head)) ≡ true
+  pub full : holds t ours (bucketOf head ours) ≡ 20
+  pub ofThat : bucketOf p ours ≡ bucketOf head ours
+  pub notHeld : held t p ≡ false
+
 -- every contact lies at the hash of its id; and so does a peer
 abbrev pub Hashed : List ℕ → Type 0
 Hashed t = (i : ℕ) → i < slotsOf t → used (slot t i) ≡ true → place (slot t i) ≡ placeOf (id (slot t i))
@@ -63,20 +71,20 @@ abbrev pub HashedPeer : Peer → Type 0
 HashedPeer p = p .place ≡ placeOf (idIn p)
 
 -- ---- what a call makes of the table t: u
--- a held contact moves to its bucket's tail and keeps its id; nobody else is touched. It takes the new addresses if there are any
-pub record HeldSeen (t ours : List ℕ) (p : Peer) (i : ℕ) (u : List ℕ) : Type 0 where
+-- the held contact at place p moves to its bucket's tail and keeps its id; nobody else is touched. It takes the new addresses if there are any
+pub record HeldSeen (t ours p : List ℕ) (new : List (List ℕ)) (i : ℕ) (u : List ℕ) : Type 0 where
   pub others : Others t ours u (λ j. j ≡ i)
-  pub tail : AtTail ours (p .place) i u
+  pub tail : AtTail ours p i u
   pub sameId : id (slot u i) ≡ id (slot t i)
-  pub oldAddresses : p .count ≡ 0 → addresses (slot u i) ≡ addresses (slot t i)
-  pub newAddresses : (p .count ≡ 0 → ⊥) → addresses (slot u i) ≡ addressesIn p
+  pub oldAddresses : new ≡ [] → addresses (slot u i) ≡ addresses (slot t i)
+  pub newAddresses : (new ≡ [] → ⊥) → addresses (slot u i) ≡ new
 
--- a newcomer joins the tail in the lowest free slot, with its id and addresses; nobody else is touched
-pub record NewSeen (t ours : List ℕ) (p : Peer) (i : ℕ) (u : List ℕ) : Type 0 where
+-- a newcomer of place p joins the tail in the lowest free slot, with its own id and addresses; nobody else is touched
+pub record NewSeen (t ours p own : List ℕ) (new : List (List ℕ)) (i : ℕ) (u : List ℕ) : Type 0 where
   pub others : Others t ours u (λ j. j ≡ i)
-  pub tail : AtTail ours (p .place) i u
-  pub sameId : id (slot u i) ≡ idIn p
-  pub sameAddresses : addresses (slot u i) ≡ addressesIn p
+  pub tail : AtTail ours p i u
+  pub sameId : id (slot u i) ≡ own
+  pub sameAddresses : addresses (slot u i) ≡ new
   pub wasFree : used (slot t i) ≡ false
   pub lowest : (j : ℕ) → j < i → used (slot t j) ≡ true
 
@@ -94,9 +102,9 @@ pub record HeadKept (t ours head u : List ℕ) : Type 0 where
   pub sameHead : SameContact (slot u (heldAt t head)) (slot t (heldAt t head))
 
 -- the head was silent: it is gone, and the newcomer is at the tail in the lowest slot that is then free; nobody else is touched
-pub record HeadGone (t ours head : List ℕ) (p : Peer) (u : List ℕ) : Type 0 where
+pub record HeadGone (t ours head p own : List ℕ) (new : List (List ℕ)) (u : List ℕ) : Type 0 where
   pub others : Others t ours u (λ j. (j ≡ heldAt t head) ⊎ (j ≡ freeAt (dropped t ours (heldAt t head))))
-  pub newcomer : NewSeen (dropped t ours (heldAt t head)) ours p (freeAt (dropped t ours (heldAt t head))) u
+  pub newcomer : NewSeen (dropped t ours (heldAt t head)) ours p own new (freeAt (dropped t ours (heldAt t head))) u
   pub gone : held u head ≡ false
 
 -- ---- the promises, of a table in form
@@ -113,21 +121,21 @@ pub record Promised (t ours : List ℕ) : Type 0 where
   pub counted : (b : ℕ) → tailOf t ours b ≡ holds t ours b
   -- seen of a contact that is held
   pub moved : (p : Peer) → Fair ours p → held t (p .place) ≡ true
-      → (sightingOf t ours (p .place) ≡ Moved (heldAt t (p .place))) × HeldSeen t ours p (heldAt t (p .place)) (seenTable t ours p)
+      → (sightingOf t ours (p .place) ≡ Moved (heldAt t (p .place))) × HeldSeen t ours (p .place) (addressesIn p) (heldAt t (p .place)) (seenTable t ours p)
   -- seen of one that isn't. Its bucket holds 20: nothing changes, and the head is named
   pub full : (p : Peer) → held t (p .place) ≡ false → 20 ≤ holds t ours (bucketOf (p .place) ours)
       → (h : ℕ) × (sightingOf t ours (p .place) ≡ Full h) × (h < slotsOf t) × (isHead ours (bucketOf (p .place) ours) (slot t h) ≡ true) × (seenTable t ours p ≡ t)
   -- the bucket has room: it joins where some slot is free, and else nothing changes
   pub joined : (p : Peer) → Fair ours p → held t (p .place) ≡ false → holds t ours (bucketOf (p .place) ours) < 20
-      → (j : ℕ) → j < slotsOf t → used (slot t j) ≡ false → (sightingOf t ours (p .place) ≡ Joined (freeAt t)) × NewSeen t ours p (freeAt t) (seenTable t ours p)
+      → (j : ℕ) → j < slotsOf t → used (slot t j) ≡ false → (sightingOf t ours (p .place) ≡ Joined (freeAt t)) × NewSeen t ours (p .place) (idIn p) (addressesIn p) (freeAt t) (seenTable t ours p)
   pub noSlot : (p : Peer) → held t (p .place) ≡ false → holds t ours (bucketOf (p .place) ours) < 20
       → ((j : ℕ) → j < slotsOf t → used (slot t j) ≡ true) → (sightingOf t ours (p .place) ≡ NoSlot) × (seenTable t ours p ≡ t)
   -- settle, where it fits: the head answered, the head was silent; and where it doesn't
-  pub kept : (head : List ℕ) (p : Peer) → fits t ours head (p .place) ≡ true
+  pub kept : (head : List ℕ) (p : Peer) → StillFits t ours head (p .place)
       → (settlementOf t ours head (p .place) true ≡ Kept) × HeadKept t ours head (settledTable t ours head p true)
-  pub swapped : (head : List ℕ) (p : Peer) → Fair ours p → fits t ours head (p .place) ≡ true
-      → (settlementOf t ours head (p .place) false ≡ Swapped) × HeadGone t ours head p (settledTable t ours head p false)
-  pub stale : (head : List ℕ) (p : Peer) (answered : Bool) → fits t ours head (p .place) ≡ false
+  pub swapped : (head : List ℕ) (p : Peer) → Fair ours p → StillFits t ours head (p .place)
+      → (settlementOf t ours head (p .place) false ≡ Swapped) × HeadGone t ours head (p .place) (idIn p) (addressesIn p) (settledTable t ours head p false)
+  pub stale : (head : List ℕ) (p : Peer) (answered : Bool) → (StillFits t ours head (p .place) → ⊥)
       → (settlementOf t ours head (p .place) answered ≡ Stale) × (settledTable t ours head p answered ≡ t)
   -- "Evicting a head that answered" can't be: where it answered, every contact is still there
   pub unevicted : (head : List ℕ) (p : Peer) (j : ℕ) → j < slotsOf t → SameContact (slot (settledTable t ours head p true) j) (slot t j)
