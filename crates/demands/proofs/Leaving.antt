@@ -24,6 +24,7 @@ use Rattle.host_calls.specs.Hosts.{ownId, lookupStart}
 use Rattle.node_promises.proofs.Refusals.{receive-refused, calls-refused, values-refused}
 use Rattle.lookup_runs.proofs.Refusals.{refusals}
 use Rattle.demands.specs.Demands.{RefusedLeaves}
+use Rattle.demands.proofs.Late.{late}
 
 -- ---- records and writing
 put-leaves : (k key value : List ℕ) (r : Refusal) → putAnswer k key value ≡ putTold.Refused r → putAfter k key value ≡ k
@@ -45,6 +46,7 @@ unfolding lookupStart
 refused-leaves me =
     record {
       receive = receive-refused me;
+      late = λ c m bs t k y g. late me c m bs t k y g;
       calls = calls-refused;
       values = values-refused;
       put = put-leaves;

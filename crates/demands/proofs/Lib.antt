@@ -6,10 +6,12 @@ pub mod Sound
 pub mod Ready
 pub mod Blunt
 pub mod Refusals
+pub mod Late
 pub mod Leaving
 pub mod Never
 pub mod Hashing
 pub mod Beginning
+pub mod Starting
 pub mod Queries
 pub mod Hearing
 pub mod Accepting

@@ -9,8 +9,9 @@ use Rattle.peer.specs.declared.Peer.{Peer}
 use Rattle.contacts.specs.Form.{inForm}
 use Rattle.contacts.specs.Near.{nearestOf}
 use Rattle.contacts.proofs.Claims.{claims}
+use Rattle.records_history.proofs.Holding.{not-found}
 use Rattle.message.specs.Message.{Message}
-use Rattle.replies.specs.Replies.{getValue, findNode, closerPeers, findNodeReply, getValueReply}
+use Rattle.replies.specs.Replies.{getValue, findNode, closerPeers, findNodeReply, recordAt, getValueReply}
 use Rattle.replies.specs.Verdicts.{replies, keyFits, keyed}
 use Rattle.answer.specs.Answers.{verdictOf}
 use Rattle.connections.specs.declared.Told.the-variants.{Fine}
@@ -38,6 +39,6 @@ module _ (me : Peer) (own : ownFits me ≡ true) where
       record {
         host = λ t key f k.
             let e = host-is t key f k in (ap (λ (n : Nearby). n .told) e, ap (λ (n : Nearby). take (n .closest .n) (n .closest .at)) e ∙ claims .told t (placeOf key));
-        get = λ who m t k e f. (getValueReply t k (m .key), get-is who m t k e f, refl);
+        get = λ who m t k e f. (getValueReply t k (m .key), get-is who m t k e f, refl, λ g. ap (recordAt k (m .key)) (not-found k (m .key) g));
         find = λ who m t k e f. (findNodeReply me who t (m .key), find-is who m t k e f, refl);
       }

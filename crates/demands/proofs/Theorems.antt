@@ -5,6 +5,7 @@ use Rattle.peer.specs.declared.Peer.{Peer}
 use Rattle.contacts.proofs.TwentyNearest.{nearest-are}
 use Rattle.records_history.proofs.Holding.{held-is-found, judged-first, put-told}
 use Rattle.records_history.proofs.Blind.{form-is-blind}
+use Rattle.records_history.proofs.Claims.{highest-is-found}
 use Rattle.message.proofs.Occurrences.{split-is-merged}
 use Rattle.message.proofs.Claims.{reads-well}
 use Rattle.round_trip.proofs.RoundTrip.{round-trip}
@@ -15,6 +16,7 @@ use Rattle.host_calls.specs.Hosts.{ownId, lookupStart}
 use Rattle.answer_promises.proofs.Promised.{replies-read-back, answered-by-verdict, answered-by-fields, sent-as-typed, held-is-served}
 use Rattle.cutting.proofs.Claims.{several, several-plainly, split, one-receive}
 use Rattle.node_promises.proofs.Doing.{message-done}
+use Rattle.node_promises.proofs.Giving.{box-calls}
 use Rattle.framing_back.proofs.Varints.{prefix-is-varint}
 use Rattle.framing_back.proofs.Back.{frames-read-back, frames-arrive}
 use Rattle.demands.specs.Box.{Box, Who, Turn, Ask, Fits, box, Own, Allowed, Good}
@@ -25,6 +27,7 @@ use Rattle.demands.proofs.Leaving.{refused-leaves}
 use Rattle.demands.proofs.Hashing.{placed}
 use Rattle.demands.proofs.Beginning.{begun-known}
 use Rattle.demands.proofs.Never.{never-out-of-form}
+use Rattle.demands.proofs.Starting.{begins}
 use Rattle.demands.proofs.Queries.{queries}
 use Rattle.demands.proofs.Hearing.{written, box-to-box}
 use Rattle.demands.proofs.Accepting.{made, stays, lasts, outranked-by-none}
@@ -34,8 +37,10 @@ pub first : (me : Peer) → Own me → First me
 first me w =
     record {
       refused = refused-leaves me;
+      calls = box-calls;
       contacts = contacts.claims me (w .fits) (w .long) (w .bytes);
       puts = put-told;
+      lookups = begins me w;
       formed = never-out-of-form me w;
     }
 
@@ -75,6 +80,7 @@ third me w =
       offers = made me w;
       highest = outranked-by-none me w;
       found = held-is-found;
+      history = highest-is-found;
       served = held-is-served me;
       judged = judged-first;
       sent = sent-as-typed me;

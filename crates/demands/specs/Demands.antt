@@ -4,11 +4,12 @@ use Prim.Native.Nat.{ℕ, _+_, _≤_}
 use mathlib.Core.Path.{_≡_}
 use mathlib.Core.Bool.{Bool, true, false}
 use mathlib.Core.List.{List, [], _∷_, _++_, map}
-use mathlib.Core.Option.{some}
+use mathlib.Core.Option.{none, some}
 use lib.ListN.{length, take, drop}
 use Rattle.octets.specs.Octets.{part}
 use Rattle.refusal.specs.declared.Refusal.{Refusal}
 use Rattle.refusal.specs.declared.Refusal.the-variants.{OutOfForm}
+use Rattle.refusal.specs.Refusal.{numberOf}
 use Rattle.place.specs.Place.{placeOf}
 use Rattle.peer.specs.declared.Peer.{Peer}
 use Rattle.contacts.specs.Table.{slot}
@@ -24,8 +25,8 @@ use Rattle.recipe.specs.Recipe.{outranks}
 use Rattle.records.specs.declared.Answer.the-variants as putTold
 use Rattle.records.specs.declared.Found.the-variants as findTold
 use Rattle.records.specs.Store.{putAnswer, putAfter, findOf}
-use Rattle.records_history.specs.History.{Offer, after, cleared, Accepted, Unbeaten}
-use Rattle.records_history.specs.Claims.{FormIsBlind, HeldIsFound, JudgedFirst, PutTold}
+use Rattle.records_history.specs.History.{None, got, Offer, after, cleared, Accepted, Unbeaten}
+use Rattle.records_history.specs.Claims.{FormIsBlind, HighestIsFound, HeldIsFound, JudgedFirst, PutTold}
 use Rattle.message.specs.Limits.{mostBody, leastReply}
 use Rattle.message.specs.Message.{Record, Message, messageOf, decode, encode, frame}
 use Rattle.message.specs.Claims.{ReadsWell, SplitIsMerged}
@@ -35,8 +36,8 @@ use Rattle.writer.specs.declared.Written.the-variants as writer
 use Rattle.writer.specs.Writer.{answerOf, outAfter}
 use Rattle.lookup.specs.declared.Lookup.{Lookup}
 use Rattle.lookup.specs.declared.Answer.the-variants as lookupAnswer
-use Rattle.lookup.specs.Lookup.{noLookup}
-use Rattle.lookup_runs.specs.Runs.{Started, Call as Step, step, outcome}
+use Rattle.lookup.specs.Lookup.{keyFits as lookupKeyFits, limitFits, noLookup}
+use Rattle.lookup_runs.specs.Runs.{accepted, Started, Call as Step, step, outcome}
 use Rattle.lookup_runs.specs.Claims.{Viewed, Claims}
 use Rattle.stream.specs.declared.Framing.the-variants.{Shut}
 use Rattle.stream.specs.declared.Ending.the-variants as ends
@@ -53,10 +54,11 @@ use Rattle.connections.specs.declared.Conn.{Conn}
 use Rattle.node.specs.declared.Answer.the-variants.{Reply, Refused}
 use Rattle.connections.specs.declared.Told.the-variants as nodeTold
 use Rattle.connections.specs.Box.{startOf, openOf, endConn}
-use Rattle.node.specs.Node.{Out, receiveOf}
+use Rattle.node.specs.declared.Gate.the-variants.{Open}
+use Rattle.node.specs.Node.{Out, gateOf, receiveOf}
 use Rattle.host_contacts.specs.Claims.{ContactsTold}
 use Rattle.host_calls.specs.Hosts.{seenOf, settleOf, removeOf, nearestTo, ownId, lookupStart}
-use Rattle.node_promises.specs.Promises.{Refuses, CallsRefused, ValuesRefused, MessageDone}
+use Rattle.node_promises.specs.Promises.{Refuses, CallsRefused, ValuesRefused, MessageDone, BoxCalls}
 use Rattle.demands.specs.Lookups.{LookupsAreRuns}
 use Rattle.demands.specs.Box.{event, heard, Box, Who, connOf, bodyIn, Turn, Fits, Ask, put, box, Own, Allowed, Good}
 
@@ -64,10 +66,12 @@ use Rattle.demands.specs.Box.{event, heard, Box, Who, connOf, bodyIn, Tu
 -- any buffers": that every function has a contract with no precondition, and meets it, is what the checker shows. Here is the rest.
 
 -- "A refused call changes no contact, record, lookup or reply byte; at most it takes bytes and shuts its connection": a receive leaves contacts, records and
--- reply, and 0, 1, 2 and 12 take nothing, the others shut; seen, settle and remove leave the table; start, open, end and nearest hand back nobody, a shut
--- connection, the connection as it was, no contacts
+-- reply, and 0, 1, 2 and 12, which its gate gives, take nothing, the others, 3 to 11, shut; seen, settle and remove leave the table; start, open, an end with 0
+-- and nearest hand back nobody, a shut connection, the connection as it was, no contacts
 pub record RefusedLeaves (me : Peer) : Type 0 where
   pub receive : (c : Conn) (m bs t k y : List ℕ) (r : Refusal) → receiveOf me c m bs t k y .got .answer ≡ Refused r → Refuses me c m bs t k y r
+  pub late : (c : Conn) (m bs t k y : List ℕ) → gateOf me c m t k y ≡ Open → (r : Refusal) → receiveOf me c m bs t k y .got .answer ≡ Refused r
+      → (3 ≤ numberOf r) × (numberOf r ≤ 11)
   pub calls : CallsRefused
   pub values : ValuesRefused
   pub put : (k key value : List ℕ) (r : Refusal) → putAnswer k key value ≡ putTold.Refused r → putAfter k key value ≡ k
@@ -99,9 +103,13 @@ pub record NeverOutOfForm (me : Peer) : Type 0 where
 
 pub record First (me : Peer) : Type 0 where
   pub refused : RefusedLeaves me
-  -- "the numbers in document 01", each given exactly when it says so, and what each answer does: of seen, settle and remove, and of put
+  -- "the numbers in document 01", each given exactly when it says so, and what each answer does: of start, open and end, of seen, settle and remove, and of put;
+  -- and a lookup starts where its key and its limit allow it
+  pub calls : BoxCalls
   pub contacts : ContactsTold me
   pub puts : PutTold
+  pub lookups : (t key : List ℕ) (limit : ℕ) → contactsForm t (me .place) ≡ true → lookupKeyFits key ≡ true → limitFits limit ≡ true
+      → accepted (lookupStart me t key limit .answer) ≡ true
   pub formed : NeverOutOfForm me
 
 -- ==== 2. The words of what is read and written
@@ -128,12 +136,13 @@ BoxToBox me you =
     → (ps : List (List ℕ)) → joined ps ≡ take n (dealOf me who body t k y .reply)
     → (says : Message) × (verdictOf me who (messageOf body) t k ≡ replies says) × Hears says i n s (calls (box you) s (hands i ps))
 
--- what a query for a key of 1 to 64 bytes answers: the host's own gives the slots of the nearest contacts, and a peer's their entries, to which FIND_NODE may add one
+-- what a query for a key of 1 to 128 bytes answers: the host's own gives the slots of the nearest contacts, and a peer's their entries, to which FIND_NODE may add one
 pub record Queries (me : Peer) : Type 0 where
   pub host : (t key : List ℕ) → contactsForm t (me .place) ≡ true → keyFits key ≡ true
       → (nearestTo me t key .told ≡ nodeTold.Fine) × (take (nearestTo me t key .closest .n) (nearestTo me t key .closest .at) ≡ nearestSlots t (placeOf key))
   pub get : (who : Peer) (m : Message) (t k : List ℕ) → m .kind ≡ getValue → keyFits (m .key) ≡ true
       → (r : Message) × (verdictOf me who m t k ≡ replies r) × (r .closer ≡ map (λ i. contactEntry (slot t i)) (nearestSlots t (placeOf (m .key))))
+      × (got k (m .key) ≡ None → r .held ≡ none)
   pub find : (who : Peer) (m : Message) (t k : List ℕ) → m .kind ≡ findNode → keyFits (m .key) ≡ true
       → (r : Message) × (verdictOf me who m t k ≡ replies r)
       × (r .closer ≡ map (λ i. contactEntry (slot t i)) (nearestSlots t (placeOf (m .key))) ++ lastEntry me who t (placeOf (m .key)))
@@ -261,6 +270,7 @@ pub record Third (me : Peer) : Type 0 where
   -- and that is what is found, sent to who asks for it and compared with what comes, whatever the recipe rules say of it (document 02, ix: "Records already held
   -- stay held and are still served and ranked"); what comes, typed or sent, is judged before it is compared
   pub found : HeldIsFound
+  pub history : HighestIsFound
   pub served : HeldIsServed me
   pub judged : JudgedFirst
   pub sent : SentAsTyped me

@@ -1,4 +1,4 @@
--- What the box's calls promise, as statements; proofs/Refusals.antt, proofs/Doing.antt and proofs/Keeping.antt prove each.
+-- What the box's calls promise, as statements; proofs/Refusals.antt, Doing.antt, Giving.antt and Keeping.antt prove each.
 use Prim.Native.Nat.{ℕ, _<_}
 use mathlib.Core.Path.{_≡_}
 use mathlib.Core.Logic.{_⊎_}
@@ -8,7 +8,9 @@ use lib.ListN.{length}
 use Rattle.octets.specs.Octets.{Bytes}
 use Rattle.refusal.specs.declared.Refusal.{Refusal}
 use Rattle.refusal.specs.declared.Refusal.the-variants as no
+use Rattle.place.specs.Place.{placeOf}
 use Rattle.peer.specs.declared.Peer.{Peer}
+use Rattle.peer.specs.Peers.{idFits, badPeer, peerOf}
 use Rattle.contacts.specs.Form.{inForm as contactsForm}
 use Rattle.records.specs.Store.{inForm as recordsForm}
 use Rattle.sightings.specs.Sightings.{sightingOf, seenTable}
@@ -20,13 +22,13 @@ use Rattle.replies.specs.declared.Answered.the-variants as told
 use Rattle.answer.specs.Answers.{dealOf}
 use Rattle.stream.specs.declared.Framing.the-variants as framing
 use Rattle.stream.specs.declared.Ending.the-variants as ends
-use Rattle.stream.specs.Stream.{isShut}
+use Rattle.stream.specs.Stream.{fresh, isShut}
 use Rattle.connections.specs.declared.Conn.{Conn}
 use Rattle.connections.specs.declared.Told.the-variants as tells
 use Rattle.node.specs.declared.Answer.the-variants.{Reply, Heard, Refused}
 use Rattle.node.specs.declared.Sight.the-variants.{NotSeen, Seen}
 use Rattle.node.specs.declared.Gate.the-variants.{Open, Closed}
-use Rattle.connections.specs.Box.{nobody, startOf, withFraming, openOf, connForm, endConn}
+use Rattle.connections.specs.Box.{ownFits, nobody, startOf, withFraming, openOf, connForm, endConn}
 use Rattle.node.specs.Node.{untouched, dealingOf, Out, gateOf, receiveOf}
 use Rattle.host_calls.specs.Hosts.{seenOf, seenAfter, settleOf, settleAfter, removeOf, removeAfter, nearestTo}
 
@@ -94,7 +96,25 @@ pub record MessageDone : Type 0 where
   pub hears : (me : Peer) (c : Conn) (body t k y : List ℕ) (f : Fields) → c .asking ≡ true → readingOf body ≡ reading.Whole f
       → dealingOf me c body t k y ≡ untouched (Heard (length body) f) t k y
 
--- ---- 3. Form is kept
+-- ---- 3. What a start, an open and an end give, in cases that leave none out
+pub record BoxCalls : Type 0 where
+  -- "12 if our id isn't 1 to 64 bytes"; else the box has that id, its hash as its place, and the usable addresses
+  pub starts : (id addresses : List ℕ) → idFits id ≡ true → startOf id addresses ≡ record { me = peerOf id (placeOf id) addresses; told = tells.Fine }
+  pub unstarted : (id addresses : List ℕ) → idFits id ≡ false → startOf id addresses ≡ record { me = nobody; told = tells.Refused no.BadPeer }
+  -- "A connection opens with the peer's id, mode and addresses (12 may apply; if so it starts shut), a side"
+  pub opens : (me : Peer) (id : List ℕ) (server asking : Bool) (addresses : List ℕ) → ownFits me ≡ true → badPeer (me .place) id ≡ false
+      → openOf me id server asking addresses
+      ≡ record { conn = record { peer = peerOf id (placeOf id) addresses; framing = fresh; server = server; asking = asking }; told = tells.Fine }
+  pub unopened : (me : Peer) (id : List ℕ) (server asking : Bool) (addresses : List ℕ) → badPeer (me .place) id ≡ true
+      → openOf me id server asking addresses
+      ≡ record { conn = record { peer = nobody; framing = framing.Shut; server = server; asking = asking }; told = tells.Refused no.BadPeer }
+  -- "An end shuts the connection": clean between messages, else 19; 2 where it was shut
+  pub shuts : (me : Peer) (c : Conn) → connForm me c ≡ true → endConn me c .conn ≡ withFraming c framing.Shut
+  pub clean : (me : Peer) (c : Conn) → connForm me c ≡ true → c .framing ≡ fresh → endConn me c .answer ≡ ends.Clean
+  pub inside : (me : Peer) (c : Conn) → connForm me c ≡ true → isShut (c .framing) ≡ false → (c .framing ≡ fresh → ⊥) → endConn me c .answer ≡ ends.Refused no.EndedInside
+  pub again : (me : Peer) (c : Conn) → isShut (c .framing) ≡ true → endConn me c .answer ≡ ends.Refused no.Shut
+
+-- ---- 4. Form is kept
 -- a peer whose arrays have the lengths that they are declared with, and whose place is bytes
 pub record Made (p : Peer) : Type 0 where
   pub lensLong : length (p .lens) ≡ 4

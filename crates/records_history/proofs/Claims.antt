@@ -8,7 +8,7 @@ use Rattle.records_history.proofs.Blind.{form-is-blind}
 form-is-kept : FormIsKept
 form-is-kept = record { start = cleared-form; kept = form-kept }
 
-highest-is-found : HighestIsFound
+pub highest-is-found : HighestIsFound
 highest-is-found =
     record {
       accepted = λ t o h. step-taken (o .key) t o refl h;
