@@ -6,6 +6,7 @@ pub mod Moves
 pub mod Sound
 pub mod Asking
 pub mod Tracking
+pub mod Ids
 pub mod Hearing
 pub mod Nearest
 pub mod Ending

@@ -5,7 +5,7 @@ use mathlib.Core.Bool.{Bool, true, false, not, _||_}
 use mathlib.Core.List.{List, [], _∷_, _++_, map, append-nil}
 use native.Mathlib.Omega.{arith}
 use lib.Dec.{leb, ltb}
-use lib.ListN.{length, getD, drop, replicate, length-append, length-take, length-drop, length-map, length-replicate, drop-of-length-le}
+use lib.ListN.{length, getD, take, drop, replicate, length-append, length-take, length-drop, length-map, length-replicate, drop-of-length-le}
 use lib.Seq.{sets-eq, take-append-seam}
 use borrow.Author.Tests.{le-leb, leb-true, ltb-true, not-false}
 use Rattle.octets.specs.Octets.{Bytes, same}
@@ -176,11 +176,15 @@ padded-whole n p e =
     let k : length (replicate {A = ℕ} n 0) ≤ 0 + length p = omega (arith, length-replicate {A = ℕ} n 0) in
     sets-eq p (replicate n 0) 0 (omega (arith, length-replicate {A = ℕ} n 0)) ∙ ap (λ (r : List ℕ). p ++ r) (drop-of-length-le (replicate {A = ℕ} n 0) k) ∙ append-nil p
 
+pub padded-part : (n : ℕ) (p : List ℕ) → length p ≤ n → take (length p) (padded n p) ≡ p
+padded-part n p h =
+    ap (take (length p)) (sets-eq p (replicate n 0) 0 (omega (arith, length-replicate {A = ℕ} n 0))) ∙ take-append-seam p (drop (0 + length p) (replicate n 0))
+
 module _ (t ours x : List ℕ) (ht : Bytes t) (table : inFormTable t ours ≡ true) (hx : length x ≡ 32) where
   abbrev Good : ℕ → Type 0
   Good i = (i < slotsOf t) × (used (slot t i) ≡ true)
 
-  place-is : (i : ℕ) → Good i → contactAt t i .place ≡ place (slot t i)
+  pub place-is : (i : ℕ) → Good i → contactAt t i .place ≡ place (slot t i)
   place-is i g = padded-whole 32 (place (slot t i)) (place-size t i (slot-whole t i (g .0)))
 
   contact-placed : (i : ℕ) → Good i → Placed (contactAt t i .place)

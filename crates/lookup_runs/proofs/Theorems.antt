@@ -7,9 +7,10 @@ use mathlib.Core.List.{List, [], _∷_, map}
 use native.Mathlib.Omega.{arith}
 use lib.Dec.{eqb, leb}
 use lib.ListN.{length, getD, take, length-map}
-use borrow.Author.Tests.{leb-true, not-true}
+use lib.Seq.{length-take-le}
+use borrow.Author.Tests.{leb-true, ltb-false, not-true}
 use Rattle.octets.specs.Octets.{same}
-use Rattle.octets.proofs.Bools.{and-l, and-r, and-i, or-e, or-l, or-r, not-both, not-no, same-way, all-head}
+use Rattle.octets.proofs.Bools.{and-l, and-r, and-i, either, or-e, or-l, or-r, not-both, not-no, same-way, all-head}
 use Rattle.octets.proofs.Strings.{same-eq, same-refl}
 use Rattle.sha256.specs.Sha256.{sha256}
 use Rattle.sha256.proofs.Laws.{length-sha256}
@@ -32,7 +33,8 @@ use Rattle.lookup_runs.proofs.Moves.{settled-lookup}
 use Rattle.lookup_runs.proofs.Sound.{Sound, sound-outcome, outcome-target, sound-start, Taken, taken, first-lie, begun-candidates}
 use Rattle.lookup_runs.proofs.Asking.{asked-once, sent-requests, Limited, all-limited, start-limited, start-unasked}
 use Rattle.lookup_runs.proofs.Tracking.{spentAt, Untouched, answered-marked, failed-marked, asked-marked, start-untouched}
-use Rattle.lookup_runs.proofs.Hearing.{calls-stay, named-kept, known-named, turned-lost}
+use Rattle.lookup_runs.proofs.Ids.{Stranger, own-id, start-own}
+use Rattle.lookup_runs.proofs.Hearing.{Lost, calls-stay, named-kept, known-named, turned-lost}
 use Rattle.lookup_runs.proofs.Nearest.{placeOf, place-at, twenty, found-places, over-answered, left-in, alone, twenty-nearest}
 use Rattle.lookup_runs.proofs.Ending.{Ended, EndsWell, Well, settled-well, outcome-well, sent-few, stays-over, repeats, never-0}
 
@@ -57,6 +59,7 @@ pub record Begins (t key : List ℕ) (limit : ℕ) (s : Step) : Type 0 where
   pub room : s .lookup .turned ≡ false
   pub unasked : sumOf askedOne (candidatesOf (s .lookup)) ≡ 0
   pub limited : Limited limit (s .lookup)
+  pub own : Stranger t key (s .lookup) ≡ false
   pub well : Well s
 
 pub begins : (t own ours key : List ℕ) (limit : ℕ) → Started t own ours key limit → Begins t key limit (startOf t own ours key limit)
@@ -72,6 +75,7 @@ begins t own ours key limit st =
       room = sym (ap (λ (l : Lookup). l .turned) e);
       unasked = sym (ap (λ (l : Lookup). sumOf askedOne (candidatesOf l)) e) ∙ start-unasked t key limit;
       limited = subst (Limited limit) e (start-limited t key limit);
+      own = sym (ap (Stranger t key) e) ∙ start-own t key ours (st .bytes) (k .table) limit;
       well = subst Well (sym (k .gave)) (settled-well (begun t key limit));
     }
 
@@ -100,6 +104,25 @@ module _ (t key : List ℕ) (limit : ℕ) (s : Step) (b : Begins t key limit s) 
       ⊎-elim (λ c. calls-stay p cs s (b .sound) (b .contacts p ∙ c))
       (λ c. ⊎-elim (λ k. k) (λ k. absurd (not-both (l .turned) k u)) (named-kept p cs s (b .sound) c))
       (or-e (isContact t key p) (anyIn (tells (namedIn p)) h) a)
+
+  -- where the lookup is marked, someone heard of is no candidate, and there is no room
+  turned-away : l .turned ≡ true → (p : List ℕ) × (heardOf t key p h ≡ true) × Lost p l
+  turned-away u =
+      ⊎-elim (λ a. absurd (not-both (s .lookup .turned) a (b .room)))
+      (λ a. (a .0, or-r (isContact t key (a .0)) (anyIn (tells (namedIn (a .0))) h) (a .1), a .2)) (turned-lost cs s (b .sound) u)
+
+  turned-full : l .turned ≡ true → length (candidatesOf l) ≡ room
+  turned-full u =
+      omega (
+        arith,
+        ltb-false (l .count) room (turned-away u .2 .1),
+        length-take-le (l .count) (l .candidates) (omega (arith, formed l (sound .form) .fits, sound .long)),
+        formed l (sound .form) .fits,
+      )
+
+  unknown-full : (p : List ℕ) → heardOf t key p h ≡ true → known p (candidatesOf l) ≡ false → length (candidatesOf l) ≡ room
+  unknown-full p a k =
+      ⊎-elim turned-full (λ u. absurd (not-both (known p (candidatesOf l)) (heard-known p u a) k)) (either (l .turned))
 
   -- a test of the mark, asked of the place of a candidate
   lone : (q : ℕ → Bool) (c : Candidate) → In c (candidatesOf l) → anyIn (λ (d : Candidate). q (d .mark) && same (d .place) (c .place)) (candidatesOf l) ≡ q (c .mark)
@@ -189,8 +212,8 @@ module _ (t key : List ℕ) (limit : ℕ) (s : Step) (b : Begins t key limit s) 
       let w : Ended l (outcome step s cs .found) n × (l .turned ≡ true) = subst (EndsWell l (outcome step s cs .found)) e (outcome-well cs s (b .well)) in
       record {
         over = means-over n (w .0) (λ p. known p (candidatesOf l)) (λ p. refl);
-        turned = ⊎-elim (λ a. absurd (not-both (s .lookup .turned) a (b .room)))
-            (λ a. (a .0, or-r (isContact t key (a .0)) (anyIn (tells (namedIn (a .0))) h) (a .1), a .2 .0)) (turned-lost cs s (b .sound) (w .1));
+        turned = (turned-away (w .1) .0, turned-away (w .1) .1, turned-away (w .1) .2 .0);
+        full = turned-full (w .1);
       }
 
 pub claims : (t own ours key : List ℕ) (limit : ℕ) → Started t own ours key limit → Claims step t key limit (startOf t own ours key limit)
@@ -204,6 +227,8 @@ claims t own ours key limit st =
       heard = λ cs p k. known-heard t key limit s b cs p k;
       stays = λ cs more p k. calls-stay p more (outcome step s cs) (at cs) k;
       marks = λ cs i k. mark-by t key limit s b cs (getD (candidatesOf (outcome step s cs .lookup)) i nobody) (at-in (candidatesOf (outcome step s cs .lookup)) i k);
+      ids = λ cs i k. own-id t key cs s (b .sound) (b .own) (at-in (candidatesOf (outcome step s cs .lookup)) i k);
+      full = λ cs p a k. unknown-full t key limit s b cs p a k;
       limited = λ cs. omega (arith, flights-sum (candidatesOf (outcome step s cs .lookup)), all-limited limit cs s (b .sound) (b .limited) .few);
       always = λ cs o. (λ more. stays-over more (outcome step s cs) (at cs) o, repeats (outcome step s cs .lookup) (at cs .form) o);
       form = λ cs. at cs .form;

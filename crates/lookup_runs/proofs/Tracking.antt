@@ -5,7 +5,7 @@ use mathlib.Core.Bool.{Bool, true, false, not, _&&_, _||_}
 use mathlib.Core.List.{List, [], _∷_, map}
 use lib.Dec.{eqb, ltb}
 use lib.ListN.{length, getD}
-use borrow.Author.Tests.{eq-eqb}
+use borrow.Author.Tests.{eq-eqb, not-false}
 use Rattle.octets.specs.Octets.{same}
 use Rattle.octets.proofs.Bools.{cond-ind, and-on, and-off, and-fails, or-off, not-yes, not-no}
 use Rattle.sha256.specs.Sha256.{sha256}
@@ -66,7 +66,7 @@ quiet-asks p cs Wait q = refl
 quiet-asks p cs Going q = refl
 
 -- ---- a test of candidates that no newcomer passes
-module _ (q : Candidate → Bool) (no : (id : List ℕ) → q (fresh id) ≡ false) where
+module _ (q : Candidate → Bool) (no : (id : List ℕ) → idFits id ≡ true → q (fresh id) ≡ false) where
   hear-any : (ours id : List ℕ) (l : Lookup) → anyIn q (candidatesOf (hear ours id l)) ≡ anyIn q (candidatesOf l)
   unfolding hear meet
   hear-any ours id l =
@@ -75,13 +75,13 @@ module _ (q : Candidate → Bool) (no : (id : List ℕ) → q (fresh id) ≡ fal
       (λ o. cond-ind P (known (sha256 id) (candidatesOf l)) l _ (λ e. refl)
       (λ k. cond-ind P (ltb (l .count) room) (put l (enter (l .target) (fresh id) (candidatesOf l))) (turnAway l)
       (λ e. ap (anyIn q) (put-candidates l (enter (l .target) (fresh id) (candidatesOf l))) ∙ any-entered q (l .target) (fresh id) (candidatesOf l)
-      ∙ or-off (q (fresh id)) (anyIn q (candidatesOf l)) (no id))
+      ∙ or-off (q (fresh id)) (anyIn q (candidatesOf l)) (no id (not-false (idFits id) f)))
       (λ e. refl))))
     where
       P : Lookup → Type 0
       P k = anyIn q (candidatesOf k) ≡ anyIn q (candidatesOf l)
 
-  all-any : (ours : List ℕ) (ids : List (List ℕ)) (l : Lookup) → anyIn q (candidatesOf (hearAll ours ids l)) ≡ anyIn q (candidatesOf l)
+  pub all-any : (ours : List ℕ) (ids : List (List ℕ)) (l : Lookup) → anyIn q (candidatesOf (hearAll ours ids l)) ≡ anyIn q (candidatesOf l)
   unfolding hearAll
   all-any ours [] l = refl
   all-any ours (id ∷ ids) l = all-any ours ids (hear ours id l) ∙ hear-any ours id l
@@ -92,7 +92,7 @@ module _ (q : Candidate → Bool) (i m : ℕ) (l : Lookup) where
       → anyIn q (candidatesOf (mark i m l)) ≡ (q (withMark m (getD (candidatesOf l) i nobody)) || anyIn q (candidatesOf l))
   set-any h e = ap (anyIn q) (marked-candidates i m l) ∙ any-set q i m (candidatesOf l) h e
 
-  unset-any : q (withMark m (getD (candidatesOf l) i nobody)) ≡ q (getD (candidatesOf l) i nobody) → anyIn q (candidatesOf (mark i m l)) ≡ anyIn q (candidatesOf l)
+  pub unset-any : q (withMark m (getD (candidatesOf l) i nobody)) ≡ q (getD (candidatesOf l) i nobody) → anyIn q (candidatesOf (mark i m l)) ≡ anyIn q (candidatesOf l)
   unset-any e = ap (anyIn q) (marked-candidates i m l) ∙ any-unset q i m (candidatesOf l) e
 
 -- ---- the candidate at p has the mark m; and is no longer idle
@@ -132,7 +132,7 @@ module _ (p : List ℕ) (c : Call) (l : Lookup) (s : Sound l) where
           still-A (and-fails (accepted (step c l .answer)) (answersIn p c) (fails-unanswered p id c f))
           (ap A e ∙ set-any (markedAt answered p) i failed l (h .within) (not-marked answered flying p (at i) (h .is) refl))
       go (answers own ours id body v i ec k h pl e q a) =
-          ap A e ∙ all-any (markedAt answered p) (λ x. refl) ours (heardIds body) (mark i answered l)
+          ap A e ∙ all-any (markedAt answered p) (λ x f. refl) ours (heardIds body) (mark i answered l)
           ∙ set-any (markedAt answered p) i answered l (h .within) (not-marked answered flying p (at i) (h .is) refl)
           ∙ ap (λ (b : Bool). b || A l) (ap (λ (x : List ℕ). same x p) pl ∙ sym (and-on (accepted (step c l .answer)) (answersIn p c) a ∙ ap (answersIn p) ec ∙ answers-answered p own ours id body v k))
 
@@ -157,7 +157,7 @@ module _ (p : List ℕ) (c : Call) (l : Lookup) (s : Sound l) where
           ∙ ap (λ (b : Bool). b || F l) (ap (λ (x : List ℕ). same x p) pl ∙ sym (and-on (accepted (step c l .answer)) (failsIn p c) a ∙ fails-failed p id c f))
       go (answers own ours id body v i ec k h pl e q a) =
           still-F (and-fails (accepted (step c l .answer)) (failsIn p c) (ap (failsIn p) ec ∙ answers-unfailed p own ours id body v k))
-          (ap F e ∙ all-any (markedAt failed p) (λ x. refl) ours (heardIds body) (mark i answered l)
+          (ap F e ∙ all-any (markedAt failed p) (λ x f. refl) ours (heardIds body) (mark i answered l)
           ∙ set-any (markedAt failed p) i answered l (h .within) (not-marked failed flying p (at i) (h .is) refl))
 
   -- ---- asked
@@ -187,7 +187,7 @@ module _ (p : List ℕ) (c : Call) (l : Lookup) (s : Sound l) where
           ∙ ap (λ (b : Bool). b || S l) (sym r)
       go (fails id i f h pl e q a) = still-S q (ap S e ∙ flown i failed refl h)
       go (answers own ours id body v i ec k h pl e q a) =
-          still-S q (ap S e ∙ all-any (spentAt p) (λ y. refl) ours (heardIds body) (mark i answered l) ∙ flown i answered refl h)
+          still-S q (ap S e ∙ all-any (spentAt p) (λ y f. refl) ours (heardIds body) (mark i answered l) ∙ flown i answered refl h)
 
 -- ---- over any calls
 or-along : (a b c : Bool) → (a || (b || c)) ≡ ((b || a) || c)
