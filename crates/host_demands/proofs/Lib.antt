@@ -14,8 +14,10 @@ pub mod Written
 pub mod Cutting
 pub mod Exported
 pub mod Refused
+pub mod Shutting
 pub mod Formed
 pub mod Beginning
 pub mod Accepting
 pub mod Traced
+pub mod Reading
 pub mod Theorems

@@ -18,10 +18,12 @@ use Rattle.host_demands.proofs.Running.{one-call, all-calls}
 use Rattle.host_demands.proofs.Handing.{hands-over}
 use Rattle.host_demands.proofs.Exported.{as-exported}
 use Rattle.host_demands.proofs.Refused.{refused-keeps, refused-start}
+use Rattle.host_demands.proofs.Shutting.{refused-shuts}
 use Rattle.host_demands.proofs.Formed.{formed, steps-formed}
 use Rattle.host_demands.proofs.Cutting.{cut-anywhere}
 use Rattle.host_demands.proofs.Accepting.{stays, lasts}
 use Rattle.host_demands.proofs.Traced.{lookup-bytes-are-runs}
+use Rattle.host_demands.proofs.Reading.{messages-cross}
 
 module _ (me : List ℕ) (S : Started me) where
   abbrev us : Peer
@@ -66,10 +68,12 @@ hosted me S =
       calls = all-calls me S;
       handing = hands-over me S;
       refused = refused-keeps me;
+      shuts = refused-shuts me;
       empties = refused-start me;
       formed = formed me S;
       steps = steps-formed me S;
       lookups = lookup-bytes-are-runs me S;
+      messages = messages-cross;
       hashed = hashed me S;
       cut = cut-anywhere me S;
       plain = plain me S;

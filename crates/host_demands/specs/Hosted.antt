@@ -2,6 +2,7 @@
 -- proofs/Starting.antt and `begins` in proofs/Beginning.antt show that there are such boxes and such memory.
 use Prim.Native.Nat.{ℕ, _+_, _≤_, _<_}
 use mathlib.Core.Path.{_≡_}
+use mathlib.Core.Logic.{_⊎_}
 use mathlib.Core.Bool.{true, false}
 use mathlib.Core.List.{List, [], _∷_, _++_, map}
 use mathlib.Core.Option.{none, some}
@@ -19,6 +20,7 @@ use Rattle.message.specs.declared.Reading.the-variants as reading
 use Rattle.lookup.specs.Lookup.{noLookup}
 use Rattle.lookup_runs.specs.Runs.{accepted}
 use Rattle.stream.specs.declared.Answer.the-variants as framed
+use Rattle.stream.specs.declared.Framing.the-variants.{Shut}
 use Rattle.stream.specs.Stream.{receiveOf as framedOf}
 use Rattle.cutting.specs.World.{World, Sys, hand, call, calls, given, Ready, AllFit, setAt}
 use Rattle.cutting.specs.Plain.{Wire, plainly, unread, Left}
@@ -34,6 +36,7 @@ use Rattle.demands.specs.Lookups.{Trace, startIn}
 use Rattle.host_demands.specs.Calls as host
 use Rattle.host_demands.specs.Calls.{Memory, Export, Lent, History, Seen, withLookup, kept, receivedBy, takenBy, lengthBy, returns, leaves, writes, meant, seesOf, marksOf, leavesAll, meantAll, seesAll, marksAll, handsOver, worldIn, Stands, entrySeen}
 use Rattle.host_demands.specs.Lookups.{tracedIn, LookupBytesAreRuns}
+use Rattle.host_demands.specs.Messages.{MessagesCross}
 
 -- ==== the box, and memory to begin with
 -- the memory of a box that starterbell_start wrote
@@ -74,6 +77,28 @@ nothingYet = record { log = []; offers = []; order = [] }
 -- is what all theorems below ask for
 abbrev pub Begins : Type 0
 Begins = (me : List ℕ) (m : Memory) → Cleared m → Lent m × Written m × ReadyFor me (worldIn m nothingYet)
+
+-- ==== what a refused call leaves of a connection
+-- 0, 1, 2 and 12 "consume and change nothing"; the other refusals
+abbrev pub Early : ℕ → Type 0
+Early n = (n ≤ 2) ⊎ (n ≡ 12)
+
+pub record Late (n : ℕ) : Type 0 where
+  pub above : 2 < n
+  pub refusal : n < 64
+  pub other : n ≡ 12 → ⊥
+
+-- a connection, its receive buffer, and how many of its bytes were taken, are as they were
+pub record ConnKept (m n : Memory) (i : ℕ) : Type 0 where
+  pub conn : n .conns i ≡ m .conns i
+  pub buffer : n .buffers i ≡ m .buffers i
+  pub taken : n .taken i ≡ m .taken i
+
+-- a call that isn't on connection i
+pub record NotOn (i : ℕ) (c : Export) : Type 0 where
+  pub opens : (id : List ℕ) (server asking : ℕ) (addresses buffer : List ℕ) → c ≡ host.opens i id server asking addresses buffer → ⊥
+  pub receives : (piece : List ℕ) → c ≡ host.receives i piece → ⊥
+  pub ends : c ≡ host.ends i → ⊥
 
 module _ (me : List ℕ) where
   -- ==== `returns`, `leaves` and `writes` are what the contracts of crate `host` say: of the calls whose contract is a record
@@ -150,6 +175,23 @@ module _ (me : List ℕ) where
 
   abbrev pub RefusedKeeps : Type 0
   RefusedKeeps = (m : Memory) (c : Export) → returns me m c < 64 → Keeps m c
+
+  -- "at most it takes bytes and shuts its connection"
+  -- connection i after a call on it that was refused: as it was, or shut, and no other byte of it changed
+  pub record ShutAtMost (m : Memory) (i : ℕ) (c : Export) : Type 0 where
+    pub early : Early (returns me m c) → ConnKept m (leaves me m c) i
+    pub late : Late (returns me m c) → leaves me m c .conns i ≡ withFraming (m .conns i) Shut
+
+  pub record RefusedShuts : Type 0 where
+    pub receives : (m : Memory) (i : ℕ) (piece : List ℕ) → ShutAtMost m i (host.receives i piece)
+    pub takes : (m : Memory) (i : ℕ) (piece : List ℕ) → Early (returns me m (host.receives i piece)) → takenBy me m i piece ≡ 0
+    pub ends : (m : Memory) (i : ℕ) → ShutAtMost m i (host.ends i)
+    -- an open that is refused writes its connection, as one that is shut
+    pub opens : (m : Memory) (i : ℕ) (id : List ℕ) (server asking : ℕ) (addresses buffer : List ℕ) → peerSize ≤ length me → connSize ≤ length (m .conns i)
+        → let c = host.opens i id server asking addresses buffer in
+        returns me m c < 64 → connIn (leaves me m c .conns i) .framing ≡ Shut
+    -- and no call, refused or not, touches a connection that isn't its own
+    pub others : (m : Memory) (c : Export) (i : ℕ) → NotOn i c → ConnKept m (leaves me m c) i
 
   -- "A refused start hands back an empty one"
   abbrev pub RefusedStart : Type 0
@@ -304,10 +346,12 @@ module _ (me : List ℕ) where
     pub calls : AllCalls
     pub handing : HandsOver
     pub refused : RefusedKeeps
+    pub shuts : RefusedShuts
     pub empties : RefusedStart
     pub formed : Formed
     pub steps : StepsFormed
     pub lookups : LookupBytesAreRuns me
+    pub messages : MessagesCross
     pub hashed : ContactsHashed
     pub cut : CutAnywhere
     pub plain : Plainly

@@ -1,3 +1,4 @@
 pub mod Calls
 pub mod Lookups
+pub mod Messages
 pub mod Hosted
