@@ -3,7 +3,7 @@ use Prim.Native.Nat.{ℕ, _≤_, _<_}
 use mathlib.Core.Path.{_≡_, refl, sym, ap, _∙_, subst}
 use mathlib.Core.Bool.{Bool, true, false, cond, not}
 use mathlib.Core.List.{List, [], _∷_, _++_, map}
-use mathlib.Core.Option.{Option, none, some}
+use mathlib.Core.Option.{none, some}
 use native.Mathlib.Omega.{arith}
 use lib.ListN.{length, getD, take, drop, length-take}
 use lib.Seq.{sets, sets-eq}
@@ -17,8 +17,8 @@ use Rattle.wire.specs.declared.Span.{Span}
 use Rattle.wire.specs.declared.Found.{Found}
 use Rattle.wire.specs.declared.Found.the-variants.{At, Nothing}
 use Rattle.wire.proofs.Scan.{walk-at, walk-inside}
-use Rattle.message.specs.Limits.{mostBody, mostKind, leastReply}
-use Rattle.message.specs.Message.{Record, Message, messageOf, wellMessage, decode, encode, frame}
+use Rattle.message.specs.Limits.{leastReply}
+use Rattle.message.specs.Message.{Message, messageOf, wellMessage, decode, encode, frame}
 use Rattle.message.specs.View.{fieldsOf, readingOf, idAt, addressesAt, connectionAt, closerAt, providersAt, meant, heldMeant, peerMeant}
 use Rattle.message.specs.Claims.{Cuttable, FieldsIn}
 use Rattle.message.specs.declared.Fields.{Fields}
@@ -32,7 +32,6 @@ use Rattle.round_trip.proofs.Written.{written-is-read}
 use Rattle.writer.specs.declared.Written.{Written}
 use Rattle.writer.specs.declared.Written.the-variants as written
 use Rattle.writer.specs.Writer.{answerOf, outAfter}
-use Rattle.refusal.specs.Refusal.{numberOf}
 use Rattle.refusal.specs.declared.Refusal.the-variants.{SmallBuffer, Unwritable}
 use Rattle.connections.specs.Box.{nobody}
 use Rattle.flat.specs.Flat.{saysYes}

@@ -1,14 +1,14 @@
 -- What a refused call leaves of the connections: its own as it was, or shut; all others as they were. Assumes nothing.
-use Prim.Native.Nat.{ℕ, _+_, _≤_, _<_}
+use Prim.Native.Nat.{ℕ, _≤_, _<_}
 use mathlib.Core.Path.{_≡_, refl, sym, ap, _∙_, subst}
-use mathlib.Core.Logic.{_⊎_, inl, inr, ⊎-elim}
-use mathlib.Core.Bool.{Bool, true, false, cond, not, _||_}
+use mathlib.Core.Logic.{inl, inr, ⊎-elim}
+use mathlib.Core.Bool.{Bool, true, false, cond, not}
 use mathlib.Core.List.{List}
 use native.Mathlib.Omega.{arith}
 use lib.ListN.{length}
 use lib.Dec.{eqb, ltb, leb}
-use borrow.Author.Tests.{eqb-true, eq-eqb, ne-eqb, le-leb, lt-leb, ltb-false}
-use Rattle.octets.proofs.Bools.{cond-ind, cond-yes, cond-no, or-l, or-r, or-off, or-fails, all-head, all-rest, to-true, not-both}
+use borrow.Author.Tests.{eq-eqb, ne-eqb, le-leb, lt-leb, ltb-false}
+use Rattle.octets.proofs.Bools.{cond-ind, cond-yes, cond-no, or-l, or-r, or-off, or-fails, all-head, all-rest}
 use Rattle.refusal.specs.declared.Refusal.{Refusal}
 use Rattle.refusal.specs.declared.Refusal.the-variants as no
 use Rattle.refusal.specs.Refusal.{numberOf}
@@ -20,7 +20,6 @@ use Rattle.stream.specs.declared.Held.the-variants.{Nothing, One, Two}
 use Rattle.stream.specs.declared.Framing.{Framing}
 use Rattle.stream.specs.declared.Framing.the-variants.{Shut, Prefix, Body}
 use Rattle.stream.specs.declared.Ended as streamEnd
-use Rattle.stream.specs.declared.Ending.{Ending}
 use Rattle.stream.specs.declared.Ending.the-variants as ending
 use Rattle.stream.specs.Stream as streams
 use Rattle.stream.specs.Stream.{isShut, inForm, endIn, endOf, runOf}
@@ -42,7 +41,7 @@ use Rattle.node_promises.specs.Promises as promises
 use Rattle.node_promises.specs.Promises.{Refuses}
 use Rattle.flat.specs.Flat.{peerSize, connSize, peerIn, connIn, saysYes, withFraming}
 use Rattle.host_numbers.specs.Numbers.{toldCode}
-use Rattle.host_state.specs.State.{changesNothing, endingCode, endingFraming, endedMemory, answerNumber, answerFraming, receivedMemory}
+use Rattle.host_state.specs.State.{changesNothing, endingCode, endedMemory, answerNumber, answerFraming, receivedMemory}
 use Rattle.host.specs.Host.{lent, lentBoth}
 use Rattle.demands.proofs.Leaving.{refused-leaves}
 use Rattle.demands.proofs.Refusals.{Raised, AnswerRaised, run-raised, event-raised}
