@@ -61,7 +61,7 @@ module _ (me : Peer) (k key v : List ℕ) (f : inForm k ≡ true) where
   unfolding findOf
   found-by = cond-no (not (inForm k)) _ _ (ap not f)
 
-  finds-got : Finds me k key v → got k key ≡ Has v
+  pub finds-got : Finds me k key v → got k key ≡ Has v
   finds-got h = found-is k key (sym found-by ∙ h .find) .2 ∙ ap Has (h .there)
 
   pub got-finds : got k key ≡ Has v → Finds me k key v
@@ -171,6 +171,20 @@ module _ (me : Peer) where
           ∙ step-taken (messageOf body .key) (a .records) offer refl (accepted (g .records))
 
   -- ---- a piece whose last byte completes it
+  pub hand-state : (w : Own me) (s : World Who Box Ask) → Ready (Allowed me) (Good me) s → (i : ℕ) (p : List ℕ) → isShut (s .lines i .framing) ≡ false
+      → let l = s .lines i in
+      let q = runOf (l .framing) (l .buffer) p in
+      (n : ℕ) → q .got .answer ≡ framed.Message n → q .got .taken ≡ length p
+      → call (box me) s (hand i p) .shared .state ≡ happens me i (l .who) (s .shared .state) (message (l .taken + length p) (take n (q .buffer)))
+  unfolding call
+  hand-state w s r i p not-shut n e t =
+      let q : streams.Out = runOf (s .lines i .framing) (s .lines i .buffer) p in
+      let o : streams.Out = streams.out (q .got .framing) (length p) (framed.Message n) (q .buffer) in
+      let x : q ≡ o = λ j. streams.out (q .got .framing) (t j) (e j) (q .buffer) in
+      let d : Well (box me) (sound me w) (here s i) = record { line = r .lines i; good = r .good } in
+      ap (λ (y : Did (Line Who) (Shared Box Ask)). y .shared .state)
+      (handed-play (box me) (sound me w) i (here s i) p d ∙ play-all (box me) p i (here s i) o not-shut x (omega arith))
+
   module _ (w : Own me) (s : World Who Box Ask) (r : Ready (Allowed me) (Good me) s) (i : ℕ) (p key v : List ℕ) (h : Sent me s i p key v) where
     abbrev l : Line Who
     l = s .lines i
@@ -208,16 +222,6 @@ module _ (me : Peer) where
     answers : (x : stream.Answer) → q .got .answer ≡ x → event x .got .answer ≡ Reply (h .size)
     answers x e = ap (λ (o : Out). o .got .answer) (sym (gives x e)) ∙ h .reply
 
-    hand-state : (n : ℕ) → q .got .answer ≡ framed.Message n → q .got .taken ≡ length p
-        → call (box me) s (hand i p) .shared .state ≡ happens me i (l .who) a (message (l .taken + length p) (take n (q .buffer)))
-    unfolding call
-    hand-state n e t =
-        let o : streams.Out = streams.out (q .got .framing) (length p) (framed.Message n) (q .buffer) in
-        let x : q ≡ o = λ j. streams.out (q .got .framing) (t j) (e j) (q .buffer) in
-        let d : Well (box me) (sound me w) (here s i) = record { line = r .lines i; good = r .good } in
-        ap (λ (y : Did (Line Who) (Shared Box Ask)). y .shared .state)
-        (handed-play (box me) (sound me w) i (here s i) p d ∙ play-all (box me) p i (here s i) o not-shut x (omega arith))
-
     sent-got : got (call (box me) s (hand i p) .shared .state .records) key ≡ Has v
     sent-got = go (q .got .answer) refl
       where
@@ -234,7 +238,7 @@ module _ (me : Peer) where
             let m : completed me s i p ≡ messageOf (take n (q .buffer)) =
             ap₂ (λ (x : stream.Answer) (b : List ℕ). messageOf (bodyIn x b)) (ap (λ (x : streams.Out). x .got .answer) runs ∙ e) (ap (λ (x : Out). x .buffer) o) in
             let k : messageOf (take n (q .buffer)) .key ≡ key = ap (λ (x : Message). x .key) (sym m) ∙ h .under in
-            ap (λ (x : Box). got (x .records) key) (hand-state n e t) ∙ ap (got (happens me i (l .who) a (message at body) .records)) (sym k)
+            ap (λ (x : Box). got (x .records) key) (hand-state w s r i p not-shut n e t) ∙ ap (got (happens me i (l .who) a (message at body) .records)) (sym k)
             ∙ message-got (l .who) a body (h .size) y (h .what) (ap (λ (x : Message). x .kind) (sym m) ∙ h .kind) (ap (λ (x : Message). x .held) (sym m) ∙ h .held)
             (r .lines i .peer not-shut) (r .good) i at
             ∙ ap Has (h .says)

@@ -36,7 +36,7 @@ use Rattle.demands.specs.Box as box
 use Rattle.demands.specs.Box.{Box, Who, connOf, offerBy, offerIn, noted, Turn, Ask, dealing, happens, turning, asking, Own, Allowed, Good}
 use Rattle.demands.proofs.Deal.{Leaves, deal-leaves}
 
-after-more : (k : List ℕ) (os ps : List Offer) → after k (os ++ ps) ≡ after (after k os) ps
+pub after-more : (k : List ℕ) (os ps : List Offer) → after k (os ++ ps) ≡ after (after k os) ps
 unfolding after
 after-more k [] ps = refl
 after-more k (o ∷ os) ps = after-more (offered k o) os ps

@@ -17,3 +17,4 @@ pub mod Hearing
 pub mod Accepting
 pub mod Traced
 pub mod Theorems
+pub mod Agree

@@ -1,3 +1,4 @@
 pub mod Box
 pub mod Lookups
 pub mod Demands
+pub mod Agree

@@ -9,7 +9,7 @@ use native.Mathlib.Omega.{arith}
 use lib.ListN.{length}
 use borrow.Author.Tests.{ltb-true, ltb-false, lt-ltb, le-ltb}
 use Rattle.octets.specs.Octets.{part, same}
-use Rattle.octets.proofs.Bools.{all-head, either, not-both}
+use Rattle.octets.proofs.Bools.{all-head, cond-ap, cond-no, cond-yes, either, not-both}
 use Rattle.octets.proofs.Searching.{all-at, first-hit, first-miss, first-lt}
 use Rattle.octets.proofs.Strings.{same-eq, same-refl}
 use Rattle.refusal.specs.declared.Refusal.the-variants.{OutOfForm, BreaksRules, BrokenRecipe, Outranked, NoRecordSlot}
@@ -31,7 +31,7 @@ module _ (t k u : List ℕ) (g : got t k ≡ Has u) where
   pub held-in : slotWith t k < slotsOf t
   held-in = ⊎-elim (λ b. ltb-true (slotWith t k) (slotsOf t) b) (λ b. absurd (none (sym (got-none t k (ltb-false (slotWith t k) (slotsOf t) b)) ∙ g))) (either (ltb (slotWith t k) (slotsOf t)))
 
-  held-value : valueOf (slot t (slotWith t k)) ≡ u
+  pub held-value : valueOf (slot t (slotWith t k)) ≡ u
   held-value = has (sym (got-held t k (slotWith t k) refl held-in) ∙ g)
 
   pub held-key : inForm t ≡ true → isKey k ≡ true
@@ -119,18 +119,23 @@ unfolding offerAnswer planOf answerOf
 breaks t k v form e = put-is t k v form .0 ∙ rw e refl
 
 module _ (t k v : List ℕ) (form : inForm t ≡ true) (e : isKey k ≡ true) (r : isRecipe v ≡ true) (g : got t k ≡ None) where
+  -- taken where a slot is free, else 11
+  new-told : putAnswer t k v ≡ cond (ltb (freeSlot t) (slotsOf t)) Taken (Refused NoRecordSlot)
+  unfolding offerAnswer planOf answerOf
+  new-told = put-is t k v form .0 ∙ rw (e, r, not-in t k g) (cond-ap answerOf (ltb (freeSlot t) (slotsOf t)) (Write (freeSlot t)) (Refuse NoRecordSlot))
+
   no-slot : ((j : ℕ) → j < slotsOf t → used (slot t j) ≡ true) → putAnswer t k v ≡ Refused NoRecordSlot
-  unfolding offerAnswer planOf answerOf freeSlot isFree
+  unfolding freeSlot isFree
   no-slot h =
       let m : slotsOf t ≡ freeSlot t = first-miss (isFree t) (slotsOf t) (λ j l. ap not (h j l)) in
-      let f : ltb (freeSlot t) (slotsOf t) ≡ false = le-ltb (freeSlot t) (slotsOf t) (omega (arith, m)) in
-      put-is t k v form .0 ∙ rw (e, r, not-in t k g, f) refl
+      new-told ∙ cond-no _ _ _ (le-ltb (freeSlot t) (slotsOf t) (omega (arith, m)))
 
   joins-it : (j : ℕ) → j < slotsOf t → used (slot t j) ≡ false → putAnswer t k v ≡ Taken
-  unfolding offerAnswer planOf answerOf freeSlot isFree
-  joins-it j l h =
-      let f : ltb (freeSlot t) (slotsOf t) ≡ true = lt-ltb (freeSlot t) (slotsOf t) (first-lt (isFree t) (slotsOf t) j l (ap not h)) in
-      put-is t k v form .0 ∙ rw (e, r, not-in t k g, f) refl
+  unfolding freeSlot isFree
+  joins-it j l h = new-told ∙ cond-yes _ _ _ (lt-ltb (freeSlot t) (slotsOf t) (first-lt (isFree t) (slotsOf t) j l (ap not h)))
+
+  pub joins-unless-11 : (putAnswer t k v ≡ Refused NoRecordSlot → ⊥) → putAnswer t k v ≡ Taken
+  joins-unless-11 room = ⊎-elim (λ b. new-told ∙ cond-yes _ _ _ b) (λ b. absurd (room (new-told ∙ cond-no _ _ _ b))) (either (ltb (freeSlot t) (slotsOf t)))
 
 pub put-told : PutTold
 put-told = record { outOfForm = broken-form; rules = breaks; full = no-slot; new = joins-it }

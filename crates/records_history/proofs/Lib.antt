@@ -4,3 +4,5 @@ pub mod Stays
 pub mod Holding
 pub mod Blind
 pub mod Claims
+pub mod Agree
+pub mod Fakes

@@ -8,7 +8,7 @@ use Prim.Native.Nat.{ℕ, zero, suc, _+_, _*_, _<_}
 use native.Mathlib.Omega.{arith}
 use lib.Dec.{ltb, eqb}
 use lib.ListN.{getD}
-use borrow.Author.Tests.{ltb-true, eq-eqb}
+use borrow.Author.Tests.{ltb-true, ltb-false, eq-eqb}
 use Rattle.octets.specs.Octets.{part, same}
 use Rattle.octets.specs.Search.{all}
 use Rattle.octets.proofs.Bools.{and-fails, not-both, to-false, either, cond-ind}
@@ -21,9 +21,11 @@ use Rattle.recipe.proofs.Rank.{outranks-total, outranks-self, outranked-not}
 use Rattle.records.specs.Limits.{slotSize}
 use Rattle.records.specs.Store.{slotsOf, slot, used, valueOf, isKey, fits, inForm, slotWith, freeSlot, heldPlan, planOf, answerOf, afterOf, offerAnswer, offerAfter, putAnswer, putAfter}
 use Rattle.records_history.specs.History.{Got, Has, None, got, taken, Offer, accepts, offered, after, Accepted, Unbeaten, cleared}
+use Rattle.records_history.specs.Agree.{NoRecords}
 use Rattle.records.specs.declared.Plan.{Plan}
 use Rattle.records.specs.declared.Plan.the-variants.{Write, Keep, Refuse}
 use Rattle.records.specs.declared.Answer.the-variants.{Refused}
+use Rattle.record_slots.proofs.Finding.{with-holds, holds-out}
 use Rattle.records.proofs.Putting.{write-where, put-out, put-answer, put-after}
 use Rattle.records_history.proofs.Kept.{got-held, got-none, fits-in, write-got, write-other, write-form}
 
@@ -156,15 +158,26 @@ zeros zero i = refl
 zeros (suc n) zero = refl
 zeros (suc n) (suc i) = zeros n i
 
-pub cleared-form : (n : ℕ) → inForm (cleared n) ≡ true
-unfolding inForm used slot
-cleared-form n = all-intro (fits (cleared n)) (slotsOf (cleared n)) (λ j l. fits-in (cleared n) j (λ u. absurd (not-both (used (slot (cleared n) j)) u (free j))))
-  where
-    first-byte : (j : ℕ) → getD (part (cleared n) (j * slotSize) (j * slotSize + slotSize)) 0 0 ≡ 0
-    first-byte j = part-at (cleared n) (j * slotSize) (j * slotSize + slotSize) 0 (omega arith) ∙ zeros n (j * slotSize + 0)
+pub cleared-free : (n : ℕ) → NoRecords (cleared n)
+unfolding used slot
+cleared-free n j l =
+    let first : getD (part (cleared n) (j * slotSize) (j * slotSize + slotSize)) 0 0 ≡ 0 =
+    part-at (cleared n) (j * slotSize) (j * slotSize + slotSize) 0 (omega arith) ∙ zeros n (j * slotSize + 0) in
+    ap not (eq-eqb (getD (part (cleared n) (j * slotSize) (j * slotSize + slotSize)) 0 0) 0 first)
 
-    free : (j : ℕ) → not (eqb (getD (part (cleared n) (j * slotSize) (j * slotSize + slotSize)) 0 0) 0) ≡ false
-    free j = ap not (eq-eqb (getD (part (cleared n) (j * slotSize) (j * slotSize + slotSize)) 0 0) 0 (first-byte j))
+-- where no slot is used there is form, and nothing is found
+pub free-form : (t : List ℕ) → NoRecords t → inForm t ≡ true
+unfolding inForm
+free-form t e = all-intro (fits t) (slotsOf t) (λ j l. fits-in t j (λ u. absurd (not-both (used (slot t j)) u (e j l))))
+
+pub free-none : (t k : List ℕ) → NoRecords t → got t k ≡ None
+free-none t k e = got-none t k (⊎-elim (λ b. absurd (held (ltb-true (slotWith t k) (slotsOf t) b))) (λ b. ltb-false (slotWith t k) (slotsOf t) b) (either (ltb (slotWith t k) (slotsOf t))))
+  where
+    held : slotWith t k < slotsOf t → ⊥
+    held l = not-both (used (slot t (slotWith t k))) (holds-out t k (slotWith t k) (with-holds t k l) .0) (e (slotWith t k) l)
+
+pub cleared-form : (n : ℕ) → inForm (cleared n) ≡ true
+cleared-form n = free-form (cleared n) (cleared-free n)
 
 -- form is kept by every list of puts
 pub form-kept : (t : List ℕ) (os : List Offer) → inForm t ≡ true → inForm (after t os) ≡ true
@@ -200,11 +213,11 @@ module _ (k t : List ℕ) (o : Offer) where
       go false f = absurd (not-both (taken (putAnswer t (o .key) (o .value))) h (ap taken (sym (put-out t (o .key) (o .value) (sym f) refl .0))))
 
 -- a value that is held gives way only to values that it doesn't outrank
-Over : List ℕ → Got → Type 0
+abbrev pub Over : List ℕ → Got → Type 0
 Over w g = (u : List ℕ) × (g ≡ Has u) × (outranks w u ≡ false)
 
 gives-way : (k w x t : List ℕ) (os : List Offer) → got t k ≡ Has x → outranks w x ≡ false → Over w (got (after t os) k)
-unfolding after Over
+unfolding after
 gives-way k w x t [] g h = (x, g, h)
 gives-way k w x t (o ∷ os) g h =
     ⊎-elim (λ c. gives-way k w (o .value) (offered t o) os (step-taken k t o (c .0) (c .1)) (outranked-not w x (o .value) h (step-rank k t o x (c .0) g (c .1))))
@@ -212,7 +225,7 @@ gives-way k w x t (o ∷ os) g h =
 
 -- the record found under a key is the highest-ranking one accepted for it: none that was accepted ranks higher ..
 pub highest : (k v t : List ℕ) (os : List Offer) → Accepted k v t os → (u : List ℕ) × (got (after t os) k ≡ Has u) × (outranks v u ≡ false)
-unfolding Accepted after Over
+unfolding Accepted after
 highest k v t [] a = absurd a
 highest k v t (o ∷ os) (inl a) =
     gives-way k v v (offered t o) os (step-taken k t o (a .0) (a .2) ∙ ap Has (a .1)) (outranks-self v)

@@ -1,2 +1,4 @@
 pub mod History
 pub mod Claims
+pub mod Agree
+pub mod Fakes

@@ -1,5 +1,6 @@
 //! Forty boxes share winding recipes with no server, in this process or over TCP. Some never answer, and some lie. See `--help`.
 
+mod agree;
 mod bench;
 mod job;
 mod liar;
@@ -24,7 +25,8 @@ usage: forty [--tcp] [--seed N] [--benches N] [--svg FILE]
 
 Forty boxes join over time, put winding recipes at the boxes nearest to their keys, put newer versions, and then every honest one finds every recipe.
 One in eight never answers; one in eight lies: it makes up peers, sends broken bytes, recipes that don't check or are old, or more than it was asked for.
-Bytes come in pieces of random size. The exit status is 0 where every recipe was found as it was put and every lookup has ended.
+Bytes come in pieces of random size. In the end each honest box is offered every recipe in both versions, in an order of its own, and all hold the same.
+The exit status is 0 where every recipe was found as it was put, every lookup has ended, and all honest boxes hold the same records.
 
   --tcp         over TCP on this machine, with real sockets and timeouts, instead of in memory
   --seed N      another run; in memory the same seed gives the same run (40)
@@ -114,7 +116,7 @@ fn run(wanted: &Wanted) -> Result<ExitCode, String> {
 
 fn verdict(problems: &[String]) -> String {
     if problems.is_empty() {
-        return "every lookup has ended, and every honest bench found every recipe\n".into();
+        return "every lookup has ended, and every honest bench found every recipe and holds what the others hold\n".into();
     }
     let first: String = problems.iter().take(20).map(|problem| format!("wrong: {problem}\n")).collect();
     format!("{first}{} things went wrong\n", problems.len())
@@ -157,11 +159,17 @@ fn summary(wanted: &Wanted, world: &World, kinds: &str, took: Duration) -> Strin
         format!("messages   {} on {} connections; {} bytes in {} pieces", tally.messages, traffic.connections, traffic.bytes, traffic.pieces),
         format!("contacts   {} heads of full buckets probed, {} swapped", tally.probes, tally.swaps),
         format!("lies       {} messages nobody asked for, {} bad recipes, {} old ones outranked", tally.unasked, tally.broken, tally.outranked),
+        format!("agreement  {}", agreement(world)),
         format!("refusals   {}", refusals(&tally.refusals)),
         format!("time       {:.1} s", took.as_secs_f64()),
         format!("picture    {}", wanted.svg.display()),
     ];
     lines.join("\n") + "\n"
+}
+
+fn agreement(world: &World) -> String {
+    let (agreeing, records, tally) = (world.agreeing(), world.recipes(), &world.tally);
+    format!("{agreeing} benches hold the same {records} records, byte for byte; {} offers, {} of them outranked", tally.offers, tally.late)
 }
 
 /// Those that were given, by number.

@@ -26,6 +26,9 @@ pub struct Tally {
     pub probes: u64,
     pub swaps: u64,
     pub stored: u64,
+    /// Offers to benches in the end: all, and those that came when a newer version was held.
+    pub offers: u64,
+    pub late: u64,
 }
 
 impl Tally {

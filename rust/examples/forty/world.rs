@@ -1,11 +1,13 @@
-//! The run: benches join over time, put recipes, put newer ones, and then each finds all of them.
+//! The run: benches join over time, put recipes, put newer ones, and then each finds all of them. In the end each is offered them all, and all hold the same.
 
+use crate::agree;
 use crate::bench::{Bench, Role};
 use crate::job::Goal;
 use crate::liar::{Liar, Trick};
 use crate::net::Net;
 use crate::rng::Rng;
 use crate::tally::{Around, Tally};
+use starterbell::message::Record;
 use starterbell::recipe::{Recipe, Setpoint};
 use starterbell::{Node, Peer, Refusal, Room};
 use std::time::{Duration, Instant};
@@ -22,6 +24,7 @@ pub enum Phase {
     Putting,
     PuttingNewer,
     Finding,
+    Agreeing,
     Over,
 }
 
@@ -33,6 +36,7 @@ impl Phase {
             Phase::Putting => "recipes are put at the benches nearest to their keys",
             Phase::PuttingNewer => "newer versions of all recipes are put",
             Phase::Finding => "every honest bench finds every recipe",
+            Phase::Agreeing => "every honest bench is offered every recipe, in an order of its own",
             Phase::Over => "done",
         }
     }
@@ -43,7 +47,8 @@ impl Phase {
             Phase::LookingAround => Phase::Putting,
             Phase::Putting => Phase::PuttingNewer,
             Phase::PuttingNewer => Phase::Finding,
-            Phase::Finding | Phase::Over => Phase::Over,
+            Phase::Finding => Phase::Agreeing,
+            Phase::Agreeing | Phase::Over => Phase::Over,
         }
     }
 }
@@ -153,6 +158,7 @@ impl World {
             Phase::Putting => self.put(0),
             Phase::PuttingNewer => self.put(1),
             Phase::Finding => self.find_all(),
+            Phase::Agreeing => self.offer_all(),
             Phase::Joining | Phase::Over => {}
         }
     }
@@ -172,6 +178,30 @@ impl World {
         }
     }
 
+    /// Both versions of all recipes go to every honest bench, past the net.
+    fn offer_all(&mut self) {
+        let World { benches, tally, net, rng, recipes, .. } = self;
+        let ids: Vec<Vec<u8>> = benches.iter().map(|bench| bench.node.id().to_vec()).collect();
+        let offers = recipes.iter().flat_map(|recipe| recipe.versions.iter().map(|value| Record { key: &recipe.key, value }));
+        let offers: Vec<Record> = offers.collect();
+        let mut around = Around { net: net.as_mut(), rng, tally };
+        for bench in benches.iter_mut().filter(|bench| bench.is_honest()) {
+            agree::offer_all(&mut bench.node, &ids, &offers, &mut around);
+        }
+    }
+
+    /// The honest benches that don't hold the newer version of each recipe and nothing else, byte for byte.
+    fn at_odds(&self) -> Vec<usize> {
+        let mut newer: Vec<(&[u8], &[u8])> = self.recipes.iter().map(|recipe| (&recipe.key[..], &recipe.versions[1][..])).collect();
+        newer.sort_unstable();
+        (0..self.benches.len()).filter(|bench| self.benches[*bench].is_honest() && agree::held(&self.benches[*bench].node) != newer).collect()
+    }
+
+    /// How many benches hold the same records.
+    pub fn agreeing(&self) -> usize {
+        self.honest() - self.at_odds().len()
+    }
+
     /// What went wrong, a line for each.
     pub fn problems(&self) -> Vec<String> {
         let mut problems = Vec::new();
@@ -185,6 +215,11 @@ impl World {
                     _ => problems.push(format!("bench {number} didn't find {name}")),
                 }
             }
+        }
+        problems.extend(self.at_odds().iter().map(|bench| format!("bench {bench} doesn't hold the newer version of each recipe, and nothing else")));
+        let no_slot = self.tally.refusals[Refusal::NoRecordSlot.number() as usize];
+        if no_slot > 0 {
+            problems.push(format!("{no_slot} records had no slot, where there is one for every recipe"));
         }
         let open = self.tally.lookups - self.tally.ended();
         if open > 0 {
