@@ -6,7 +6,7 @@ use starterbell::Refusal::{BreaksRules, BrokenRecipe, NoRecordSlot, Outranked};
 use starterbell::{Node, Peer, Refusal, Room};
 use std::collections::{BTreeMap, BTreeSet};
 
-const WORLDS: u64 = 400;
+const WORLDS: u64 = 300;
 const BOXES: usize = 8;
 
 /// Numbers that look random, the same in every run: splitmix64.
@@ -47,7 +47,7 @@ fn good(sequence: u64, rng: &mut Rng) -> Vec<u8> {
     let (first, last) = ([rng.pick(&[0, 127, 128, 255])], [rng.pick(&[0, 127, 128, 255])]);
     let trims = [0, 5_000, rng.pick(&[4_999, 5_000, 0]), rng.pick(&[0, 1, 2_500])];
     match rng.below(4) {
-        0 => value(&value(&[], &[], sequence).repeat(rng.below(3)), &[], sequence),
+        0 => value(&[&[255; 2][..rng.below(3)], &value(&[], &[], sequence).repeat(rng.below(3))].concat(), &[], sequence),
         1 => value(&[&first[..], b"silver", &last].concat(), &[0, 2_000], sequence),
         2 => value(&[&first[..], &[7; 2_030], &last].concat(), &[], sequence), // 2,048 bytes: no value is larger
         _ => value(b"silver", &trims[..rng.below(5)], sequence),

@@ -290,7 +290,7 @@ module _ (me : Peer) (own : Own me) (s : World Who Box Ask) (r : Ready (Allowed 
   abbrev l : Line Who
   l = s .lines i
 
-  sent : framedOf (l .framing) (l .buffer) p .got .taken ≡ length p → Brings s i p key value → since s (call (box.box me) s (hand i p)) ≡ record { key = key; value = value } ∷ []
+  sent : framedOf (l .framing) (l .buffer) p .got .taken ≡ length p → Brings l p key value → since s (call (box.box me) s (hand i p)) ≡ record { key = key; value = value } ∷ []
   sent t b =
       let going : isShut (l .framing) ≡ false = whole-open (l .framing) (l .buffer) p (b .size) (b .whole) in
       let e : framedOf (l .framing) (l .buffer) p ≡ runOf (l .framing) (l .buffer) p = call-runs (l .framing) (l .buffer) p (r .lines i .form) (r .lines i .room) going in

@@ -15,7 +15,7 @@ use Rattle.records_history.specs.Agree.{NoRecords, Offered, SameSet, HoldSame, 
 use Rattle.message.specs.Message.{Message, decode}
 use Rattle.stream.specs.declared.Answer.the-variants as framed
 use Rattle.stream.specs.Stream.{receiveOf as framedOf}
-use Rattle.cutting.specs.World.{World, Call, hand, asks, call, calls, Ready, AllFit}
+use Rattle.cutting.specs.World.{Line, World, Call, hand, asks, call, calls, Ready, AllFit}
 use Rattle.replies.specs.Replies.{putValue}
 use Rattle.demands.specs.Box.{refused, putGave, Entry, event, called, Box, Who, Turn, Fits, Ask, put, box, Own, Allowed, Good}
 use Rattle.demands.specs.Demands.{since, Finds, Begun}
@@ -38,11 +38,11 @@ pub record Sends (w : Who) (body key value : List ℕ) : Type 0 where
   pub under : says .key ≡ key
   pub held : says .held ≡ some (record { key = key; value = value })
 
--- a piece on connection i completes such a message
-pub record Brings (s : World Who Box Ask) (i : ℕ) (p key value : List ℕ) : Type 0 where
+-- a piece of a connection's bytes completes such a message
+pub record Brings (l : Line Who) (p key value : List ℕ) : Type 0 where
   pub size : ℕ
-  pub whole : framedOf (s .lines i .framing) (s .lines i .buffer) p .got .answer ≡ framed.Message size
-  pub sends : Sends (s .lines i .who) (take size (framedOf (s .lines i .framing) (s .lines i .buffer) p .buffer)) key value
+  pub whole : framedOf (l .framing) (l .buffer) p .got .answer ≡ framed.Message size
+  pub sends : Sends (l .who) (take size (framedOf (l .framing) (l .buffer) p .buffer)) key value
 
 -- a bench: a box that a start gave, the world in which its host begins, and all that the host does, peers' bytes handed over among it
 pub record Bench : Type 0 where
@@ -81,7 +81,7 @@ pub record BenchesAgree : Type 0 where
   -- "every offer reaches" the store: what is typed, and what is sent on the answering side of a connection, be it taken or refused
   pub typed : (me : Peer) (s : World Who Box Ask) (key value : List ℕ) → since s (call (box me) s (asks (put key value))) ≡ record { key = key; value = value } ∷ []
   pub sent : (me : Peer) → Own me → (s : World Who Box Ask) → Ready (Allowed me) (Good me) s → (i : ℕ) (p key value : List ℕ)
-      → framedOf (s .lines i .framing) (s .lines i .buffer) p .got .taken ≡ length p → Brings s i p key value
+      → framedOf (s .lines i .framing) (s .lines i .buffer) p .got .taken ≡ length p → Brings (s .lines i) p key value
       → since s (call (box me) s (hand i p)) ≡ record { key = key; value = value } ∷ []
   -- and a host that begins with memory cleared begins with no records
   pub begin : (s : World Who Box Ask) → Begun s → NoRecords (s .shared .state .records)

@@ -360,7 +360,7 @@ module _ (me : List ℕ) (S : Started me) where
         (unbeaten-none key v (w .shared .state .records) (w .shared .state .offers))
 
     -- ---- what is found, in memory
-    finds-there : (key v : List ℕ) → Finds me m key v → inner.Finds us (m .records) key v
+    pub finds-there : (key v : List ℕ) → Finds me m key v → inner.Finds us (m .records) key v
     unfolding findOf
     finds-there key v f = got-finds us (m .records) key v (ready .good .records) (go (findOf (m .records) key) refl (f .find) (f .there (0 ∷ 0 ∷ []) (omega arith)))
       where
@@ -371,7 +371,7 @@ module _ (me : List ℕ) (S : Started me) where
         go found.NotHeld e n p = absurd (omega (arith, n))
         go (found.Refused r) e n p = absurd (omega (arith, n, number-small r))
 
-    finds-here : (key v : List ℕ) → inner.Finds us (m .records) key v → Finds me m key v
+    pub finds-here : (key v : List ℕ) → inner.Finds us (m .records) key v → Finds me m key v
     finds-here key v f =
         record {
           find = ap findNumber (f .find);

@@ -20,4 +20,5 @@ pub mod Beginning
 pub mod Accepting
 pub mod Traced
 pub mod Reading
+pub mod Agree
 pub mod Theorems

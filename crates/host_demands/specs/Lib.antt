@@ -2,3 +2,4 @@ pub mod Calls
 pub mod Lookups
 pub mod Messages
 pub mod Hosted
+pub mod Agree

@@ -95,6 +95,9 @@ module _ (rules : List ℕ → Bool) (k : List ℕ) where
   moved : (A B : List ℕ → Type 0) (v : List ℕ) → (A v → B v) → Counts rules k A v → Counts rules k B v
   moved A B v f c = record { offered = f (c .offered); key = c .key; fits = c .fits }
 
+  pub highest-moved : (A B : List ℕ → Type 0) → ((v : List ℕ) → A v → B v) → ((v : List ℕ) → B v → A v) → (g : Got) → Highest rules k A g → Highest rules k B g
+  highest-moved A B f e g h = record { one = λ u q. moved A B u (f u) (h .one u q); top = λ v c. h .top v (moved B A v (e v) c) }
+
   pub only : (A B : List ℕ → Type 0) → ((v : List ℕ) → A v → B v) → ((v : List ℕ) → B v → A v) → (g h : Got) → Highest rules k A g → Highest rules k B h → g ≡ h
   only A B f e None None p q = refl
   only A B f e (Has u) None p q = absurd (none (q .top u (moved A B u (f u) (p .one u refl)) .1))
