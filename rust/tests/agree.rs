@@ -54,7 +54,7 @@ fn good(sequence: u64, rng: &mut Rng) -> Vec<u8> {
     }
 }
 
-/// A value that is no recipe, and that would often rank highest.
+/// A value that is no recipe, and that would often rank highest: it leaps, is out of bounds, of another format, or cut short.
 fn broken(rng: &mut Rng) -> Vec<u8> {
     let sequence = rng.pick(&[0, 256, u64::MAX, u64::MAX]);
     let whole = value(&[], &[0, -5_000], sequence);
@@ -85,13 +85,10 @@ fn world(seed: u64) -> (Vec<Offer>, [Vec<usize>; BOXES], Rng) {
     let keys = &[b"/wind/g".to_vec(), b"/wind/gg".to_vec(), b"/wind/\0".to_vec(), b"/wind//wind/".to_vec(), long(122)][rng.below(5)..];
     let no_keys = [vec![], b"/wind/".to_vec(), b"/wine/g".to_vec(), b"/WIND/g".to_vec(), b"wind/g".to_vec(), long(123)];
     let sequences: [u64; 2] = std::array::from_fn(|_| rng.pick(&[0, 1, 255, 256, u64::MAX - 1, u64::MAX]));
-    let mut offer = |n: usize| {
-        let sequence = rng.pick(&sequences);
-        match n % 8 {
-            0 => Offer { key: rng.pick(&no_keys), value: good(sequence, &mut rng), flaw: Some(BreaksRules) },
-            1 | 2 => Offer { key: rng.pick(keys), value: broken(&mut rng), flaw: Some(BrokenRecipe) },
-            _ => Offer { key: rng.pick(keys), value: good(sequence, &mut rng), flaw: None },
-        }
+    let mut offer = |n: usize| match (n % 8, rng.pick(&sequences)) {
+        (0, sequence) => Offer { key: rng.pick(&no_keys), value: good(sequence, &mut rng), flaw: Some(BreaksRules) },
+        (1 | 2, _) => Offer { key: rng.pick(keys), value: broken(&mut rng), flaw: Some(BrokenRecipe) },
+        (_, sequence) => Offer { key: rng.pick(keys), value: good(sequence, &mut rng), flaw: None },
     };
     let offers: Vec<Offer> = (0..24).map(&mut offer).collect();
     let orders = std::array::from_fn(|_| {
@@ -222,7 +219,7 @@ fn slots_matter_only_where_there_are_too_few() {
 
 // ---- wrong stores, which the same worlds find out
 
-/// What a store holds under a key after a value came, which is a recipe or isn't.
+/// What a store holds under a key: from what it held, and a value that came, which is a recipe or isn't.
 type Rule = for<'a> fn(Option<&'a [u8]>, &'a [u8], bool) -> Option<&'a [u8]>;
 
 const RIGHT: Rule = |held, value, good| held.filter(|held| !good || rank(held) > rank(value)).or(good.then_some(value));
@@ -231,7 +228,7 @@ const RIGHT: Rule = |held, value, good| held.filter(|held| !good || rank(held) >
 const WRONG: [(&str, Rule); 5] = [
     ("takes the newest", |held, value, good| RIGHT(held.filter(|_| !good), value, good)),
     ("keeps the first of one sequence", |held, value, good| RIGHT(held, value, good && held.is_none_or(|held| rank(held).0 < rank(value).0))),
-    ("takes what goes on after a prefix for the same", |held, value, good| RIGHT(held, value, good && !held.is_some_and(|held| value.starts_with(held)))),
+    ("never looks past a prefix", |held, value, good| RIGHT(held, value, good && !held.is_some_and(|held| value.starts_with(held)))),
     ("forgets what it holds when it gives 10", |held, value, good| RIGHT(held, value, good).filter(|after| !good || *after == value)),
     ("overlooks 9 where the sequence is highest", |held, value, good| RIGHT(held, value, good || held.is_some_and(|held| rank(held).0 < rank(value).0))),
 ];
@@ -260,7 +257,7 @@ fn found_out(rule: Rule) -> (usize, usize) {
 fn wrong_stores_are_found_out() {
     assert_eq!(found_out(RIGHT), (0, 0));
     for (what, rule) in WRONG {
-        assert!(found_out(rule).0 > 0, "a store that {what}");
+        assert!(found_out(rule).0 > 0, "a store that {what} isn't found out");
     }
     let never_9: Rule = |held, value, _| RIGHT(held, value, true);
     assert!(matches!(found_out(never_9), (0, 1..)), "boxes would agree on what is no recipe");

@@ -2,13 +2,13 @@
 -- its offers are the records that were typed or sent. Assumes nothing.
 use Prim.Native.Nat.{ℕ, _+_, _≤_}
 use mathlib.Core.Path.{_≡_, refl, sym, ap, ap₂, _∙_, subst}
-use mathlib.Core.Bool.{Bool, true, false, not, cond}
+use mathlib.Core.Bool.{true, false}
 use mathlib.Core.List.{List, [], _∷_, _++_, append-assoc, append-nil}
 use mathlib.Core.Option.{Option, none, some}
 use native.Mathlib.Omega.{arith}
 use lib.ListN.{length, take, drop, length-take}
 use lib.Seq.{drop-at}
-use lib.Dec.{eqb, ltb}
+use lib.Dec.{eqb}
 use borrow.Author.Tests.{eqb-true}
 use Rattle.octets.specs.Octets.{same}
 use Rattle.octets.proofs.Bools.{cond-ind, cond-yes, cond-no}
@@ -22,7 +22,7 @@ use Rattle.records.specs.declared.Answer.the-variants as store
 use Rattle.recipe.specs.Recipe.{isRecipe}
 use Rattle.records_history.specs.History.{Offer, got, offered, after}
 use Rattle.records_history.specs.Agree.{NoRecords, SameSet, HoldSame, Offered, Highest, Never11 as NoOffer11}
-use Rattle.records_history.proofs.Agree.{agreement}
+use Rattle.records_history.proofs.Agree.{never-more, agreement}
 use Rattle.message.specs.Limits.{mostBody}
 use Rattle.message.specs.Message.{Record, Message, messageOf, wellMessage, decode}
 use Rattle.message.specs.View.{readingOf}
@@ -30,12 +30,11 @@ use Rattle.message.specs.declared.Reading.{Reading}
 use Rattle.message.specs.declared.Reading.the-variants as reading
 use Rattle.message.proofs.Views.{read-whole, whole-read}
 use Rattle.stream.specs.declared.Answer.the-variants as framed
-use Rattle.stream.specs.declared.Framing.{Framing}
 use Rattle.stream.specs.Stream as streams
-use Rattle.stream.specs.Stream.{bodyLimit, fresh, isShut, runOf, receiveOf as framedOf}
+use Rattle.stream.specs.Stream.{fresh, isShut, runOf, receiveOf as framedOf}
 use Rattle.stream.proofs.Steps.{call-runs}
 use Rattle.cutting.specs.Frames.{Event, message, refused as broken}
-use Rattle.cutting.specs.World.{Line, World, Call, hand, asks, call, calls, Sound, Ready}
+use Rattle.cutting.specs.World.{Line, World, hand, asks, call, Sound, Ready}
 use Rattle.cutting.proofs.Kept.{message-fits}
 use Rattle.replies.specs.Replies.{putValue, putValueReply}
 use Rattle.replies.specs.declared.Answered.the-variants as told
@@ -51,34 +50,15 @@ use Rattle.demands.specs.Box as box
 use Rattle.demands.specs.Box.{Entry, Box, Who, connOf, offerBy, offerIn, noted, Turn, Fits, Ask, dealing, happens, turning, asking, Own, Allowed, Good}
 use Rattle.demands.specs.Demands.{since, Finds}
 use Rattle.demands.specs.Agree as agree
-use Rattle.demands.specs.Agree.{Gives11, Never11, Sends, Brings, Bench, end, offers, Keeps, BenchesAgree}
+use Rattle.demands.specs.Agree.{Never11, Sends, Brings, Bench, end, offers, BenchesAgree}
+use Rattle.demands.proofs.Connections.{whole-open}
+use Rattle.demands.proofs.Deal.{decoded}
 use Rattle.demands.proofs.Kept.{after-more, dealing-keeps}
 use Rattle.demands.proofs.Sound.{sound}
 use Rattle.demands.proofs.Ready.{calls-ready}
 use Rattle.demands.proofs.Accepting.{got-finds, finds-got, hand-state}
 
--- ---- a shut connection completes nothing
-no-refusal : {r : Refusal} {n : ℕ} → framed.Refused r ≡ framed.Message n → ⊥
-no-refusal e = let z : _≡_ {A = ℕ} 0 1 = cc in omega arith
-
-pub whole-open : (f : Framing) (m bs : List ℕ) (n : ℕ) → framedOf f m bs .got .answer ≡ framed.Message n → isShut f ≡ false
-unfolding framedOf
-whole-open f m bs n =
-    cond-ind Opens (not (streams.inForm f)) _ _ (λ x e. absurd (no-refusal e))
-    (λ x. cond-ind Opens (ltb (length m) bodyLimit) _ _ (λ y e. absurd (no-refusal e)) (λ y. cond-ind Opens (isShut f) _ _ (λ z e. absurd (no-refusal e)) (λ z e. z)))
-  where
-    Opens : streams.Out → Type 0
-    Opens o = o .got .answer ≡ framed.Message n → isShut f ≡ false
-
 -- ---- what a message offers
-pub decoded : (body : List ℕ) (m : Message) → decode body ≡ some m → messageOf body ≡ m
-unfolding decode
-decoded body m e = go (wellMessage body) e
-  where
-    go : (b : Bool) → cond b (some (messageOf body)) none ≡ some m → messageOf body ≡ m
-    go true q = cc
-    go false q = absurd (let z : _≡_ {A = ℕ} 0 1 = cc in omega arith)
-
 -- nothing, or the one record that it sends
 module _ (w : Who) (body : List ℕ) where
   pub offer-ind : (P : List Offer → Type 0) → P [] → ((key value : List ℕ) → length body ≤ mostBody → Sends w body key value → P (record { key = key; value = value } ∷ []))
@@ -128,12 +108,7 @@ module _ (me : Peer) (w : Who) (a : Box) (body : List ℕ) (g : Good me a) where
   unfolding NoOffer11
   dealing-never h = offer-ind w body (NoOffer11 (a .records)) tt (λ key value l s. ((λ e. h (dealt-11 key value l s e)), tt))
 
--- ---- lists
-never-more : (k : List ℕ) (os ps : List Offer) → NoOffer11 k os → NoOffer11 (after k os) ps → NoOffer11 k (os ++ ps)
-unfolding NoOffer11 after
-never-more k [] ps a b = b
-never-more k (o ∷ os) ps a b = (a .0, never-more (offered k o) os ps (a .1) b)
-
+-- ---- the log
 never-parts : (es fs : List Entry) → Never11 (es ++ fs) → Never11 es × Never11 fs
 unfolding Never11
 never-parts [] fs n = (tt, n)
@@ -229,9 +204,9 @@ record Made (b : Bench) : Type 0 where
   records : agree.held b ≡ after (b .start .shared .state .records) (offers b)
   never : NoOffer11 (b .start .shared .state .records) (offers b)
 
-made : (b : Bench) → Keeps b → Made b
+made : (b : Bench) → Made b
 unfolding Never11 NoOffer11 after
-made b k =
+made b =
     let s : Box = b .start .shared .state in
     let begun : Ready (Allowed (b .me)) (Tidy (b .me) (b .start .shared .state)) (b .start) = record {
       lines = b .ready .lines;
@@ -250,27 +225,27 @@ made b k =
     let l : drop (length (s .log)) (end b .shared .state .log) ≡ t .said = ap (drop (length (s .log))) (t .log) ∙ drop-at (s .log) (t .said) (length (s .log)) refl in
     record {
       records = t .records ∙ ap (after (s .records)) (sym o);
-      never = subst (NoOffer11 (s .records)) (sym o) (t .never (subst Never11 l (k .never)));
+      never = subst (NoOffer11 (s .records)) (sym o) (t .never (subst Never11 l (b .never)));
     }
 
-two : (a b : Bench) → Keeps a → Keeps b → SameSet (offers a) (offers b) → HoldSame (agree.held a) (agree.held b)
-two a b k l s =
-    let m = made a k in
-    let n = made b l in
+two : (a b : Bench) → SameSet (offers a) (offers b) → HoldSame (agree.held a) (agree.held b)
+two a b s =
+    let m = made a in
+    let n = made b in
     subst (λ (x : List ℕ). HoldSame x (agree.held b)) (sym (m .records))
-    (subst (HoldSame (after (a .start .shared .state .records) (offers a))) (sym (n .records)) (agreement .two _ _ (offers a) (offers b) (k .empty) (l .empty) s (m .never) (n .never)))
+    (subst (HoldSame (after (a .start .shared .state .records) (offers a))) (sym (n .records)) (agreement .two _ _ (offers a) (offers b) (a .empty) (b .empty) s (m .never) (n .never)))
 
-found : (a b : Bench) → Keeps a → Keeps b → SameSet (offers a) (offers b) → (key v : List ℕ) → Finds (a .me) (agree.held a) key v → Finds (b .me) (agree.held b) key v
-found a b k l s key v f =
-    got-finds (b .me) (agree.held b) key v (form b) (sym (two a b k l s .found key) ∙ finds-got (a .me) (agree.held a) key v (form a) f)
+found : (a b : Bench) → SameSet (offers a) (offers b) → (key v : List ℕ) → Finds (a .me) (agree.held a) key v → Finds (b .me) (agree.held b) key v
+found a b s key v f =
+    got-finds (b .me) (agree.held b) key v (form b) (sym (two a b s .found key) ∙ finds-got (a .me) (agree.held a) key v (form a) f)
   where
     form : (c : Bench) → inForm (agree.held c) ≡ true
     form c = calls-ready (box.box (c .me)) (sound (c .me) (c .own)) (c .does) (c .start) (c .ready) (c .fit) .good .records
 
-highest : (b : Bench) → Keeps b → (key : List ℕ) → Highest isRecipe key (λ v. Offered key v (offers b)) (got (agree.held b) key)
-highest b k key =
-    let m = made b k in
-    subst (λ (x : List ℕ). Highest isRecipe key (λ v. Offered key v (offers b)) (got x key)) (sym (m .records)) (agreement .highest _ (offers b) (k .empty) (m .never) key)
+highest : (b : Bench) (key : List ℕ) → Highest isRecipe key (λ v. Offered key v (offers b)) (got (agree.held b) key)
+highest b key =
+    let m = made b in
+    subst (λ (x : List ℕ). Highest isRecipe key (λ v. Offered key v (offers b)) (got x key)) (sym (m .records)) (agreement .highest _ (offers b) (b .empty) (m .never) key)
 
 -- ---- what reaches the store
 reached : (s : World Who Box Ask) (o : Offer) → drop (length (s .shared .state .offers)) (s .shared .state .offers ++ (o ∷ [])) ≡ o ∷ []
@@ -280,11 +255,12 @@ typed : (me : Peer) (s : World Who Box Ask) (key value : List ℕ) → since s (
 unfolding call
 typed me s key value = reached s (record { key = key; value = value })
 
-noted-offers : (i at : ℕ) (x : Answer) (y : Sight) (body c k z : List ℕ) (os : List Offer) (a : Box) → noted i at x y body c k z os a .offers ≡ a .offers ++ os
-noted-offers i at (Reply n) y body c k z os a = refl
-noted-offers i at (Heard n f) y body c k z os a = refl
-noted-offers i at (Refused r) y body c k z os a = refl
-noted-offers i at More y body c k z os a = refl
+module _ (i at : ℕ) (s : Sight) (body t k y : List ℕ) (os : List Offer) (a : Box) where
+  pub noted-offers : (x : Answer) → noted i at x s body t k y os a .offers ≡ a .offers ++ os
+  noted-offers (Reply n) = refl
+  noted-offers (Heard n f) = refl
+  noted-offers (Refused r) = refl
+  noted-offers More = refl
 
 module _ (me : Peer) (own : Own me) (s : World Who Box Ask) (r : Ready (Allowed me) (Good me) s) (i : ℕ) (p key value : List ℕ) where
   abbrev l : Line Who
@@ -302,7 +278,7 @@ module _ (me : Peer) (own : Own me) (s : World Who Box Ask) (r : Ready (Allowed 
       let d = dealing me (l .who) (s .shared .state) body in
       ap (λ (x : Box). drop (length (s .shared .state .offers)) (x .offers)) (hand-state me own s r i p going (b .size) a (ap (λ (o : streams.Out). o .got .taken) (sym e) ∙ t))
       ∙ ap (drop (length (s .shared .state .offers)))
-      (noted-offers i (l .taken + length p) (d .answer) (d .sight) body (d .contacts) (d .records) (d .reply) (offerIn (l .who) body) (s .shared .state)
+      (noted-offers i (l .taken + length p) (d .sight) body (d .contacts) (d .records) (d .reply) (offerIn (l .who) body) (s .shared .state) (d .answer)
       ∙ ap (λ (os : List Offer). s .shared .state .offers ++ os) (sends-offer (l .who) body key value fits m))
       ∙ reached s (record { key = key; value = value })
 
@@ -311,7 +287,7 @@ benches-agree =
     record {
       two = two;
       found = found;
-      all = λ b k s i j. two (b i) (b j) (k i) (k j) (s i j);
+      all = λ b s i j. two (b i) (b j) (s i j);
       highest = highest;
       typed = typed;
       sent = sent;

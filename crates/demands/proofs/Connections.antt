@@ -6,19 +6,23 @@ use mathlib.Core.Bool.{true, false, cond, not, _&&_}
 use mathlib.Core.List.{List}
 use native.Mathlib.Omega.{arith}
 use lib.ListN.{length, getD}
-use lib.Dec.{leb}
+use lib.Dec.{leb, ltb}
 use borrow.Author.Tests.{le-leb, le-ltb}
 use Rattle.octets.specs.Octets.{same}
-use Rattle.octets.proofs.Bools.{either, and-i, or-l, or-r, to-false, cond-yes, cond-no, all-none, all-one-more}
+use Rattle.octets.proofs.Bools.{either, and-i, or-l, or-r, to-false, cond-ind, cond-yes, cond-no, all-none, all-one-more}
 use Rattle.octets.proofs.Searching.{all-intro}
 use Rattle.octets.proofs.Strings.{same-eq}
+use Rattle.refusal.specs.declared.Refusal.{Refusal}
 use Rattle.refusal.specs.declared.Refusal.the-variants.{Shut, BadPeer}
 use Rattle.place.specs.Place.{bucketOf}
 use Rattle.place.proofs.Buckets.{bucket-self}
 use Rattle.peer.specs.declared.Peer.{Peer}
 use Rattle.sightings_kept.specs.Promises.{Fair}
 use Rattle.message.specs.Limits.{mostBody, leastReply}
-use Rattle.stream.specs.Stream.{isShut, inForm}
+use Rattle.stream.specs.declared.Framing.{Framing}
+use Rattle.stream.specs.declared.Answer.the-variants as framed
+use Rattle.stream.specs.Stream as streams
+use Rattle.stream.specs.Stream.{bodyLimit, isShut, inForm, receiveOf as framedOf}
 use Rattle.cutting.specs.World.{Line, Fine}
 use Rattle.connections.specs.declared.Conn.{Conn}
 use Rattle.node.specs.declared.Gate.the-variants.{Open, Closed}
@@ -77,3 +81,16 @@ module _ (me : Peer) where
   pub gate-open : Own me → (l : Line Who) (a : Box) → Fine (Allowed me) l → isShut (l .framing) ≡ false → Good me a
       → gateOf me (connOf (l .who) (l .framing)) (l .buffer) (a .contacts) (a .records) (a .reply) ≡ Open
   gate-open w l a f o g = gate-past l a f g ∙ cond-no _ _ _ o ∙ cond-no _ _ _ (ap not (w .fits))
+
+-- ---- a shut connection completes no message
+no-refusal : {r : Refusal} {n : ℕ} → framed.Refused r ≡ framed.Message n → ⊥
+no-refusal e = let z : _≡_ {A = ℕ} 0 1 = cc in omega arith
+
+pub whole-open : (f : Framing) (m bs : List ℕ) (n : ℕ) → framedOf f m bs .got .answer ≡ framed.Message n → isShut f ≡ false
+unfolding framedOf
+whole-open f m bs n =
+    cond-ind Opens (not (inForm f)) _ _ (λ x e. absurd (no-refusal e))
+    (λ x. cond-ind Opens (ltb (length m) bodyLimit) _ _ (λ y e. absurd (no-refusal e)) (λ y. cond-ind Opens (isShut f) _ _ (λ z e. absurd (no-refusal e)) (λ z e. z)))
+  where
+    Opens : streams.Out → Type 0
+    Opens o = o .got .answer ≡ framed.Message n → isShut f ≡ false

@@ -44,14 +44,17 @@ pub record Brings (l : Line Who) (p key value : List ℕ) : Type 0 where
   pub whole : framedOf (l .framing) (l .buffer) p .got .answer ≡ framed.Message size
   pub sends : Sends (l .who) (take size (framedOf (l .framing) (l .buffer) p .buffer)) key value
 
--- a bench: a box that a start gave, the world in which its host begins, and all that the host does, peers' bytes handed over among it
+-- a bench: a box that a start gave, the world in which its host begins, and all that the host does, peers' bytes handed over among it. "Start with no records ..
+-- never gave 11": no line of its log since then does
 pub record Bench : Type 0 where
   pub me : Peer
   pub own : Own me
   pub start : World Who Box Ask
   pub ready : Ready (Allowed me) (Good me) start
+  pub empty : NoRecords (start .shared .state .records)
   pub does : List (Call Turn Ask)
   pub fit : AllFit Fits does
+  pub never : Never11 (drop (length (start .shared .state .log)) (calls (box me) start does .shared .state .log))
 
 module _ (b : Bench) where
   abbrev pub end : World Who Box Ask
@@ -64,20 +67,15 @@ module _ (b : Bench) where
   abbrev pub offers : List Offer
   offers = since (b .start) end
 
-  -- "start with no records .. never gave 11": no line of its log since then does
-  pub record Keeps : Type 0 where
-    pub empty : NoRecords (b .start .shared .state .records)
-    pub never : Never11 (drop (length (b .start .shared .state .log)) (end .shared .state .log))
-
 pub record BenchesAgree : Type 0 where
   -- "offered the same set of records .. they hold the same keys with identical values"; own ids, contacts, slots, connections and cuts may differ
-  pub two : (a b : Bench) → Keeps a → Keeps b → SameSet (offers a) (offers b) → HoldSame (held a) (held b)
+  pub two : (a b : Bench) → SameSet (offers a) (offers b) → HoldSame (held a) (held b)
   -- so `find` and the reply to every GET_VALUE give the same
-  pub found : (a b : Bench) → Keeps a → Keeps b → SameSet (offers a) (offers b) → (key v : List ℕ) → Finds (a .me) (held a) key v → Finds (b .me) (held b) key v
+  pub found : (a b : Bench) → SameSet (offers a) (offers b) → (key v : List ℕ) → Finds (a .me) (held a) key v → Finds (b .me) (held b) key v
   -- any number of boxes
-  pub all : (b : ℕ → Bench) → ((i : ℕ) → Keeps (b i)) → ((i j : ℕ) → SameSet (offers (b i)) (offers (b j))) → (i j : ℕ) → HoldSame (held (b i)) (held (b j))
+  pub all : (b : ℕ → Bench) → ((i j : ℕ) → SameSet (offers (b i)) (offers (b j))) → (i j : ℕ) → HoldSame (held (b i)) (held (b j))
   -- what each holds: the highest-ranking of what it was offered that 8 and 9 don't refuse
-  pub highest : (b : Bench) → Keeps b → (key : List ℕ) → Highest isRecipe key (λ v. Offered key v (offers b)) (got (held b) key)
+  pub highest : (b : Bench) (key : List ℕ) → Highest isRecipe key (λ v. Offered key v (offers b)) (got (held b) key)
   -- "every offer reaches" the store: what is typed, and what is sent on the answering side of a connection, be it taken or refused
   pub typed : (me : Peer) (s : World Who Box Ask) (key value : List ℕ) → since s (call (box me) s (asks (put key value))) ≡ record { key = key; value = value } ∷ []
   pub sent : (me : Peer) → Own me → (s : World Who Box Ask) → Ready (Allowed me) (Good me) s → (i : ℕ) (p key value : List ℕ)

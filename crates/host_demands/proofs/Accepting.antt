@@ -8,18 +8,17 @@ use mathlib.Core.Option.{Option, none, some}
 use native.Mathlib.Omega.{arith}
 use lib.ListN.{length, getD, take, drop, length-take, drop-of-length-le}
 use lib.Seq.{sets, drop-at}
-use lib.Dec.{eqb, ltb}
+use lib.Dec.{eqb}
 use borrow.Author.Tests.{eqb-true}
 use Rattle.octets.specs.Octets.{part, same}
 use Rattle.octets.proofs.Bools.{cond-ind, cond-yes, cond-no, either}
-use Rattle.refusal.specs.declared.Refusal.{Refusal}
 use Rattle.peer.specs.declared.Peer.{Peer}
 use Rattle.recipe.specs.Recipe.{outranks}
 use Rattle.records.specs.declared.Answer as stored
 use Rattle.records.specs.declared.Answer.the-variants as store
 use Rattle.records.specs.declared.Found.{Found}
 use Rattle.records.specs.declared.Found.the-variants as found
-use Rattle.records.specs.Store.{inForm, findOf, offerAnswer, putAnswer}
+use Rattle.records.specs.Store.{findOf, offerAnswer, putAnswer}
 use Rattle.records_history.specs.History as history
 use Rattle.records_history.specs.History.{Offer, accepts, taken}
 use Rattle.records_history.proofs.Kept.{found-is}
@@ -30,11 +29,10 @@ use Rattle.message.specs.View.{readingOf}
 use Rattle.message.specs.declared.Fields.{Fields}
 use Rattle.message.specs.declared.Reading.{Reading}
 use Rattle.message.specs.declared.Reading.the-variants as reading
-use Rattle.stream.specs.declared.Framing.{Framing}
 use Rattle.stream.specs.declared.Answer as stream
 use Rattle.stream.specs.declared.Answer.the-variants as framed
 use Rattle.stream.specs.Stream as streams
-use Rattle.stream.specs.Stream.{bodyLimit, isShut, runOf, receiveOf as framedOf}
+use Rattle.stream.specs.Stream.{isShut, runOf, receiveOf as framedOf}
 use Rattle.stream.proofs.Steps.{call-runs}
 use Rattle.cutting.specs.World.{Line, World, Called, call, calls, AllFit}
 use Rattle.cutting.proofs.Kept.{run-within, message-fits}
@@ -57,7 +55,7 @@ use Rattle.demands.specs.Box.{Box, Who, connOf, bodyIn, offerBy, offerIn, offer
 use Rattle.demands.specs.Demands as inner
 use Rattle.demands.specs.Demands.{since, receiveOn}
 use Rattle.demands.proofs.Accepting.{got-finds}
-use Rattle.demands.proofs.Connections.{gate-open}
+use Rattle.demands.proofs.Connections.{gate-open, whole-open}
 use Rattle.demands.proofs.Deal.{deal-is}
 use Rattle.demands.proofs.Receives.{let-through, runs-as, receives as box-receives}
 use Rattle.demands.proofs.Theorems.{third}
@@ -84,19 +82,6 @@ reply-number (Reply n) e = (n, refl)
 reply-number (Heard n f) e = absurd (omega (arith, e))
 reply-number (Refused r) e = absurd (omega (arith, e, number-small r))
 reply-number More e = absurd (omega (arith, e))
-
--- a shut connection completes nothing
-no-refusal : {r : Refusal} {n : ℕ} → framed.Refused r ≡ framed.Message n → ⊥
-no-refusal e = let z : _≡_ {A = ℕ} 0 1 = cc in omega arith
-
-whole-open : (f : Framing) (m bs : List ℕ) (n : ℕ) → framedOf f m bs .got .answer ≡ framed.Message n → isShut f ≡ false
-unfolding framedOf
-whole-open f m bs n =
-    cond-ind Opens (not (streams.inForm f)) _ _ (λ x e. absurd (no-refusal e))
-    (λ x. cond-ind Opens (ltb (length m) bodyLimit) _ _ (λ y e. absurd (no-refusal e)) (λ y. cond-ind Opens (isShut f) _ _ (λ z e. absurd (no-refusal e)) (λ z e. z)))
-  where
-    Opens : streams.Out → Type 0
-    Opens o = o .got .answer ≡ framed.Message n → isShut f ≡ false
 
 said : {m n : Message} → replies m ≡ replies n → m ≡ n
 said e = cc

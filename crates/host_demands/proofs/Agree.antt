@@ -2,19 +2,17 @@
 use Prim.Native.Nat.{ℕ, _≤_}
 use mathlib.Core.Path.{_≡_, refl, sym, ap, ap₂, _∙_, subst}
 use mathlib.Core.Logic.{_⊎_, inl, inr, ⊎-elim}
-use mathlib.Core.Bool.{Bool, true, false, cond, _||_}
+use mathlib.Core.Bool.{true, false}
 use mathlib.Core.List.{List, [], _∷_, _++_, map, append-assoc, append-nil}
 use native.Mathlib.Omega.{arith}
-use lib.ListN.{length, take, drop, length-take}
+use lib.ListN.{length, take, length-take}
 use Rattle.octets.proofs.Bools.{either, not-both, cond-ind}
-use Rattle.refusal.specs.declared.Refusal.the-variants.{NoRecordSlot}
-use Rattle.refusal.specs.Refusal.{numberOf}
 use Rattle.peer.specs.declared.Peer.{Peer}
 use Rattle.recipe.specs.Recipe.{isRecipe}
 use Rattle.records_history.specs.History.{Offer, got}
 use Rattle.records_history.specs.Agree as store
-use Rattle.records_history.specs.Agree.{NoRecords, SameSet, HoldSame, Counts, Highest}
-use Rattle.records_history.proofs.Agree.{highest-moved, agreement}
+use Rattle.records_history.specs.Agree.{NoRecords, SameSet, HoldSame, Highest}
+use Rattle.records_history.proofs.Agree.{offered-parts, offered-left, offered-right, highest-moved, agreement}
 use Rattle.message.specs.Limits.{mostBody}
 use Rattle.stream.specs.declared.Answer as stream
 use Rattle.stream.specs.declared.Answer.the-variants as framed
@@ -31,16 +29,16 @@ use Rattle.demands.specs.Box.{Entry, Box, Who, Ask, Fits, connOf, offerIn, offe
 use Rattle.demands.specs.Demands as demands
 use Rattle.demands.specs.Agree as inner
 use Rattle.demands.specs.Agree.{Sends, Brings, Bench}
-use Rattle.demands.proofs.Connections.{gate-open}
+use Rattle.demands.proofs.Connections.{gate-open, whole-open}
 use Rattle.demands.proofs.Receives.{let-through, runs-as}
-use Rattle.demands.proofs.Agree.{whole-open, offer-ind, sends-offer, benches-agree}
+use Rattle.demands.proofs.Agree.{offer-ind, sends-offer, benches-agree}
 use Rattle.host_demands.specs.Calls as host
-use Rattle.host_demands.specs.Calls.{Memory, History, Seen, Lent, Export, noEvent, receivedBy, returns, leaves, meant, seesOf, leavesAll, meantAll, seesAll, worldIn, historyOf, Stands, entrySeen}
+use Rattle.host_demands.specs.Calls.{Memory, History, Seen, Lent, Export, noEvent, receivedBy, returns, leaves, meant, seesOf, meantAll, seesAll, worldIn, historyOf, entrySeen}
 use Rattle.host_demands.specs.Hosted.{Started, nothingYet, ReadyFor, Follows, FollowsAll, after, Finds}
 use Rattle.host_demands.specs.Agree.{Offers, typed, sent, Offered, Never11, Program, end, WasOffered, SameOffers, ProgramsAgree}
 use Rattle.host_demands.proofs.Receiving.{offers-now, offers-same}
 use Rattle.host_demands.proofs.Accepting.{finds-there, finds-here}
-use Rattle.host_demands.proofs.Running.{one-call, all-calls, fits-head, ready-after, later-fit}
+use Rattle.host_demands.proofs.Running.{one-call, all-calls, ready-after, later-fit}
 
 -- ---- which calls offer something: puts and receives
 abbrev sort : Export → ℕ
@@ -58,21 +56,6 @@ sort (host.lookupNext j) = 2
 sort (host.lookupReplies j id body view) = 2
 sort (host.lookupHears i j id) = 2
 sort (host.lookupFails j id) = 2
-
-offered-parts : (key v : List ℕ) (os ps : List Offer) → store.Offered key v (os ++ ps) → store.Offered key v os ⊎ store.Offered key v ps
-unfolding store.Offered
-offered-parts key v [] ps o = inr o
-offered-parts key v (x ∷ os) ps o = ⊎-elim (λ e. inl (inl e)) (λ r. ⊎-elim (λ a. inl (inr a)) (λ b. inr b) (offered-parts key v os ps r)) o
-
-offered-left : (key v : List ℕ) (os ps : List Offer) → store.Offered key v os → store.Offered key v (os ++ ps)
-unfolding store.Offered
-offered-left key v [] ps o = absurd o
-offered-left key v (x ∷ os) ps o = ⊎-elim (λ e. inl e) (λ r. inr (offered-left key v os ps r)) o
-
-offered-right : (key v : List ℕ) (os ps : List Offer) → store.Offered key v ps → store.Offered key v (os ++ ps)
-unfolding store.Offered
-offered-right key v [] ps o = o
-offered-right key v (x ∷ os) ps o = inr (offered-right key v os ps o)
 
 kept-buffer : (x : stream.Answer) (me : Peer) (c : Conn) (n : ℕ) (b t k y : List ℕ) → byEvent x me c n b t k y .buffer ≡ b
 kept-buffer (framed.Message l) me c n b t k y = refl
@@ -274,21 +257,27 @@ module _ (p : Program) where
   abbrev begun : World Who Box Ask
   begun = worldIn (p .memory) nothingYet
 
-  abbrev bench : Bench
-  bench = record { me = peerIn (p .me); own = p .started .own; start = begun; ready = p .ready; does = meantAll (p .me) (p .memory) (p .calls); fit = p .fit }
-
   follows : FollowsAll (p .me) (p .memory) begun (p .calls)
   follows = all-calls (p .me) (p .started) (p .memory) begun (p .calls) (p .lent) (p .ready) refl (p .fit)
 
+  log-quiet : inner.Never11 (after (p .me) begun (p .memory) (p .calls) .shared .state .log)
+  log-quiet = quiet-log (p .me) (p .started) _ (subst (Quiet (p .me) (p .started)) (sym (follows .log)) (quiet-all (p .me) (p .started) (p .calls) (p .memory) (p .never)))
+
+  abbrev bench : Bench
+  bench =
+      record {
+        me = peerIn (p .me);
+        own = p .started .own;
+        start = begun;
+        ready = p .ready;
+        empty = p .empty;
+        does = meantAll (p .me) (p .memory) (p .calls);
+        fit = p .fit;
+        never = log-quiet;
+      }
+
   held-is : end p .records ≡ inner.held bench
   held-is = ap (λ (w : World Who Box Ask). w .shared .state .records) (follows .stands)
-
-  keeps : inner.Keeps bench
-  keeps =
-      record {
-        empty = p .empty;
-        never = quiet-log (p .me) (p .started) _ (subst (Quiet (p .me) (p .started)) (sym (follows .log)) (quiet-all (p .me) (p .started) (p .calls) (p .memory) (p .never)));
-      }
 
   all-of : AddsAll (p .me) (p .started) (p .memory) nothingYet (p .calls)
   all-of = adds-all (p .me) (p .started) (p .calls) (p .memory) nothingYet (p .lent) (p .ready) (p .fit)
@@ -309,13 +298,13 @@ same-set p q s =
 two : (p q : Program) → SameOffers p q → HoldSame (end p .records) (end q .records)
 two p q s =
     subst (λ (x : List ℕ). HoldSame x (end q .records)) (sym (held-is p))
-    (subst (HoldSame (inner.held (bench p))) (sym (held-is q)) (benches-agree .two (bench p) (bench q) (keeps p) (keeps q) (same-set p q s)))
+    (subst (HoldSame (inner.held (bench p))) (sym (held-is q)) (benches-agree .two (bench p) (bench q) (same-set p q s)))
 
 found : (p q : Program) → SameOffers p q → (key v : List ℕ) → Finds (p .me) (end p) key v → Finds (q .me) (end q) key v
 found p q s key v f =
     finds-here (q .me) (q .started) (end q) (now q) (follows q .lent) (still q) key v
     (subst (λ (x : List ℕ). inner-finds (q .me) x) (sym (held-is q))
-    (benches-agree .found (bench p) (bench q) (keeps p) (keeps q) (same-set p q s) key v
+    (benches-agree .found (bench p) (bench q) (same-set p q s) key v
     (subst (λ (x : List ℕ). inner-finds (p .me) x) (held-is p) (finds-there (p .me) (p .started) (end p) (now p) (follows p .lent) (still p) key v f))))
   where
     inner-finds : List ℕ → List ℕ → Type 0
@@ -330,7 +319,7 @@ found p q s key v f =
 highest : (p : Program) (key : List ℕ) → Highest isRecipe key (WasOffered p key) (got (end p .records) key)
 highest p key =
     subst (λ (x : List ℕ). Highest isRecipe key (WasOffered p key) (got x key)) (sym (held-is p))
-    (highest-moved isRecipe key _ _ (offered-back p key) (offered-there p key) _ (benches-agree .highest (bench p) (keeps p) key))
+    (highest-moved isRecipe key _ _ (offered-back p key) (offered-there p key) _ (benches-agree .highest (bench p) key))
 
 pub programs-agree : ProgramsAgree
 programs-agree =

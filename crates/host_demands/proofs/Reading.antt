@@ -18,7 +18,7 @@ use Rattle.wire.specs.declared.Found.{Found}
 use Rattle.wire.specs.declared.Found.the-variants.{At, Nothing}
 use Rattle.wire.proofs.Scan.{walk-at, walk-inside}
 use Rattle.message.specs.Limits.{leastReply}
-use Rattle.message.specs.Message.{Message, messageOf, wellMessage, decode, encode, frame}
+use Rattle.message.specs.Message.{Message, messageOf, decode, encode, frame}
 use Rattle.message.specs.View.{fieldsOf, readingOf, idAt, addressesAt, connectionAt, closerAt, providersAt, meant, heldMeant, peerMeant}
 use Rattle.message.specs.Claims.{Cuttable, FieldsIn}
 use Rattle.message.specs.declared.Fields.{Fields}
@@ -40,6 +40,7 @@ use Rattle.host_answers.specs.Answers.{readNumber, readNumbers, entryFrom, late
 use Rattle.demands.specs.Demands.{Writes}
 use Rattle.demands.proofs.Leaving.{refused-leaves}
 use Rattle.demands.proofs.Hearing as demands
+use Rattle.demands.proofs.Deal.{decoded}
 use Rattle.host_demands.specs.Messages.{IsPart, RecordShown, Shows, ReadAs, ReadTold, AddressGiven, Addresses, PeerGiven, Peers, PeersTold, WrittenAs, WriteTold, MessagesCross}
 
 -- ---- the eight numbers of a view
@@ -148,18 +149,10 @@ module _ (s : List ℕ) where
       let on : spans f (fieldsAt s (p .end)) ≡ l = same-rest p _ l (sym (walk-at s f from p (ap firstOf e)) ∙ e) in
       (p, peer-given (entryFrom s list from) p (g from ∙ ap firstOf e) (record { ordered = i .ordered; ends = i .ends }), peers-given list f g l (p .end) on)
 
-  decoded : (m : Message) → decode s ≡ some m → messageOf s ≡ m
-  unfolding decode
-  decoded m e = go (wellMessage s) e
-    where
-      go : (b : Bool) → cond b (some (messageOf s)) none ≡ some m → messageOf s ≡ m
-      go true q = cc
-      go false q = absurd (let z : _≡_ {A = ℕ} 0 1 = cc in omega arith)
-
   peers-told : (m : Message) → decode s ≡ some m → PeersTold s m
   unfolding entryFrom closerAt providersAt fields
   peers-told m e =
-      let d : messageOf s ≡ m = decoded m e in
+      let d : messageOf s ≡ m = decoded s m e in
       record {
         closer = subst (Peers s 0 0) (closer-meant s ∙ ap (λ (x : Message). x .closer) d) (peers-given 0 8 (λ from. refl) (closerAt s) 0 refl);
         providers = λ list h. subst (Peers s list 0) (providers-meant s ∙ ap (λ (x : Message). x .providers) d)

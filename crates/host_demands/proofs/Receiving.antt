@@ -38,6 +38,7 @@ use Rattle.demands.proofs.Connections.{gate-shut, gate-open}
 use Rattle.demands.proofs.Receives.{let-through, runs-as, receives as box-receives}
 use Rattle.demands.proofs.Sound.{sound}
 use Rattle.demands.proofs.Never.{open-answer}
+use Rattle.demands.proofs.Agree.{noted-offers}
 use Rattle.host_demands.specs.Calls as seen
 use Rattle.host_demands.specs.Calls.{Memory, History, Lent, Seen, kept, noEvent, bytesOf, receivedBy, receiveCode, takenBy, receiveLeaves, lineIn, worldIn, Stands, entrySeen, seesOf, marksOf, receives}
 use Rattle.host_demands.specs.Hosted.{Started, ReadyFor, Follows}
@@ -75,12 +76,6 @@ module _ (i at : ℕ) (s : Sight) (body t k y : List ℕ) (os : List Offer) (a :
   noted-lookups (Heard n f) = refl
   noted-lookups (Refused r) = refl
   noted-lookups More = refl
-
-  noted-offers : (x : Answer) → after x .offers ≡ a .offers ++ os
-  noted-offers (Reply n) = refl
-  noted-offers (Heard n f) = refl
-  noted-offers (Refused r) = refl
-  noted-offers More = refl
 
   noted-inbox : (x : Answer) (m : List ℕ) → AnswerRaised x → HeardFits x s body m
       → cond (eqb (answerNumber x) 66) (setAt (a .inbox) i (take (answerLength x) m)) (a .inbox) ≡ after x .inbox

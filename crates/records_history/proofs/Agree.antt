@@ -3,22 +3,44 @@
 use mathlib.Core.Path.{_≡_, refl, sym, ap, _∙_, subst}
 use mathlib.Core.Logic.{_⊎_, inl, inr, ⊎-elim}
 use mathlib.Core.Bool.{Bool, true, false, _&&_, cond}
-use mathlib.Core.List.{List, [], _∷_}
+use mathlib.Core.List.{List, [], _∷_, _++_}
 use Prim.Native.Nat.{ℕ}
 use Rattle.octets.specs.Octets.{same}
 use Rattle.octets.proofs.Bools.{and-l, and-r, and-i, and-off, to-false, either, cond-ind, cond-yes, cond-no}
 use Rattle.octets.proofs.Strings.{same-eq, same-yes, differ}
 use Rattle.recipe.specs.Recipe.{isRecipe, outranks}
 use Rattle.recipe.proofs.Rank.{outranks-asym, outranks-total, outranks-self, outranked-not}
-use Rattle.records.specs.Store.{slotsOf, slot, keyOf, valueOf, isKey, inForm, slotWith, putAnswer, putAfter}
+use Rattle.records.specs.Store.{slot, keyOf, valueOf, isKey, inForm, slotWith, putAnswer, putAfter}
 use Rattle.records.specs.declared.Answer.{Answer}
-use Rattle.records.specs.declared.Answer.the-variants.{Taken, Refused}
+use Rattle.records.specs.declared.Answer.the-variants.{Refused}
 use Rattle.refusal.specs.declared.Refusal.the-variants.{NoRecordSlot}
 use Rattle.record_slots.proofs.Finding.{with-holds, holds-out, holds-in}
 use Rattle.records_history.specs.History.{Got, Has, None, got, taken, Offer, accepts, offered, after}
 use Rattle.records_history.specs.Agree.{NoRecords, Offered, SameSet, Never11, Within, HoldSame, Counts, Highest, higher, heldFrom, Agreement}
 use Rattle.records_history.proofs.Stays.{has, none, Over, put-other, put-refused, put-form, cleared-free, free-form, free-none, form-kept, step-taken}
 use Rattle.records_history.proofs.Holding.{held-in, held-value, held-is-found, judged-first, put-told, joins-unless-11}
+
+-- ---- offers, and more of them
+module _ (k v : List ℕ) where
+  pub offered-parts : (os ps : List Offer) → Offered k v (os ++ ps) → Offered k v os ⊎ Offered k v ps
+  unfolding Offered
+  offered-parts [] ps h = inr h
+  offered-parts (o ∷ os) ps h = ⊎-elim (λ e. inl (inl e)) (λ r. ⊎-elim (λ a. inl (inr a)) (λ b. inr b) (offered-parts os ps r)) h
+
+  pub offered-left : (os ps : List Offer) → Offered k v os → Offered k v (os ++ ps)
+  unfolding Offered
+  offered-left [] ps h = absurd h
+  offered-left (o ∷ os) ps h = ⊎-elim (λ e. inl e) (λ r. inr (offered-left os ps r)) h
+
+  pub offered-right : (os ps : List Offer) → Offered k v ps → Offered k v (os ++ ps)
+  unfolding Offered
+  offered-right [] ps h = h
+  offered-right (o ∷ os) ps h = inr (offered-right os ps h)
+
+pub never-more : (t : List ℕ) (os ps : List Offer) → Never11 t os → Never11 (after t os) ps → Never11 t (os ++ ps)
+unfolding Never11 after
+never-more t [] ps a b = b
+never-more t (o ∷ os) ps a b = (a .0, never-more (offered t o) os ps (a .1) b)
 
 -- ---- a put keeps the higher-ranking of two
 higher-new : (g : Got) (v : List ℕ) → Over v (higher g v)

@@ -3,9 +3,8 @@ use Prim.Native.Nat.{ℕ, _<_}
 use native.Mathlib.Omega.{arith}
 use mathlib.Core.Path.{_≡_, refl, sym, ap, _∙_}
 use mathlib.Core.Logic.{inl, inr, ⊎-elim}
-use mathlib.Core.Bool.{Bool, true, false, cond}
+use mathlib.Core.Bool.{true, false}
 use mathlib.Core.List.{List, [], _∷_}
-use lib.Dec.{leb}
 use lib.ListN.{length, length-replicate}
 use Rattle.octets.specs.Octets.{littleNumber, lower, same, startsWith}
 use Rattle.octets.specs.Search.{allOf}
@@ -17,7 +16,6 @@ use Rattle.records.specs.Store.{slotsOf, isKey}
 use Rattle.records_history.specs.History.{Got, Has, None, got, Offer, offered, after, cleared, accepts, taken}
 use Rattle.records_history.specs.Agree.{NoRecords, Offered, SameSet, higher, heldFrom, heldAfter}
 use Rattle.records_history.specs.Fakes.{Agrees, takesNewest, goesBySequence, forgets, noRules, NoFake}
-use Rattle.records_history.proofs.Kept.{got-none}
 use Rattle.records_history.proofs.Stays.{has, none, put-refused, cleared-free, free-form, free-none, step-taken}
 use Rattle.records_history.proofs.Holding.{put-told}
 use Rattle.records_history.proofs.Agree.{only, held-highest}

@@ -6,11 +6,10 @@ use mathlib.Core.Bool.{Bool, true, false, not, _&&_, cond}
 use mathlib.Core.List.{List, [], _∷_}
 use Prim.Native.Nat.{ℕ, zero, suc, _+_, _*_, _<_}
 use native.Mathlib.Omega.{arith}
-use lib.Dec.{ltb, eqb}
+use lib.Dec.{ltb}
 use lib.ListN.{getD}
 use borrow.Author.Tests.{ltb-true, ltb-false, eq-eqb}
 use Rattle.octets.specs.Octets.{part, same}
-use Rattle.octets.specs.Search.{all}
 use Rattle.octets.proofs.Bools.{and-fails, not-both, to-false, either, cond-ind}
 use Rattle.octets.proofs.Searching.{all-intro}
 use Rattle.octets.proofs.Parts.{part-at}

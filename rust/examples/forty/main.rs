@@ -104,9 +104,14 @@ fn run(wanted: &Wanted) -> Result<ExitCode, String> {
         Box::new(memory::Memory::new(wanted.benches, wanted.seed))
     };
     let mut world = World::new(wanted.benches, wanted.seed, net).map_err(|refusal| format!("a box can't be started: {refusal}"))?;
-    world.run(progress());
+    let mut tell = progress();
+    world.run(&mut tell);
     let kinds = kinds(&world);
-    draw(&svg::draw(&world.benches, &kinds))?;
+    draw(&svg::draw(&world.benches, &kinds))?; // before every bench holds every recipe
+    if world.phase == Phase::Agreeing {
+        world.agree();
+        tell(&world);
+    }
     let problems = world.problems();
     let said = summary(wanted, &world, &kinds, start.elapsed()) + &verdict(&problems);
     // a reader that has gone away is no failure of the run

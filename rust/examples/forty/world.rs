@@ -100,10 +100,10 @@ impl World {
         self.benches.iter().map(|bench| bench.got.len()).sum()
     }
 
-    /// Runs it all. `tell` is called with the state now and then.
+    /// Runs it all up to the last phase. `tell` is called with the state now and then.
     pub fn run(&mut self, mut tell: impl FnMut(&World)) {
         let start = Instant::now();
-        while self.phase != Phase::Over && start.elapsed() < LONGEST {
+        while self.phase != Phase::Agreeing && start.elapsed() < LONGEST {
             self.step();
             tell(self);
         }
@@ -158,8 +158,7 @@ impl World {
             Phase::Putting => self.put(0),
             Phase::PuttingNewer => self.put(1),
             Phase::Finding => self.find_all(),
-            Phase::Agreeing => self.offer_all(),
-            Phase::Joining | Phase::Over => {}
+            Phase::Joining | Phase::Agreeing | Phase::Over => {}
         }
     }
 
@@ -178,8 +177,8 @@ impl World {
         }
     }
 
-    /// Both versions of all recipes go to every honest bench, past the net.
-    fn offer_all(&mut self) {
+    /// The last phase, past the net: every honest bench is offered both versions of every recipe.
+    pub fn agree(&mut self) {
         let World { benches, tally, net, rng, recipes, .. } = self;
         let ids: Vec<Vec<u8>> = benches.iter().map(|bench| bench.node.id().to_vec()).collect();
         let offers = recipes.iter().flat_map(|recipe| recipe.versions.iter().map(|value| Record { key: &recipe.key, value }));
@@ -188,9 +187,10 @@ impl World {
         for bench in benches.iter_mut().filter(|bench| bench.is_honest()) {
             agree::offer_all(&mut bench.node, &ids, &offers, &mut around);
         }
+        self.phase = self.phase.next();
     }
 
-    /// The honest benches that don't hold the newer version of each recipe and nothing else, byte for byte.
+    /// The honest benches that hold other records than the newer version of each recipe, byte for byte.
     fn at_odds(&self) -> Vec<usize> {
         let mut newer: Vec<(&[u8], &[u8])> = self.recipes.iter().map(|recipe| (&recipe.key[..], &recipe.versions[1][..])).collect();
         newer.sort_unstable();
@@ -216,7 +216,7 @@ impl World {
                 }
             }
         }
-        problems.extend(self.at_odds().iter().map(|bench| format!("bench {bench} doesn't hold the newer version of each recipe, and nothing else")));
+        problems.extend(self.at_odds().iter().map(|bench| format!("bench {bench} holds other records than the newer version of each recipe")));
         let no_slot = self.tally.refusals[Refusal::NoRecordSlot.number() as usize];
         if no_slot > 0 {
             problems.push(format!("{no_slot} records had no slot, where there is one for every recipe"));
