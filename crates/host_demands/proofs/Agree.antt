@@ -116,8 +116,11 @@ module _ (me : List ℕ) (S : Started me) where
         body-fits n e =
             let r : framing ≡ runOf (world .lines i .framing) (world .lines i .buffer) piece =
             call-runs (world .lines i .framing) (world .lines i .buffer) piece (ready .lines i .form) (ready .lines i .room) going in
-            omega (arith, message-fits (world .lines i .framing) (world .lines i .buffer) piece n (ready .lines i .form) (ap (λ (o : streams.Out). o .got .answer) (sym r) ∙ e),
-            length-take n (framing .buffer))
+            omega (
+              arith,
+              message-fits (world .lines i .framing) (world .lines i .buffer) piece n (ready .lines i .form) (ap (λ (o : streams.Out). o .got .answer) (sym r) ∙ e),
+              length-take n (framing .buffer),
+            )
 
         buffer-is : receivedBy me m i piece .buffer ≡ framing .buffer
         buffer-is =
