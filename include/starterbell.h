@@ -221,7 +221,8 @@ uint32_t starterbell_nearest(const uint8_t *me, size_t me_length, const uint8_t 
 /* ---- Records */
 
 /* Puts a record of our own into the store, under the rules for a PUT_VALUE. DONE, or 0 or 8 to 11. A value is judged (9) before it is compared with what is held: one
-   that is held from before a rule on recipes is found and sent as it is, but not taken again. */
+   that is held from before a rule on recipes is found and sent as it is, but not taken again. Boxes that start with no records, are offered the same ones, typed here
+   or sent by peers, in any order and with repeats, and never give 11 hold the same keys with identical values. */
 uint32_t starterbell_put(uint8_t *records, size_t records_length, const uint8_t *key, size_t key_length, const uint8_t *value, size_t value_length);
 
 /* Where a key's value stands in `records`. HELD, and where it starts and ends goes to `out`; NOT_HELD; or 0. */

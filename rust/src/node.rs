@@ -166,7 +166,8 @@ impl Node {
     }
 
     /// Puts a record of our own into the store: a key of `/wind/` and 1 to 122 bytes more, a value that is a [recipe](crate::recipe). Refused where the one
-    /// that is held ranks higher.
+    /// that is held ranks higher. Boxes that start with no records and are offered the same ones, put here or sent by peers, hold the same in the end, in whatever
+    /// order they came, unless one had no slot left ([`Refusal::NoRecordSlot`]).
     pub fn put(&mut self, key: &[u8], value: &[u8]) -> Result<(), Refusal> {
         answer(raw::put(&mut self.records, key, value)).map(|_| ())
     }

@@ -62,6 +62,32 @@ kept-buffer (framed.Message l) me c n b t k y = refl
 kept-buffer (framed.Refused r) me c n b t k y = refl
 kept-buffer framed.More me c n b t k y = refl
 
+-- what is added to the offers of a world is what P says of a key and a value
+record Adds (P : List ℕ → List ℕ → Type 0) (before now : List Offer) : Type 0 where
+  os : List Offer
+  adds : now ≡ before ++ os
+  there : (key v : List ℕ) → P key v → store.Offered key v os
+  back : (key v : List ℕ) → store.Offered key v os → P key v
+
+-- nothing that was seen has the number 11
+unfoldable Quiet : List Seen → Type 0
+Quiet [] = Unit {0}
+Quiet (s ∷ ss) = (s .number ≡ 11 → ⊥) × Quiet ss
+
+quiet-more : (ss ts : List Seen) → Quiet ss → Quiet ts → Quiet (ss ++ ts)
+unfolding Quiet
+quiet-more [] ts a b = b
+quiet-more (s ∷ ss) ts a b = (a .0, quiet-more ss ts (a .1) b)
+
+seen-11 : (e : Entry) → inner.Gives11 e → entrySeen e .number ≡ 11
+seen-11 e (inner.message i at q) = ap (λ (x : Entry). entrySeen x .number) q
+seen-11 e (inner.typed q) = ap (λ (x : Entry). entrySeen x .number) q
+
+quiet-log : (es : List Entry) → Quiet (map entrySeen es) → inner.Never11 es
+unfolding Quiet inner.Never11
+quiet-log [] q = tt
+quiet-log (e ∷ es) q = ((λ g. q .0 (seen-11 e g)), quiet-log es (q .1))
+
 module _ (me : List ℕ) (S : Started me) where
   abbrev us : Peer
   us = peerIn me
@@ -71,14 +97,11 @@ module _ (me : List ℕ) (S : Started me) where
     abbrev world : World Who Box Ask
     world = worldIn m h
 
-    record Adds (c : Export) : Type 0 where
-      os : List Offer
-      adds : call (box.box us) world (meant me m c) .shared .state .offers ≡ h .offers ++ os
-      there : (key v : List ℕ) → Offers me m key v c → store.Offered key v os
-      back : (key v : List ℕ) → store.Offered key v os → Offers me m key v c
+    abbrev AddsOne : Export → Type 0
+    AddsOne c = Adds (λ key v. Offers me m key v c) (h .offers) (call (box.box us) world (meant me m c) .shared .state .offers)
 
     -- ---- a call that is neither
-    idle : (c : Export) → sort c ≡ 2 → call (box.box us) world (meant me m c) .shared .state .offers ≡ h .offers → Adds c
+    idle : (c : Export) → sort c ≡ 2 → call (box.box us) world (meant me m c) .shared .state .offers ≡ h .offers → AddsOne c
     unfolding store.Offered
     idle c e q = record { os = []; adds = q ∙ sym (append-nil (h .offers)); there = none; back = λ key v o. absurd o }
       where
@@ -87,7 +110,7 @@ module _ (me : List ℕ) (S : Started me) where
         none key v (sent i piece t b) = let z : sort c ≡ 1 = ap sort t in omega (arith, e, z)
 
     -- ---- a put
-    put-adds : (k u : List ℕ) → Adds (host.put k u)
+    put-adds : (k u : List ℕ) → AddsOne (host.put k u)
     unfolding call store.Offered
     put-adds k u = record { os = record { key = k; value = u } ∷ []; adds = refl; there = there; back = λ key v o. ⊎-elim (λ e. typed (ap₂ host.put (e .0) (e .1))) (λ x. absurd x) o }
       where
@@ -131,8 +154,7 @@ module _ (me : List ℕ) (S : Started me) where
 
         in-message : (n : ℕ) → framing .got .answer ≡ framed.Message n
             → offersIn who (framing .got .answer) (receivedBy me m i piece .buffer) ≡ offerIn who (take n (framing .buffer))
-        in-message n e =
-            ap₂ (λ (x : stream.Answer) (b : List ℕ). offersIn who x b) e buffer-is
+        in-message n e = ap₂ (λ (x : stream.Answer) (b : List ℕ). offersIn who x b) e buffer-is
 
         there : (key v : List ℕ) → Offers me m key v (host.receives i piece) → store.Offered key v (offersIn who (framing .got .answer) (receivedBy me m i piece .buffer))
         unfolding store.Offered
@@ -160,10 +182,10 @@ module _ (me : List ℕ) (S : Started me) where
             go (framed.Refused r) e y = absurd y
             go framed.More e y = absurd y
 
-        open-adds : Adds (host.receives i piece)
+        open-adds : AddsOne (host.receives i piece)
         open-adds = record { os = offersIn who (framing .got .answer) (receivedBy me m i piece .buffer); adds = offers-now me S m h len ready i piece going; there = there; back = back }
 
-      shut-adds : isShut (world .lines i .framing) ≡ true → Adds (host.receives i piece)
+      shut-adds : isShut (world .lines i .framing) ≡ true → AddsOne (host.receives i piece)
       unfolding store.Offered
       shut-adds shut =
           record {
@@ -173,29 +195,26 @@ module _ (me : List ℕ) (S : Started me) where
             back = λ key v o. absurd o;
           }
 
-    adds : (c : Export) → Adds c
+    adds-one : (c : Export) → AddsOne c
     unfolding call
-    adds (host.opens i id server asking addresses buffer) = idle _ refl refl
-    adds (host.receives i piece) = ⊎-elim (λ shut. shut-adds i piece shut) (λ going. open-adds i piece going) (either (isShut (world .lines i .framing)))
-    adds (host.ends i) = idle _ refl refl
-    adds (host.put k u) = put-adds k u
-    adds (host.find k) = idle _ refl refl
-    adds (host.seen id client addresses) = idle _ refl refl
-    adds (host.settle head id client addresses answered) = idle _ refl refl
-    adds (host.remove id) = idle _ refl refl
-    adds (host.nearest k) = idle _ refl refl
-    adds (host.lookupStarts j k limit) = idle _ refl refl
-    adds (host.lookupNext j) = idle _ refl refl
-    adds (host.lookupReplies j id body view) = idle _ refl refl
-    adds (host.lookupHears i j id) = idle _ refl refl
-    adds (host.lookupFails j id) = idle _ refl refl
+    adds-one (host.opens i id server asking addresses buffer) = idle _ refl refl
+    adds-one (host.receives i piece) = ⊎-elim (λ shut. shut-adds i piece shut) (λ going. open-adds i piece going) (either (isShut (world .lines i .framing)))
+    adds-one (host.ends i) = idle _ refl refl
+    adds-one (host.put k u) = put-adds k u
+    adds-one (host.find k) = idle _ refl refl
+    adds-one (host.seen id client addresses) = idle _ refl refl
+    adds-one (host.settle head id client addresses answered) = idle _ refl refl
+    adds-one (host.remove id) = idle _ refl refl
+    adds-one (host.nearest k) = idle _ refl refl
+    adds-one (host.lookupStarts j k limit) = idle _ refl refl
+    adds-one (host.lookupNext j) = idle _ refl refl
+    adds-one (host.lookupReplies j id body view) = idle _ refl refl
+    adds-one (host.lookupHears i j id) = idle _ refl refl
+    adds-one (host.lookupFails j id) = idle _ refl refl
 
   -- ==== any calls
-  record AddsAll (m : Memory) (h : History) (cs : List Export) : Type 0 where
-    os : List Offer
-    adds : after me (worldIn m h) m cs .shared .state .offers ≡ h .offers ++ os
-    there : (key v : List ℕ) → Offered me key v m cs → store.Offered key v os
-    back : (key v : List ℕ) → store.Offered key v os → Offered me key v m cs
+  abbrev AddsAll : Memory → History → List Export → Type 0
+  AddsAll m h cs = Adds (λ key v. Offered me key v m cs) (h .offers) (after me (worldIn m h) m cs .shared .state .offers)
 
   adds-all : (cs : List Export) (m : Memory) (h : History) → Lent m → ReadyFor me (worldIn m h) → AllFit Fits (meantAll me m cs) → AddsAll m h cs
   unfolding meantAll calls Offered store.Offered
@@ -203,7 +222,7 @@ module _ (me : List ℕ) (S : Started me) where
   adds-all (c ∷ cs) m h len r f =
       let w : World Who Box Ask = call (box.box us) (worldIn m h) (meant me m c) in
       let one : Follows me m (worldIn m h) c = one-call me S m (worldIn m h) c len r refl in
-      let a : Adds m h len r c = adds m h len r c in
+      let a : AddsOne m h len r c = adds-one m h len r c in
       let later : AddsAll (leaves me m c) (historyOf w) cs =
       adds-all cs (leaves me m c) (historyOf w) (one .lent) (subst (ReadyFor me) (sym (one .stands)) (ready-after me S m (worldIn m h) c cs r f)) (later-fit me S m c cs f) in
       record {
@@ -215,15 +234,6 @@ module _ (me : List ℕ) (S : Started me) where
       }
 
   -- ==== 11
-  unfoldable Quiet : List Seen → Type 0
-  Quiet [] = Unit {0}
-  Quiet (s ∷ ss) = (s .number ≡ 11 → ⊥) × Quiet ss
-
-  quiet-more : (ss ts : List Seen) → Quiet ss → Quiet ts → Quiet (ss ++ ts)
-  unfolding Quiet
-  quiet-more [] ts a b = b
-  quiet-more (s ∷ ss) ts a b = (a .0, quiet-more ss ts (a .1) b)
-
   quiet-call : (m : Memory) (c : Export) → (returns me m c ≡ 11 → ⊥) → Quiet (seesOf me m c)
   unfolding Quiet
   quiet-call m (host.opens i id server asking addresses buffer) n = (n, tt)
@@ -246,15 +256,6 @@ module _ (me : List ℕ) (S : Started me) where
   quiet-all [] m n = tt
   quiet-all (c ∷ cs) m n = quiet-more (seesOf me m c) (seesAll me (leaves me m c) cs) (quiet-call m c (n .0)) (quiet-all cs (leaves me m c) (n .1))
 
-  seen-11 : (e : Entry) → inner.Gives11 e → entrySeen e .number ≡ 11
-  seen-11 e (inner.message i at q) = ap (λ (x : Entry). entrySeen x .number) q
-  seen-11 e (inner.typed q) = ap (λ (x : Entry). entrySeen x .number) q
-
-  quiet-log : (es : List Entry) → Quiet (map entrySeen es) → inner.Never11 es
-  unfolding Quiet inner.Never11
-  quiet-log [] q = tt
-  quiet-log (e ∷ es) q = ((λ g. q .0 (seen-11 e g)), quiet-log es (q .1))
-
 -- ==== a program is a bench
 module _ (p : Program) where
   abbrev begun : World Who Box Ask
@@ -264,7 +265,7 @@ module _ (p : Program) where
   follows = all-calls (p .me) (p .started) (p .memory) begun (p .calls) (p .lent) (p .ready) refl (p .fit)
 
   log-quiet : inner.Never11 (after (p .me) begun (p .memory) (p .calls) .shared .state .log)
-  log-quiet = quiet-log (p .me) (p .started) _ (subst (Quiet (p .me) (p .started)) (sym (follows .log)) (quiet-all (p .me) (p .started) (p .calls) (p .memory) (p .never)))
+  log-quiet = quiet-log _ (subst Quiet (sym (follows .log)) (quiet-all (p .me) (p .started) (p .calls) (p .memory) (p .never)))
 
   abbrev bench : Bench
   bench =

@@ -26,7 +26,7 @@ unfoldable pub forgets : Got → List ℕ → Got
 forgets None v = Has v
 forgets (Has u) v = cond (outranks u v) None (Has v)
 
--- rules that let everything through, as an older box's may
+-- other rules, by which every value is a recipe
 abbrev pub noRules : List ℕ → Bool
 noRules v = true
 
