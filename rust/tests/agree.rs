@@ -2,7 +2,7 @@
 //! and whether it is typed or sent. What they hold follows from the set of offers alone, and is worked out here in plain Rust.
 
 use starterbell::message::Draft;
-use starterbell::Refusal::{BreaksRules, BrokenRecipe, NoRecordSlot, Outranked};
+use starterbell::Refusal::{BreaksRules, BrokenRecipe, EndedInside, Malformed, NoRecordSlot, Outranked, PrefixNotMinimal, TooLong, UnknownType};
 use starterbell::{Node, Peer, Refusal, Room};
 use std::collections::{BTreeMap, BTreeSet};
 
@@ -132,11 +132,14 @@ fn held(node: &Node) -> Held {
 fn request(offer: Option<&Offer>, rng: &mut Rng) -> Vec<u8> {
     let other = rng.pick(&[Draft::ping(), Draft::find_node(b"p"), Draft::get_value(b"/wind/g")]);
     let Some(Offer { key, value, .. }) = offer else { return other.to_vec().expect("short") };
+    Draft::put_value(key, value).to_vec().unwrap_or_else(|_| put_value(key, key, value))
+}
+
+/// A PUT_VALUE by hand, whose record may have another key.
+fn put_value(key: &[u8], record_key: &[u8], value: &[u8]) -> Vec<u8> {
     let measured = |bytes: &[u8]| [&varint(bytes.len()), bytes].concat();
-    Draft::put_value(key, value).to_vec().unwrap_or_else(|_| {
-        let record = [&[10], &measured(key)[..], &[18], &measured(value)].concat();
-        measured(&[&[18], &measured(key)[..], &[26], &measured(&record)].concat())
-    })
+    let record = [&[10], &measured(record_key)[..], &[18], &measured(value)].concat();
+    measured(&[&[18], &measured(key)[..], &[26], &measured(&record)].concat())
 }
 
 /// Sends requests behind one another, in pieces of any size. One that is refused shuts its connection, and those behind it go on a new one.
@@ -160,8 +163,28 @@ fn send(node: &mut Node, requests: &[Vec<u8>], rng: &mut Rng) -> Vec<Result<(), 
     told
 }
 
+/// A record that would rank highest, and that is no offer or doesn't reach the store: under another key than its message's, behind a message that is refused with
+/// 3 to 6, or cut off by the connection's end. It has to leave no trace.
+fn lose(node: &mut Node, key: &[u8], rng: &mut Rng) {
+    let best = value(b"lost", &[], u64::MAX);
+    let put = Draft::put_value(key, &best).to_vec().expect("a record key");
+    let (bytes, refusal) = match rng.below(6) {
+        0 => (put_value(b"/wind/other", key, &best), BreaksRules),
+        1 => ([&[3, 10, 0, 0][..], &put].concat(), Malformed),
+        2 => ([&[0x80, 0][..], &put].concat(), PrefixNotMinimal),
+        3 => ([&[2, 8, 6][..], &put].concat(), UnknownType),
+        4 => ([&[0x81, 0x80, 1][..], &put].concat(), TooLong),
+        _ => (put[..put.len() - 1].to_vec(), EndedInside),
+    };
+    let mut connection = node.accept(Peer::client(b"p", &[])).expect("a good id");
+    let fed = node.feed(&mut connection, &bytes, |_, _| panic!("a request that is refused gets no reply"));
+    let told = fed.and_then(|()| node.end(&mut connection));
+    assert_eq!(told, Err(refusal));
+}
+
 /// Offers a box what its order says, some typed and some sent, with other things in between. Counts the refusals.
 fn offer_all(node: &mut Node, offers: &[Offer], order: &[usize], rng: &mut Rng, refused: &mut BTreeMap<Refusal, usize>) {
+    let keys: Vec<Vec<u8>> = offers.iter().filter(|offer| offer.flaw != Some(BreaksRules)).map(|offer| offer.key.clone()).collect();
     let mut rest = order;
     while !rest.is_empty() {
         let (some, after) = rest.split_at(1 + rng.below(rest.len().min(6)));
@@ -169,6 +192,7 @@ fn offer_all(node: &mut Node, offers: &[Offer], order: &[usize], rng: &mut Rng, 
         let some: Vec<Option<&Offer>> = some.iter().flat_map(|&n| [None, Some(&offers[n])].into_iter().skip(rng.below(2))).collect();
         let told = if rng.below(2) == 0 {
             let _ = node.seen(Peer::server(&[b'p', rng.below(40) as u8], &[]));
+            lose(node, &rng.pick(&keys), rng);
             some.iter().map(|offer| offer.map_or(Ok(()), |offer| node.put(&offer.key, &offer.value))).collect()
         } else {
             let requests: Vec<_> = some.iter().map(|offer| request(*offer, rng)).collect();
@@ -217,7 +241,7 @@ fn slots_matter_only_where_there_are_too_few() {
     }
 }
 
-// ---- wrong stores, which the same worlds find out
+// ---- that the worlds above can tell: wrong stores in plain Rust, offered the same
 
 /// What a store holds under a key: from what it held, and a value that came, which is a recipe or isn't.
 type Rule = for<'a> fn(Option<&'a [u8]>, &'a [u8], bool) -> Option<&'a [u8]>;
@@ -225,8 +249,9 @@ type Rule = for<'a> fn(Option<&'a [u8]>, &'a [u8], bool) -> Option<&'a [u8]>;
 const RIGHT: Rule = |held, value, good| held.filter(|held| !good || rank(held) > rank(value)).or(good.then_some(value));
 
 /// With these, what is held depends on the order.
-const WRONG: [(&str, Rule); 5] = [
+const WRONG: [(&str, Rule); 6] = [
     ("takes the newest", |held, value, good| RIGHT(held.filter(|_| !good), value, good)),
+    ("takes the newest of one sequence", |held, value, good| RIGHT(held.filter(|held| !good || rank(held).0 != rank(value).0), value, good)),
     ("keeps the first of one sequence", |held, value, good| RIGHT(held, value, good && held.is_none_or(|held| rank(held).0 < rank(value).0))),
     ("never looks past a prefix", |held, value, good| RIGHT(held, value, good && !held.is_some_and(|held| value.starts_with(held)))),
     ("forgets what it holds when it gives 10", |held, value, good| RIGHT(held, value, good).filter(|after| !good || *after == value)),
@@ -254,7 +279,7 @@ fn found_out(rule: Rule) -> (usize, usize) {
 }
 
 #[test]
-fn wrong_stores_are_found_out() {
+fn these_worlds_find_wrong_stores_out() {
     assert_eq!(found_out(RIGHT), (0, 0));
     for (what, rule) in WRONG {
         assert!(found_out(rule).0 > 0, "a store that {what} isn't found out");

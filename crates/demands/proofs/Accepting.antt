@@ -30,6 +30,7 @@ use Rattle.stream.specs.Stream as streams
 use Rattle.stream.specs.Stream.{fresh, isShut, runOf, receiveOf as framedOf}
 use Rattle.stream.proofs.Steps.{call-runs}
 use Rattle.cutting.specs.Frames.{message}
+use Rattle.cutting.specs.World as layer
 use Rattle.cutting.specs.World.{Did, here, Line, Shared, World, Call, hand, asks, call, calls, Ready, AllFit}
 use Rattle.cutting.proofs.World.{Well, play-all, handed-play}
 use Rattle.replies.specs.Replies.{putValue, putValueReply}
@@ -170,20 +171,20 @@ module _ (me : Peer) where
           (noted-records i at (d .answer) (d .sight) body (d .contacts) (d .records) (d .reply) (offerIn w body) ∙ c .records ∙ ap (after (a .records)) offers ∙ one (a .records) offer)
           ∙ step-taken (messageOf body .key) (a .records) offer refl (accepted (g .records))
 
-  -- ---- a piece whose last byte completes it
+  -- ---- a piece that one receive takes whole: what its event does
   pub hand-state : (w : Own me) (s : World Who Box Ask) → Ready (Allowed me) (Good me) s → (i : ℕ) (p : List ℕ) → isShut (s .lines i .framing) ≡ false
       → let l = s .lines i in
       let q = runOf (l .framing) (l .buffer) p in
-      (n : ℕ) → q .got .answer ≡ framed.Message n → q .got .taken ≡ length p
-      → call (box me) s (hand i p) .shared .state ≡ happens me i (l .who) (s .shared .state) (message (l .taken + length p) (take n (q .buffer)))
+      (x : stream.Answer) → q .got .answer ≡ x → q .got .taken ≡ length p
+      → call (box me) s (hand i p) .shared .state ≡ layer.noted (happens me) i (l .who) (s .shared .state) x (l .taken + length p) (q .buffer)
   unfolding call
-  hand-state w s r i p not-shut n e t =
+  hand-state w s r i p not-shut x e t =
       let q : streams.Out = runOf (s .lines i .framing) (s .lines i .buffer) p in
-      let o : streams.Out = streams.out (q .got .framing) (length p) (framed.Message n) (q .buffer) in
-      let x : q ≡ o = λ j. streams.out (q .got .framing) (t j) (e j) (q .buffer) in
+      let o : streams.Out = streams.out (q .got .framing) (length p) x (q .buffer) in
+      let y : q ≡ o = λ j. streams.out (q .got .framing) (t j) (e j) (q .buffer) in
       let d : Well (box me) (sound me w) (here s i) = record { line = r .lines i; good = r .good } in
-      ap (λ (y : Did (Line Who) (Shared Box Ask)). y .shared .state)
-      (handed-play (box me) (sound me w) i (here s i) p d ∙ play-all (box me) p i (here s i) o not-shut x (omega arith))
+      ap (λ (z : Did (Line Who) (Shared Box Ask)). z .shared .state)
+      (handed-play (box me) (sound me w) i (here s i) p d ∙ play-all (box me) p i (here s i) o not-shut y (omega arith))
 
   module _ (w : Own me) (s : World Who Box Ask) (r : Ready (Allowed me) (Good me) s) (i : ℕ) (p key v : List ℕ) (h : Sent me s i p key v) where
     abbrev l : Line Who
@@ -238,7 +239,7 @@ module _ (me : Peer) where
             let m : completed me s i p ≡ messageOf (take n (q .buffer)) =
             ap₂ (λ (x : stream.Answer) (b : List ℕ). messageOf (bodyIn x b)) (ap (λ (x : streams.Out). x .got .answer) runs ∙ e) (ap (λ (x : Out). x .buffer) o) in
             let k : messageOf (take n (q .buffer)) .key ≡ key = ap (λ (x : Message). x .key) (sym m) ∙ h .under in
-            ap (λ (x : Box). got (x .records) key) (hand-state w s r i p not-shut n e t) ∙ ap (got (happens me i (l .who) a (message at body) .records)) (sym k)
+            ap (λ (x : Box). got (x .records) key) (hand-state w s r i p not-shut (framed.Message n) e t) ∙ ap (got (happens me i (l .who) a (message at body) .records)) (sym k)
             ∙ message-got (l .who) a body (h .size) y (h .what) (ap (λ (x : Message). x .kind) (sym m) ∙ h .kind) (ap (λ (x : Message). x .held) (sym m) ∙ h .held)
             (r .lines i .peer not-shut) (r .good) i at
             ∙ ap Has (h .says)

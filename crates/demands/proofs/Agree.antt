@@ -2,6 +2,7 @@
 -- its offers are the records that were typed or sent. Assumes nothing.
 use Prim.Native.Nat.{ℕ, _+_, _≤_}
 use mathlib.Core.Path.{_≡_, refl, sym, ap, ap₂, _∙_, subst}
+use mathlib.Core.Logic.{⊎-elim}
 use mathlib.Core.Bool.{true, false}
 use mathlib.Core.List.{List, [], _∷_, _++_, append-assoc, append-nil}
 use mathlib.Core.Option.{Option, none, some}
@@ -11,7 +12,7 @@ use lib.Seq.{drop-at}
 use lib.Dec.{eqb}
 use borrow.Author.Tests.{eqb-true}
 use Rattle.octets.specs.Octets.{same}
-use Rattle.octets.proofs.Bools.{cond-ind, cond-yes, cond-no}
+use Rattle.octets.proofs.Bools.{cond-ind, cond-yes, cond-no, either}
 use Rattle.octets.proofs.Strings.{same-eq, same-yes}
 use Rattle.refusal.specs.declared.Refusal.{Refusal}
 use Rattle.refusal.specs.declared.Refusal.the-variants.{NoRecordSlot}
@@ -21,20 +22,24 @@ use Rattle.records.specs.declared.Answer as stored
 use Rattle.records.specs.declared.Answer.the-variants as store
 use Rattle.recipe.specs.Recipe.{isRecipe}
 use Rattle.records_history.specs.History.{Offer, got, offered, after}
-use Rattle.records_history.specs.Agree.{NoRecords, SameSet, HoldSame, Offered, Highest, Never11 as NoOffer11}
-use Rattle.records_history.proofs.Agree.{never-more, agreement}
+use Rattle.records_history.specs.Agree.{NoRecords, SameSet, HoldSame, IsOffered, Highest, Never11 as NoOffer11}
+use Rattle.records_history.proofs.Agree.{never-more, through, agreement}
 use Rattle.message.specs.Limits.{mostBody}
 use Rattle.message.specs.Message.{Record, Message, messageOf, wellMessage, decode}
 use Rattle.message.specs.View.{readingOf}
 use Rattle.message.specs.declared.Reading.{Reading}
 use Rattle.message.specs.declared.Reading.the-variants as reading
 use Rattle.message.proofs.Views.{read-whole, whole-read}
+use Rattle.stream.specs.declared.Answer as stream
 use Rattle.stream.specs.declared.Answer.the-variants as framed
 use Rattle.stream.specs.Stream as streams
 use Rattle.stream.specs.Stream.{fresh, isShut, runOf, receiveOf as framedOf}
 use Rattle.stream.proofs.Steps.{call-runs}
 use Rattle.cutting.specs.Frames.{Event, message, refused as broken}
-use Rattle.cutting.specs.World.{Line, World, hand, asks, call, Sound, Ready}
+use Rattle.cutting.specs.World as layer
+use Rattle.cutting.specs.World.{Did, here, Line, Shared, World, Call, hand, does, asks, call, calls, Sound, Ready, AllFit}
+use Rattle.cutting.proofs.World.{Well}
+use Rattle.cutting.proofs.Once.{no-call}
 use Rattle.cutting.proofs.Kept.{message-fits}
 use Rattle.replies.specs.Replies.{putValue, putValueReply}
 use Rattle.replies.specs.declared.Answered.the-variants as told
@@ -50,7 +55,7 @@ use Rattle.demands.specs.Box as box
 use Rattle.demands.specs.Box.{Entry, Box, Who, connOf, offerBy, offerIn, noted, Turn, Fits, Ask, dealing, happens, turning, asking, Own, Allowed, Good}
 use Rattle.demands.specs.Demands.{since, Finds}
 use Rattle.demands.specs.Agree as agree
-use Rattle.demands.specs.Agree.{Never11, Sends, Brings, Bench, end, offers, BenchesAgree}
+use Rattle.demands.specs.Agree.{Never11, Sends, Brings, takesAll, Bench, end, offers, OffersReach, BenchesAgree}
 use Rattle.demands.proofs.Connections.{whole-open}
 use Rattle.demands.proofs.Deal.{decoded}
 use Rattle.demands.proofs.Kept.{after-more, dealing-keeps}
@@ -199,29 +204,42 @@ module _ (me : Peer) (own : Own me) (s : Box) where
         hosts = asking-tidy;
       }
 
+-- offers ps more, or none
+added : (before now ps : List Offer) → now ≡ before ++ ps → drop (length before) now ≡ ps
+added before now ps e = ap (drop (length before)) e ∙ drop-at before ps (length before) refl
+
+none-added : (before now : List Offer) → now ≡ before → drop (length before) now ≡ []
+none-added before now e = added before now [] (e ∙ sym (append-nil before))
+
+-- so after any calls
+tidied : (me : Peer) (own : Own me) (s : World Who Box Ask) → Ready (Allowed me) (Good me) s → (cs : List (Call Turn Ask)) → AllFit Fits cs
+    → Tidy me (s .shared .state) (calls (box.box me) s cs .shared .state)
+unfolding NoOffer11 after
+tidied me own s r cs f =
+    let a : Box = s .shared .state in
+    calls-ready (box.box me) (tidy me own (s .shared .state)) cs s (record {
+      lines = r .lines;
+      good = record {
+        good = r .good;
+        said = [];
+        made = [];
+        log = sym (append-nil (a .log));
+        offers = sym (append-nil (a .offers));
+        records = refl;
+        never = λ n. tt;
+      };
+    }) f .good
+
 -- ---- a bench
 record Made (b : Bench) : Type 0 where
   records : agree.held b ≡ after (b .start .shared .state .records) (offers b)
   never : NoOffer11 (b .start .shared .state .records) (offers b)
 
 made : (b : Bench) → Made b
-unfolding Never11 NoOffer11 after
 made b =
     let s : Box = b .start .shared .state in
-    let begun : Ready (Allowed (b .me)) (Tidy (b .me) (b .start .shared .state)) (b .start) = record {
-      lines = b .ready .lines;
-      good = record {
-        good = b .ready .good;
-        said = [];
-        made = [];
-        log = sym (append-nil (b .start .shared .state .log));
-        offers = sym (append-nil (b .start .shared .state .offers));
-        records = refl;
-        never = λ n. tt;
-      };
-    } in
-    let t = calls-ready (box.box (b .me)) (tidy (b .me) (b .own) (b .start .shared .state)) (b .does) (b .start) begun (b .fit) .good in
-    let o : offers b ≡ t .made = ap (drop (length (s .offers))) (t .offers) ∙ drop-at (s .offers) (t .made) (length (s .offers)) refl in
+    let t = tidied (b .me) (b .own) (b .start) (b .ready) (b .did) (b .fit) in
+    let o : offers b ≡ t .made = added (s .offers) _ _ (t .offers) in
     let l : drop (length (s .log)) (end b .shared .state .log) ≡ t .said = ap (drop (length (s .log))) (t .log) ∙ drop-at (s .log) (t .said) (length (s .log)) refl in
     record {
       records = t .records ∙ ap (after (s .records)) (sym o);
@@ -240,20 +258,37 @@ found a b s key v f =
     got-finds (b .me) (agree.held b) key v (form b) (sym (two a b s .found key) ∙ finds-got (a .me) (agree.held a) key v (form a) f)
   where
     form : (c : Bench) → inForm (agree.held c) ≡ true
-    form c = calls-ready (box.box (c .me)) (sound (c .me) (c .own)) (c .does) (c .start) (c .ready) (c .fit) .good .records
+    form c = calls-ready (box.box (c .me)) (sound (c .me) (c .own)) (c .did) (c .start) (c .ready) (c .fit) .good .records
 
-highest : (b : Bench) (key : List ℕ) → Highest isRecipe key (λ v. Offered key v (offers b)) (got (agree.held b) key)
+highest : (b : Bench) (key : List ℕ) → Highest isRecipe key (λ v. IsOffered key v (offers b)) (got (agree.held b) key)
 highest b key =
     let m = made b in
-    subst (λ (x : List ℕ). Highest isRecipe key (λ v. Offered key v (offers b)) (got x key)) (sym (m .records)) (agreement .highest _ (offers b) (b .empty) (m .never) key)
+    subst (λ (x : List ℕ). Highest isRecipe key (λ v. IsOffered key v (offers b)) (got x key)) (sym (m .records)) (agreement .highest _ (offers b) (b .empty) (m .never) key)
 
 -- ---- what reaches the store
-reached : (s : World Who Box Ask) (o : Offer) → drop (length (s .shared .state .offers)) (s .shared .state .offers ++ (o ∷ [])) ≡ o ∷ []
-reached s o = drop-at (s .shared .state .offers) (o ∷ []) (length (s .shared .state .offers)) refl
+module _ (me : Peer) (s : World Who Box Ask) where
+  typed : (key value : List ℕ) → since s (call (box.box me) s (asks (box.put key value))) ≡ record { key = key; value = value } ∷ []
+  unfolding call
+  typed key value = added (s .shared .state .offers) _ _ refl
 
-typed : (me : Peer) (s : World Who Box Ask) (key value : List ℕ) → since s (call (box.box me) s (asks (box.put key value))) ≡ record { key = key; value = value } ∷ []
-unfolding call
-typed me s key value = reached s (record { key = key; value = value })
+  asked : (o : Ask) → ((key value : List ℕ) → o ≡ box.put key value → ⊥) → since s (call (box.box me) s (asks o)) ≡ []
+  unfolding call
+  asked (box.put key value) n = absurd (n key value refl)
+  asked (box.find key) n = none-added (s .shared .state .offers) _ refl
+  asked (box.seen id client addresses) n = none-added (s .shared .state .offers) _ refl
+  asked (box.settle head id client addresses answered) n = none-added (s .shared .state .offers) _ refl
+  asked (box.remove id) n = none-added (s .shared .state .offers) _ refl
+  asked (box.nearest key) n = none-added (s .shared .state .offers) _ refl
+  asked (box.start j key limit) n = none-added (s .shared .state .offers) _ refl
+  asked (box.next j) n = none-added (s .shared .state .offers) _ refl
+  asked (box.reply j id body view) n = none-added (s .shared .state .offers) _ refl
+  asked (box.replyFrom i j id) n = none-added (s .shared .state .offers) _ refl
+  asked (box.failure j id) n = none-added (s .shared .state .offers) _ refl
+
+  turned : (i : ℕ) (b : Turn) → since s (call (box.box me) s (does i b)) ≡ []
+  unfolding call
+  turned i (box.opens id server side addresses m) = none-added (s .shared .state .offers) _ refl
+  turned i box.ends = none-added (s .shared .state .offers) _ refl
 
 module _ (i at : ℕ) (s : Sight) (body t k y : List ℕ) (os : List Offer) (a : Box) where
   pub noted-offers : (x : Answer) → noted i at x s body t k y os a .offers ≡ a .offers ++ os
@@ -262,34 +297,99 @@ module _ (i at : ℕ) (s : Sight) (body t k y : List ℕ) (os : List Offer) (a :
   noted-offers (Refused r) = refl
   noted-offers More = refl
 
-module _ (me : Peer) (own : Own me) (s : World Who Box Ask) (r : Ready (Allowed me) (Good me) s) (i : ℕ) (p key value : List ℕ) where
-  abbrev l : Line Who
-  l = s .lines i
+module _ (me : Peer) (own : Own me) (s : World Who Box Ask) (r : Ready (Allowed me) (Good me) s) where
+  -- ---- a piece that one receive takes whole
+  module _ (i : ℕ) (p : List ℕ) (all : takesAll (s .lines i) p) where
+    abbrev l : Line Who
+    l = s .lines i
 
-  sent : framedOf (l .framing) (l .buffer) p .got .taken ≡ length p → Brings l p key value → since s (call (box.box me) s (hand i p)) ≡ record { key = key; value = value } ∷ []
-  sent t b =
-      let going : isShut (l .framing) ≡ false = whole-open (l .framing) (l .buffer) p (b .size) (b .whole) in
-      let e : framedOf (l .framing) (l .buffer) p ≡ runOf (l .framing) (l .buffer) p = call-runs (l .framing) (l .buffer) p (r .lines i .form) (r .lines i .room) going in
-      let q : streams.Out = runOf (l .framing) (l .buffer) p in
-      let a : q .got .answer ≡ framed.Message (b .size) = ap (λ (o : streams.Out). o .got .answer) (sym e) ∙ b .whole in
-      let body : List ℕ = take (b .size) (q .buffer) in
-      let m : Sends (l .who) body key value = subst (λ (o : streams.Out). Sends (l .who) (take (b .size) (o .buffer)) key value) e (b .sends) in
-      let fits : length body ≤ mostBody = omega (arith, message-fits (l .framing) (l .buffer) p (b .size) (r .lines i .form) a, length-take (b .size) (q .buffer)) in
-      let d = dealing me (l .who) (s .shared .state) body in
-      ap (λ (x : Box). drop (length (s .shared .state .offers)) (x .offers)) (hand-state me own s r i p going (b .size) a (ap (λ (o : streams.Out). o .got .taken) (sym e) ∙ t))
-      ∙ ap (drop (length (s .shared .state .offers)))
-      (noted-offers i (l .taken + length p) (d .sight) body (d .contacts) (d .records) (d .reply) (offerIn (l .who) body) (s .shared .state) (d .answer)
-      ∙ ap (λ (os : List Offer). s .shared .state .offers ++ os) (sends-offer (l .who) body key value fits m))
-      ∙ reached s (record { key = key; value = value })
+    abbrev q : streams.Out
+    q = runOf (l .framing) (l .buffer) p
+
+    abbrev handed : World Who Box Ask
+    handed = call (box.box me) s (hand i p)
+
+    module _ (going : isShut (l .framing) ≡ false) where
+      runs : framedOf (l .framing) (l .buffer) p ≡ q
+      runs = call-runs (l .framing) (l .buffer) p (r .lines i .form) (r .lines i .room) going
+
+      state : (x : stream.Answer) → q .got .answer ≡ x
+          → handed .shared .state ≡ layer.noted (happens me) i (l .who) (s .shared .state) x (l .taken + length p) (q .buffer)
+      state x e = hand-state me own s r i p going x e (ap (λ (o : streams.Out). o .got .taken) (sym runs) ∙ all)
+
+      -- a message adds what it offers
+      message-adds : (n : ℕ) → q .got .answer ≡ framed.Message n → since s handed ≡ offerIn (l .who) (take n (q .buffer))
+      message-adds n e =
+          let body : List ℕ = take n (q .buffer) in
+          let d = dealing me (l .who) (s .shared .state) body in
+          added (s .shared .state .offers) _ _
+          (ap (λ (x : Box). x .offers) (state (framed.Message n) e)
+          ∙ noted-offers i (l .taken + length p) (d .sight) body (d .contacts) (d .records) (d .reply) (offerIn (l .who) body) (s .shared .state) (d .answer))
+
+    sent : (key value : List ℕ) → Brings l p key value → since s handed ≡ record { key = key; value = value } ∷ []
+    sent key value b =
+        let going : isShut (l .framing) ≡ false = whole-open (l .framing) (l .buffer) p (b .size) (b .whole) in
+        let a : q .got .answer ≡ framed.Message (b .size) = ap (λ (o : streams.Out). o .got .answer) (sym (runs going)) ∙ b .whole in
+        let m : Sends (l .who) (take (b .size) (q .buffer)) key value = subst (λ (o : streams.Out). Sends (l .who) (take (b .size) (o .buffer)) key value) (runs going) (b .sends) in
+        let fits : length (take (b .size) (q .buffer)) ≤ mostBody =
+        omega (arith, message-fits (l .framing) (l .buffer) p (b .size) (r .lines i .form) a, length-take (b .size) (q .buffer)) in
+        message-adds going (b .size) a ∙ sends-offer (l .who) (take (b .size) (q .buffer)) key value fits m
+
+    silent : ((key value : List ℕ) → Brings l p key value → ⊥) → since s handed ≡ []
+    unfolding call
+    silent n = ⊎-elim (λ shut. none-added (s .shared .state .offers) _ (ap (λ (d : Did (Line Who) (Shared Box Ask)). d .shared .state .offers) (no-call (box.box me) (sound me own) i (here s i) p well shut))) (λ going. by-answer going (q .got .answer) refl) (either (isShut (l .framing)))
+      where
+        well : Well (box.box me) (sound me own) (here s i)
+        well = record { line = r .lines i; good = r .good }
+
+        brings : (going : isShut (l .framing) ≡ false) (k : ℕ) → q .got .answer ≡ framed.Message k → (key value : List ℕ) → Sends (l .who) (take k (q .buffer)) key value → Brings l p key value
+        brings going k e key value m =
+            record {
+              size = k;
+              whole = ap (λ (o : streams.Out). o .got .answer) (runs going) ∙ e;
+              sends = subst (λ (o : streams.Out). Sends (l .who) (take k (o .buffer)) key value) (sym (runs going)) m;
+            }
+
+        by-answer : (going : isShut (l .framing) ≡ false) (x : stream.Answer) → q .got .answer ≡ x → since s handed ≡ []
+        by-answer going (framed.Message k) e =
+            message-adds going k e ∙ offer-ind (l .who) (take k (q .buffer)) (λ os. os ≡ []) refl (λ key value h m. absurd (n key value (brings going k e key value m)))
+        by-answer going (framed.Refused x) e = none-added (s .shared .state .offers) _ (ap (λ (x : Box). x .offers) (state going (framed.Refused x) e))
+        by-answer going framed.More e = none-added (s .shared .state .offers) _ (ap (λ (x : Box). x .offers) (state going framed.More e))
+
+-- ---- and stays
+since-start : (me : Peer) (own : Own me) (s : World Who Box Ask) → Ready (Allowed me) (Good me) s → (cs : List (Call Turn Ask)) → AllFit Fits cs
+    → calls (box.box me) s cs .shared .state .offers ≡ s .shared .state .offers ++ since s (calls (box.box me) s cs)
+since-start me own s r cs f = let t = tidied me own s r cs f in t .offers ∙ ap (λ (x : List Offer). s .shared .state .offers ++ x) (sym (added (s .shared .state .offers) _ _ (t .offers)))
+
+joins : (me : Peer) (own : Own me) (s : World Who Box Ask) → Ready (Allowed me) (Good me) s → (cs ds : List (Call Turn Ask)) → AllFit Fits cs → AllFit Fits ds
+    → let w = calls (box.box me) s cs in
+    let x = calls (box.box me) w ds in
+    since s x ≡ since s w ++ since w x
+joins me own s r cs ds f g =
+    let w : World Who Box Ask = calls (box.box me) s cs in
+    let x : World Who Box Ask = calls (box.box me) w ds in
+    added (s .shared .state .offers) _ _
+    (since-start me own w (calls-ready (box.box me) (sound me own) cs s r f) ds g
+    ∙ ap (λ (os : List Offer). os ++ since w x) (since-start me own s r cs f) ∙ append-assoc (s .shared .state .offers) (since s w) (since w x))
+
+reach : (me : Peer) → Own me → OffersReach me
+reach me own =
+    record {
+      typed = typed me;
+      asked = asked me;
+      turned = turned me;
+      sent = λ s r i p key value all. sent me own s r i p all key value;
+      silent = λ s r i p all. silent me own s r i p all;
+      joins = joins me own;
+    }
 
 pub benches-agree : BenchesAgree
 benches-agree =
     record {
       two = two;
       found = found;
-      all = λ b s i j. two (b i) (b j) (s i j);
+      all = λ b s i j. two (b i) (b j) (through (s i) (s j));
       highest = highest;
-      typed = typed;
-      sent = sent;
+      reach = reach;
       begin = λ s b. subst NoRecords (sym (b .records)) (agreement .begin (b .recordBytes));
     }

@@ -9,9 +9,11 @@ use lib.ListN.{length, take, length-take}
 use Rattle.octets.proofs.Bools.{either, not-both, cond-ind}
 use Rattle.peer.specs.declared.Peer.{Peer}
 use Rattle.recipe.specs.Recipe.{isRecipe}
-use Rattle.records_history.specs.History.{Offer, got}
+use Rattle.records.specs.Store.{inForm, findOf}
+use Rattle.records_history.specs.History.{Got, Has, None, Offer, got}
 use Rattle.records_history.specs.Agree as store
 use Rattle.records_history.specs.Agree.{NoRecords, SameSet, HoldSame, Highest}
+use Rattle.records_history.proofs.Holding.{held-is-found}
 use Rattle.records_history.proofs.Agree.{offered-parts, offered-left, offered-right, highest-moved, agreement}
 use Rattle.message.specs.Limits.{mostBody}
 use Rattle.stream.specs.declared.Answer as stream
@@ -24,6 +26,7 @@ use Rattle.cutting.proofs.Kept.{message-fits}
 use Rattle.flat.specs.Flat.{peerIn}
 use Rattle.connections.specs.declared.Conn.{Conn}
 use Rattle.node.specs.Node.{Out, byEvent}
+use Rattle.host_answers.specs.Answers.{findNumber}
 use Rattle.demands.specs.Box as box
 use Rattle.demands.specs.Box.{Entry, Box, Who, Ask, Fits, connOf, offerIn, offersIn}
 use Rattle.demands.specs.Demands as demands
@@ -35,7 +38,7 @@ use Rattle.demands.proofs.Agree.{offer-ind, sends-offer, benches-agree}
 use Rattle.host_demands.specs.Calls as host
 use Rattle.host_demands.specs.Calls.{Memory, History, Seen, Lent, Export, noEvent, receivedBy, returns, leaves, meant, seesOf, meantAll, seesAll, worldIn, historyOf, entrySeen}
 use Rattle.host_demands.specs.Hosted.{Started, nothingYet, ReadyFor, Follows, FollowsAll, after, Finds}
-use Rattle.host_demands.specs.Agree.{Offers, typed, sent, Offered, Never11, Program, end, WasOffered, SameOffers, ProgramsAgree}
+use Rattle.host_demands.specs.Agree.{Offers, typed, sent, SomeOffers, Never11, Program, end, WasOffered, SameOffers, ProgramsAgree}
 use Rattle.host_demands.proofs.Receiving.{offers-now, offers-same}
 use Rattle.host_demands.proofs.Accepting.{finds-there, finds-here}
 use Rattle.host_demands.proofs.Running.{one-call, all-calls, ready-after, later-fit}
@@ -66,8 +69,8 @@ kept-buffer framed.More me c n b t k y = refl
 record Adds (P : List ℕ → List ℕ → Type 0) (before now : List Offer) : Type 0 where
   os : List Offer
   adds : now ≡ before ++ os
-  there : (key v : List ℕ) → P key v → store.Offered key v os
-  back : (key v : List ℕ) → store.Offered key v os → P key v
+  there : (key v : List ℕ) → P key v → store.IsOffered key v os
+  back : (key v : List ℕ) → store.IsOffered key v os → P key v
 
 -- nothing that was seen has the number 11
 unfoldable Quiet : List Seen → Type 0
@@ -102,7 +105,7 @@ module _ (me : List ℕ) (S : Started me) where
 
     -- ---- a call that is neither
     idle : (c : Export) → sort c ≡ 2 → call (box.box us) world (meant me m c) .shared .state .offers ≡ h .offers → AddsOne c
-    unfolding store.Offered
+    unfolding store.IsOffered
     idle c e q = record { os = []; adds = q ∙ sym (append-nil (h .offers)); there = none; back = λ key v o. absurd o }
       where
         none : (key v : List ℕ) → Offers me m key v c → ⊥
@@ -111,7 +114,7 @@ module _ (me : List ℕ) (S : Started me) where
 
     -- ---- a put
     put-adds : (k u : List ℕ) → AddsOne (host.put k u)
-    unfolding call store.Offered
+    unfolding call store.IsOffered
     put-adds k u = record { os = record { key = k; value = u } ∷ []; adds = refl; there = there; back = λ key v o. ⊎-elim (λ e. typed (ap₂ host.put (e .0) (e .1))) (λ x. absurd x) o }
       where
         there : (key v : List ℕ) → Offers me m key v (host.put k u) → ((k ≡ key) × (u ≡ v)) ⊎ ⊥
@@ -156,29 +159,29 @@ module _ (me : List ℕ) (S : Started me) where
             → offersIn who (framing .got .answer) (receivedBy me m i piece .buffer) ≡ offerIn who (take n (framing .buffer))
         in-message n e = ap₂ (λ (x : stream.Answer) (b : List ℕ). offersIn who x b) e buffer-is
 
-        there : (key v : List ℕ) → Offers me m key v (host.receives i piece) → store.Offered key v (offersIn who (framing .got .answer) (receivedBy me m i piece .buffer))
-        unfolding store.Offered
+        there : (key v : List ℕ) → Offers me m key v (host.receives i piece) → store.IsOffered key v (offersIn who (framing .got .answer) (receivedBy me m i piece .buffer))
+        unfolding store.IsOffered
         there key v o =
             let b : Brings (world .lines i) piece key v = only-sent key v o in
             let n : ℕ = b .size in
-            subst (store.Offered key v)
+            subst (store.IsOffered key v)
             (sym (in-message n (b .whole) ∙ sends-offer who (take n (framing .buffer)) key v (body-fits n (b .whole)) (b .sends))) (inl (refl, refl))
 
-        back : (key v : List ℕ) → store.Offered key v (offersIn who (framing .got .answer) (receivedBy me m i piece .buffer)) → Offers me m key v (host.receives i piece)
-        unfolding store.Offered
+        back : (key v : List ℕ) → store.IsOffered key v (offersIn who (framing .got .answer) (receivedBy me m i piece .buffer)) → Offers me m key v (host.receives i piece)
+        unfolding store.IsOffered
         back key v o = go (framing .got .answer) refl o
           where
-            one : (n : ℕ) → framing .got .answer ≡ framed.Message n → store.Offered key v (offerIn who (take n (framing .buffer))) → Offers me m key v (host.receives i piece)
+            one : (n : ℕ) → framing .got .answer ≡ framed.Message n → store.IsOffered key v (offerIn who (take n (framing .buffer))) → Offers me m key v (host.receives i piece)
             one n e =
-                offer-ind who (take n (framing .buffer)) (λ os. store.Offered key v os → Offers me m key v (host.receives i piece)) (λ x. absurd x)
+                offer-ind who (take n (framing .buffer)) (λ os. store.IsOffered key v os → Offers me m key v (host.receives i piece)) (λ x. absurd x)
                 (λ k u l s x. ⊎-elim (λ q. sent i piece refl (record {
                   size = n;
                   whole = e;
                   sends = subst (λ (y : List ℕ). Sends who (take n (framing .buffer)) y v) (q .0) (subst (Sends who (take n (framing .buffer)) k) (q .1) s);
                 })) (λ y. absurd y) x)
 
-            go : (x : stream.Answer) → framing .got .answer ≡ x → store.Offered key v (offersIn who x (receivedBy me m i piece .buffer)) → Offers me m key v (host.receives i piece)
-            go (framed.Message n) e y = one n e (subst (λ (b : List ℕ). store.Offered key v (offerIn who (take n b))) buffer-is y)
+            go : (x : stream.Answer) → framing .got .answer ≡ x → store.IsOffered key v (offersIn who x (receivedBy me m i piece .buffer)) → Offers me m key v (host.receives i piece)
+            go (framed.Message n) e y = one n e (subst (λ (b : List ℕ). store.IsOffered key v (offerIn who (take n b))) buffer-is y)
             go (framed.Refused r) e y = absurd y
             go framed.More e y = absurd y
 
@@ -186,7 +189,7 @@ module _ (me : List ℕ) (S : Started me) where
         open-adds = record { os = offersIn who (framing .got .answer) (receivedBy me m i piece .buffer); adds = offers-now me S m h len ready i piece going; there = there; back = back }
 
       shut-adds : isShut (world .lines i .framing) ≡ true → AddsOne (host.receives i piece)
-      unfolding store.Offered
+      unfolding store.IsOffered
       shut-adds shut =
           record {
             os = [];
@@ -214,10 +217,10 @@ module _ (me : List ℕ) (S : Started me) where
 
   -- ==== any calls
   abbrev AddsAll : Memory → History → List Export → Type 0
-  AddsAll m h cs = Adds (λ key v. Offered me key v m cs) (h .offers) (after me (worldIn m h) m cs .shared .state .offers)
+  AddsAll m h cs = Adds (λ key v. SomeOffers me key v m cs) (h .offers) (after me (worldIn m h) m cs .shared .state .offers)
 
   adds-all : (cs : List Export) (m : Memory) (h : History) → Lent m → ReadyFor me (worldIn m h) → AllFit Fits (meantAll me m cs) → AddsAll m h cs
-  unfolding meantAll calls Offered store.Offered
+  unfolding meantAll calls SomeOffers store.IsOffered
   adds-all [] m h len r f = record { os = []; adds = sym (append-nil (h .offers)); there = λ key v o. absurd o; back = λ key v o. absurd o }
   adds-all (c ∷ cs) m h len r f =
       let w : World Who Box Ask = call (box.box us) (worldIn m h) (meant me m c) in
@@ -275,7 +278,7 @@ module _ (p : Program) where
         start = begun;
         ready = p .ready;
         empty = p .empty;
-        does = meantAll (p .me) (p .memory) (p .calls);
+        did = meantAll (p .me) (p .memory) (p .calls);
         fit = p .fit;
         never = log-quiet;
       }
@@ -286,11 +289,15 @@ module _ (p : Program) where
   all-of : AddsAll (p .me) (p .started) (p .memory) nothingYet (p .calls)
   all-of = adds-all (p .me) (p .started) (p .calls) (p .memory) nothingYet (p .lent) (p .ready) (p .fit)
 
-  offered-there : (key v : List ℕ) → WasOffered p key v → store.Offered key v (inner.offers bench)
-  offered-there key v o = subst (store.Offered key v) (sym (all-of .adds)) (all-of .there key v o)
+  offered-there : (key v : List ℕ) → WasOffered p key v → store.IsOffered key v (inner.offers bench)
+  offered-there key v o = subst (store.IsOffered key v) (sym (all-of .adds)) (all-of .there key v o)
 
-  offered-back : (key v : List ℕ) → store.Offered key v (inner.offers bench) → WasOffered p key v
-  offered-back key v o = all-of .back key v (subst (store.Offered key v) (all-of .adds) o)
+  offered-back : (key v : List ℕ) → store.IsOffered key v (inner.offers bench) → WasOffered p key v
+  offered-back key v o = all-of .back key v (subst (store.IsOffered key v) (all-of .adds) o)
+
+-- two that are offered what a third one is
+through : {p q r : Program} → SameOffers p q → SameOffers p r → SameOffers q r
+through s t = record { there = λ k v h. t .there k v (s .back k v h); back = λ k v h. s .there k v (t .back k v h) }
 
 same-set : (p q : Program) → SameOffers p q → SameSet (inner.offers (bench p)) (inner.offers (bench q))
 same-set p q s =
@@ -304,21 +311,26 @@ two p q s =
     subst (λ (x : List ℕ). HoldSame x (end q .records)) (sym (held-is p))
     (subst (HoldSame (inner.held (bench p))) (sym (held-is q)) (benches-agree .two (bench p) (bench q) (same-set p q s)))
 
+-- memory stays such that calls may go on
+abbrev now : Program → History
+now p = historyOf (after (p .me) (begun p) (p .memory) (p .calls))
+
+still : (p : Program) → ReadyFor (p .me) (worldIn (end p) (now p))
+still p = subst (ReadyFor (p .me)) (sym (follows p .stands)) (follows p .ready)
+
+find-number : (t u key : List ℕ) → inForm t ≡ true → inForm u ≡ true → (g : Got) → got t key ≡ g → got u key ≡ g → findNumber (findOf t key) ≡ findNumber (findOf u key)
+find-number t u key f h None a b = ap findNumber (held-is-found .missing t key f a ∙ sym (held-is-found .missing u key h b))
+find-number t u key f h (Has v) a b = ap findNumber (held-is-found .found t key v f a .2) ∙ sym (ap findNumber (held-is-found .found u key v h b .2))
+
+find : (p q : Program) → SameOffers p q → (key : List ℕ) → returns (p .me) (end p) (host.find key) ≡ returns (q .me) (end q) (host.find key)
+find p q s key = find-number (end p .records) (end q .records) key (still p .good .records) (still q .good .records) _ (two p q s .found key) refl
+
 found : (p q : Program) → SameOffers p q → (key v : List ℕ) → Finds (p .me) (end p) key v → Finds (q .me) (end q) key v
 found p q s key v f =
     finds-here (q .me) (q .started) (end q) (now q) (follows q .lent) (still q) key v
-    (subst (λ (x : List ℕ). inner-finds (q .me) x) (sym (held-is q))
+    (subst (λ (x : List ℕ). demands.Finds (peerIn (q .me)) x key v) (sym (held-is q))
     (benches-agree .found (bench p) (bench q) (same-set p q s) key v
-    (subst (λ (x : List ℕ). inner-finds (p .me) x) (held-is p) (finds-there (p .me) (p .started) (end p) (now p) (follows p .lent) (still p) key v f))))
-  where
-    inner-finds : List ℕ → List ℕ → Type 0
-    inner-finds me k = demands.Finds (peerIn me) k key v
-
-    now : Program → History
-    now r = historyOf (after (r .me) (begun r) (r .memory) (r .calls))
-
-    still : (r : Program) → ReadyFor (r .me) (worldIn (end r) (now r))
-    still r = subst (ReadyFor (r .me)) (sym (follows r .stands)) (follows r .ready)
+    (subst (λ (x : List ℕ). demands.Finds (peerIn (p .me)) x key v) (held-is p) (finds-there (p .me) (p .started) (end p) (now p) (follows p .lent) (still p) key v f))))
 
 highest : (p : Program) (key : List ℕ) → Highest isRecipe key (WasOffered p key) (got (end p .records) key)
 highest p key =
@@ -329,8 +341,9 @@ pub programs-agree : ProgramsAgree
 programs-agree =
     record {
       two = two;
+      find = find;
       found = found;
-      all = λ p s i j. two (p i) (p j) (s i j);
+      all = λ p s i j. two (p i) (p j) (through (s i) (s j));
       highest = highest;
       begin = λ m c. subst NoRecords (sym (c .records)) (agreement .begin (c .recordBytes));
     }

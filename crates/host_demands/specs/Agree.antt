@@ -16,15 +16,15 @@ use Rattle.host_demands.specs.Hosted.{Started, nothingYet, ReadyFor, Cle
 
 module _ (me : List ℕ) where
   -- the call c on the memory m offers a record to the store, whatever it returns: it is typed, or the piece of a receive completes a PUT_VALUE of it, "the message
-  -- key then being the record's"
+  -- key then being the record's". "Every offer reaches": what is lost to 3 to 6, to 19 or to a shut connection is none; 0 and 1 don't come up (`ready`, `fit`)
   pub data Offers (m : Memory) (key value : List ℕ) (c : Export) : Type 0 where
     typed : c ≡ host.put key value → Offers m key value c
     sent : (i : ℕ) (piece : List ℕ) → c ≡ host.receives i piece → Brings (lineIn (m .conns i) (m .buffers i) (m .taken i)) piece key value → Offers m key value c
 
   -- one of the calls, as they come, does so
-  unfoldable pub Offered : List ℕ → List ℕ → Memory → List Export → Type 0
-  Offered key value m [] = ⊥
-  Offered key value m (c ∷ cs) = Offers m key value c ⊎ Offered key value (leaves me m c) cs
+  unfoldable pub SomeOffers : List ℕ → List ℕ → Memory → List Export → Type 0
+  SomeOffers key value m [] = ⊥
+  SomeOffers key value m (c ∷ cs) = Offers m key value c ⊎ SomeOffers key value (leaves me m c) cs
 
   -- "never gave 11": none of them returns it
   unfoldable pub Never11 : Memory → List Export → Type 0
@@ -48,7 +48,7 @@ module _ (p : Program) where
   end = leavesAll (p .me) (p .memory) (p .calls)
 
   abbrev pub WasOffered : List ℕ → List ℕ → Type 0
-  WasOffered key value = Offered (p .me) key value (p .memory) (p .calls)
+  WasOffered key value = SomeOffers (p .me) key value (p .memory) (p .calls)
 
 -- "offered the same set of records .. in any order and with repeats"
 pub record SameOffers (p q : Program) : Type 0 where
@@ -58,10 +58,11 @@ pub record SameOffers (p q : Program) : Type 0 where
 pub record ProgramsAgree : Type 0 where
   -- "they hold the same keys with identical values"
   pub two : (p q : Program) → SameOffers p q → HoldSame (end p .records) (end q .records)
-  -- so starterbell_find and every GET_VALUE give the same
+  -- so starterbell_find returns the same, and a value that it and the replies to GET_VALUE give in one program, they give in the other
+  pub find : (p q : Program) → SameOffers p q → (key : List ℕ) → returns (p .me) (end p) (host.find key) ≡ returns (q .me) (end q) (host.find key)
   pub found : (p q : Program) → SameOffers p q → (key v : List ℕ) → Finds (p .me) (end p) key v → Finds (q .me) (end q) key v
   -- any number of programs
-  pub all : (p : ℕ → Program) → ((i j : ℕ) → SameOffers (p i) (p j)) → (i j : ℕ) → HoldSame (end (p i) .records) (end (p j) .records)
+  pub all : (p : ℕ → Program) → ((i : ℕ) → SameOffers (p 0) (p i)) → (i j : ℕ) → HoldSame (end (p i) .records) (end (p j) .records)
   -- what each holds: the highest-ranking of what it was offered that 8 and 9 don't refuse
   pub highest : (p : Program) (key : List ℕ) → Highest isRecipe key (WasOffered p key) (got (end p .records) key)
   -- and memory once cleared has no records

@@ -1,5 +1,5 @@
 -- Two stores that start with no records, are offered the same set of records and never give 11 hold the same: under each key the highest-ranking value that was
--- offered for it and that neither 8 nor 9 refuses. No proof here looks into what a recipe is. Assumes nothing.
+-- offered for it and that neither 8 nor 9 refuses. No proof here looks into what a recipe is; a slot needs of one that it has 16 to 2,048 bytes. Assumes nothing.
 use mathlib.Core.Path.{_≡_, refl, sym, ap, _∙_, subst}
 use mathlib.Core.Logic.{_⊎_, inl, inr, ⊎-elim}
 use mathlib.Core.Bool.{Bool, true, false, _&&_, cond}
@@ -16,26 +16,30 @@ use Rattle.records.specs.declared.Answer.the-variants.{Refused}
 use Rattle.refusal.specs.declared.Refusal.the-variants.{NoRecordSlot}
 use Rattle.record_slots.proofs.Finding.{with-holds, holds-out, holds-in}
 use Rattle.records_history.specs.History.{Got, Has, None, got, taken, Offer, accepts, offered, after}
-use Rattle.records_history.specs.Agree.{NoRecords, Offered, SameSet, Never11, Within, HoldSame, Counts, Highest, higher, heldFrom, Agreement}
+use Rattle.records_history.specs.Agree.{NoRecords, IsOffered, SameSet, Never11, Within, HoldSame, Counts, Highest, higher, heldFrom, heldAfter, Agrees, Agreement}
 use Rattle.records_history.proofs.Stays.{has, none, Over, put-other, put-refused, put-form, cleared-free, free-form, free-none, form-kept, step-taken}
 use Rattle.records_history.proofs.Holding.{held-in, held-value, held-is-found, judged-first, put-told, joins-unless-11}
 
 -- ---- offers, and more of them
 module _ (k v : List ℕ) where
-  pub offered-parts : (os ps : List Offer) → Offered k v (os ++ ps) → Offered k v os ⊎ Offered k v ps
-  unfolding Offered
+  pub offered-parts : (os ps : List Offer) → IsOffered k v (os ++ ps) → IsOffered k v os ⊎ IsOffered k v ps
+  unfolding IsOffered
   offered-parts [] ps h = inr h
   offered-parts (o ∷ os) ps h = ⊎-elim (λ e. inl (inl e)) (λ r. ⊎-elim (λ a. inl (inr a)) (λ b. inr b) (offered-parts os ps r)) h
 
-  pub offered-left : (os ps : List Offer) → Offered k v os → Offered k v (os ++ ps)
-  unfolding Offered
+  pub offered-left : (os ps : List Offer) → IsOffered k v os → IsOffered k v (os ++ ps)
+  unfolding IsOffered
   offered-left [] ps h = absurd h
   offered-left (o ∷ os) ps h = ⊎-elim (λ e. inl e) (λ r. inr (offered-left os ps r)) h
 
-  pub offered-right : (os ps : List Offer) → Offered k v ps → Offered k v (os ++ ps)
-  unfolding Offered
+  pub offered-right : (os ps : List Offer) → IsOffered k v ps → IsOffered k v (os ++ ps)
+  unfolding IsOffered
   offered-right [] ps h = h
   offered-right (o ∷ os) ps h = inr (offered-right os ps h)
+
+-- two sets that are both a third one
+pub through : {os ps qs : List Offer} → SameSet os ps → SameSet os qs → SameSet ps qs
+through s t = record { there = λ k v h. t .there k v (s .back k v h); back = λ k v h. s .there k v (t .back k v h) }
 
 pub never-more : (t : List ℕ) (os ps : List Offer) → Never11 t os → Never11 (after t os) ps → Never11 t (os ++ ps)
 unfolding Never11 after
@@ -67,7 +71,7 @@ module _ (rules : List ℕ → Bool) (k : List ℕ) where
   counts o = same (o .key) k && (isKey k && rules (o .value))
 
   abbrev Among : List Offer → List ℕ → Type 0
-  Among os v = Offered k v os
+  Among os v = IsOffered k v os
 
   abbrev put : Got → Offer → Got
   put g o = cond (counts o) (higher g (o .value)) g
@@ -79,7 +83,7 @@ module _ (rules : List ℕ → Bool) (k : List ℕ) where
   held-over (o ∷ os) g w h = held-over os (put g o) w (cond-ind (Over w) (counts o) (higher g (o .value)) g (λ e. higher-over w g (o .value) h) (λ e. h))
 
   held-top : (os : List Offer) (g : Got) (v : List ℕ) → Counts rules k (Among os) v → Over v (heldFrom rules higher g os k)
-  unfolding heldFrom Offered
+  unfolding heldFrom IsOffered
   held-top [] g v c = absurd (c .offered)
   held-top (o ∷ os) g v c =
       ⊎-elim (λ h. held-over os (put g o) v (here (h .0) (h .1))) (λ h. held-top os (put g o) v (record { offered = h; key = c .key; fits = c .fits })) (c .offered)
@@ -90,7 +94,7 @@ module _ (rules : List ℕ → Bool) (k : List ℕ) where
           subst (Over v) (sym (cond-yes (counts o) (higher g (o .value)) g yes)) (subst (λ (x : List ℕ). Over v (higher g x)) (sym q) (higher-new g v))
 
   held-one : (os : List Offer) (g : Got) (u : List ℕ) → heldFrom rules higher g os k ≡ Has u → (g ≡ Has u) ⊎ Counts rules k (Among os) u
-  unfolding heldFrom Offered
+  unfolding heldFrom IsOffered
   held-one [] g u e = inl e
   held-one (o ∷ os) g u e =
       ⊎-elim (λ h. here (either (counts o)) h) (λ c. inr (record { offered = inr (c .offered); key = c .key; fits = c .fits })) (held-one os (put g o) u e)
@@ -194,5 +198,8 @@ two t u os ps e f s m n =
     same-found : (k : List ℕ) → got (after t os) k ≡ got (after u ps) k
     same-found k = only isRecipe k _ _ (s .there k) (s .back k) _ _ (highest t os e m k) (highest u ps f n k)
 
+pub any-rules : (rules : List ℕ → Bool) → Agrees (heldAfter rules higher)
+any-rules rules os ps s k = only rules k _ _ (s .there k) (s .back k) _ _ (held-highest rules k os) (held-highest rules k ps)
+
 pub agreement : Agreement
-agreement = record { two = two; highest = highest; held = held; rules = λ rules os k. held-highest rules k os; only = λ rules os ps s k. only rules k _ _ (s .there k) (s .back k); begin = cleared-free }
+agreement = record { two = two; highest = highest; held = held; any-rules = any-rules; begin = cleared-free }

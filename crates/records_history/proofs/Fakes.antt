@@ -4,7 +4,7 @@ use native.Mathlib.Omega.{arith}
 use mathlib.Core.Path.{_≡_, refl, sym, ap, _∙_}
 use mathlib.Core.Logic.{inl, inr, ⊎-elim}
 use mathlib.Core.Bool.{true, false}
-use mathlib.Core.List.{List, [], _∷_}
+use mathlib.Core.List.{List, [], _∷_, _++_}
 use lib.ListN.{length, length-replicate}
 use Rattle.octets.specs.Octets.{littleNumber, lower, same, startsWith}
 use Rattle.octets.specs.Search.{allOf}
@@ -14,11 +14,10 @@ use Rattle.recipe.specs.Recipe.{varint, point, andThen, setpoints, inRange, fol
 use Rattle.records.specs.Limits.{slotSize}
 use Rattle.records.specs.Store.{slotsOf, isKey}
 use Rattle.records_history.specs.History.{Got, Has, None, got, Offer, offered, after, cleared, accepts, taken}
-use Rattle.records_history.specs.Agree.{NoRecords, Offered, SameSet, higher, heldFrom, heldAfter}
-use Rattle.records_history.specs.Fakes.{Agrees, takesNewest, goesBySequence, forgets, noRules, NoFake}
+use Rattle.records_history.specs.Agree.{NoRecords, IsOffered, SameSet, higher, heldFrom, heldAfter, Agrees}
+use Rattle.records_history.specs.Fakes.{takesNewest, goesBySequence, forgets, noRules, NoFake}
 use Rattle.records_history.proofs.Stays.{has, none, put-refused, cleared-free, free-form, free-none, step-taken}
 use Rattle.records_history.proofs.Holding.{put-told}
-use Rattle.records_history.proofs.Agree.{only, held-highest}
 
 -- ---- /wind/a, and two recipes of sequence 7, of which the second ranks higher by its note, a byte
 abbrev key : List ℕ
@@ -64,8 +63,8 @@ differ e = let z : _≡_ {A = ℕ} 0 1 = cc in omega arith
 abbrev offer : List ℕ → Offer
 offer v = record { key = key; value = v }
 
-turned : (o p : Offer) (k v : List ℕ) → Offered k v (o ∷ p ∷ []) → Offered k v (p ∷ o ∷ [])
-unfolding Offered
+turned : (o p : Offer) (k v : List ℕ) → IsOffered k v (o ∷ p ∷ []) → IsOffered k v (p ∷ o ∷ [])
+unfolding IsOffered
 turned o p k v h = ⊎-elim (λ a. inr (inl a)) (λ r. ⊎-elim (λ b. inl b) (λ c. absurd c) r) h
 
 swapped : (o p : Offer) → SameSet (o ∷ p ∷ []) (p ∷ o ∷ [])
@@ -87,7 +86,7 @@ no-newest h = differ (has (sym (either-way takesNewest h)))
 
 no-sequence : Agrees (heldAfter isRecipe goesBySequence) → ⊥
 unfolding goesBySequence sequenceOf littleNumber
-no-sequence h = differ (has (either-way goesBySequence h))
+no-sequence h = differ (has (sym (either-way goesBySequence h)))
 
 no-forgetting : Agrees (heldAfter isRecipe forgets) → ⊥
 unfolding forgets
@@ -98,6 +97,10 @@ other : ((os : List Offer) (k : List ℕ) → heldAfter isRecipe higher os k ≡
 unfolding heldFrom higher
 other h =
     none {x = []} (rw (same-refl key, is-key, no-recipe) at (h (offer [] ∷ []) key))
+
+changed : ((os ps : List Offer) (k : List ℕ) → heldFrom isRecipe higher (heldAfter noRules higher os k) ps k ≡ heldAfter isRecipe higher (os ++ ps) k) → ⊥
+unfolding heldFrom higher
+changed h = none {x = []} (sym (rw (same-refl key, is-key, no-recipe) at (h (offer [] ∷ []) [] key)))
 
 -- ---- 11: a store of no slot, and one of a slot
 no-slots : (j : ℕ) → j < slotsOf [] → ⊥
@@ -131,10 +134,10 @@ full h =
 pub no-fake : NoFake
 no-fake =
     record {
-      right = λ rules os ps s k. only rules k _ _ (s .there k) (s .back k) _ _ (held-highest rules k os) (held-highest rules k ps);
       newest = no-newest;
       by-sequence = no-sequence;
       forgetful = no-forgetting;
       other-rules = other;
-      without-11 = full;
+      changed-rules = changed;
+      though-11 = full;
     }

@@ -17,15 +17,15 @@ abbrev pub NoRecords : List ℕ → Type 0
 NoRecords t = (i : ℕ) → i < slotsOf t → used (slot t i) ≡ false
 
 -- "offered the same set of records .. in any order and with repeats": what is among the offers of one is among those of the other
-unfoldable pub Offered : List ℕ → List ℕ → List Offer → Type 0
-Offered k v [] = ⊥
-Offered k v (o ∷ os) = ((o .key ≡ k) × (o .value ≡ v)) ⊎ Offered k v os
+unfoldable pub IsOffered : List ℕ → List ℕ → List Offer → Type 0
+IsOffered k v [] = ⊥
+IsOffered k v (o ∷ os) = ((o .key ≡ k) × (o .value ≡ v)) ⊎ IsOffered k v os
 
 pub record SameSet (os ps : List Offer) : Type 0 where
-  pub there : (k v : List ℕ) → Offered k v os → Offered k v ps
-  pub back : (k v : List ℕ) → Offered k v ps → Offered k v os
+  pub there : (k v : List ℕ) → IsOffered k v os → IsOffered k v ps
+  pub back : (k v : List ℕ) → IsOffered k v ps → IsOffered k v os
 
--- "neither ever gave 11": none of the offers, as they come, is answered so. "Refusals 8, 9 and 10 on the way don't spoil it"
+-- "neither ever gave 11": none of the offers, as they come, is answered so. 8, 9 and 10 may be: "Refusals 8, 9 and 10 on the way don't spoil it"
 unfoldable pub Never11 : List ℕ → List Offer → Type 0
 Never11 t [] = Unit {0}
 Never11 t (o ∷ os) = (putAnswer t (o .key) (o .value) ≡ Refused NoRecordSlot → ⊥) × Never11 (offered t o) os
@@ -41,7 +41,7 @@ pub record HoldSame (t u : List ℕ) : Type 0 where
   pub there : Within t u
   pub back : Within u t
 
--- ---- what is held under a key. `rules` are the recipe rules, whatever they say: nothing here hangs on what a recipe is
+-- ---- what is held under a key. `rules` are recipe rules, whatever they say
 
 -- of the values that are offered under a key, one that neither 8 nor 9 refuses
 pub record Counts (rules : List ℕ → Bool) (k : List ℕ) (Among : List ℕ → Type 0) (v : List ℕ) : Type 0 where
@@ -66,15 +66,17 @@ heldFrom rules put g (o ∷ os) k = heldFrom rules put (cond (same (o .key) k &&
 abbrev pub heldAfter : (List ℕ → Bool) → (Got → List ℕ → Got) → List Offer → List ℕ → Got
 heldAfter rules put os k = heldFrom rules put None os k
 
+-- what offers come to goes by their set alone
+abbrev pub Agrees : (List Offer → List ℕ → Got) → Type 0
+Agrees holds = (os ps : List Offer) → SameSet os ps → (k : List ℕ) → holds os k ≡ holds ps k
+
 -- ---- the request
 pub record Agreement : Type 0 where
   pub two : (t u : List ℕ) (os ps : List Offer) → NoRecords t → NoRecords u → SameSet os ps → Never11 t os → Never11 u ps → HoldSame (after t os) (after u ps)
   -- what each holds: the highest-ranking of what it was offered, and that is worked out so
-  pub highest : (t : List ℕ) (os : List Offer) → NoRecords t → Never11 t os → (k : List ℕ) → Highest isRecipe k (λ v. Offered k v os) (got (after t os) k)
+  pub highest : (t : List ℕ) (os : List Offer) → NoRecords t → Never11 t os → (k : List ℕ) → Highest isRecipe k (λ v. IsOffered k v os) (got (after t os) k)
   pub held : (t : List ℕ) (os : List Offer) → NoRecords t → Never11 t os → (k : List ℕ) → got (after t os) k ≡ heldAfter isRecipe higher os k
-  -- "both run the same recipe rules throughout": by any rules a set has one highest value, which is worked out in the same way
-  pub rules : (rules : List ℕ → Bool) (os : List Offer) (k : List ℕ) → Highest rules k (λ v. Offered k v os) (heldAfter rules higher os k)
-  pub only : (rules : List ℕ → Bool) (os ps : List Offer) → SameSet os ps → (k : List ℕ) (g h : Got) → Highest rules k (λ v. Offered k v os) g
-      → Highest rules k (λ v. Offered k v ps) h → g ≡ h
-  -- and there are such stores: memory once cleared
+  -- "both run the same recipe rules throughout": by any rules, the same set comes to the same
+  pub any-rules : (rules : List ℕ → Bool) → Agrees (heldAfter rules higher)
+  -- memory once cleared has no records; 11 is given where no slot is free (Claims.antt, `PutTold`)
   pub begin : (n : ℕ) → NoRecords (cleared n)

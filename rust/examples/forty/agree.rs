@@ -1,4 +1,5 @@
-//! Two benches agree: a bench is offered records in an order of its own, and holds what any other holds that is offered the same.
+//! Two benches agree: a bench is offered records in an order of its own, and holds what any other holds that is offered the same. What it holds from before is one
+//! of these records too.
 
 use crate::tally::Around;
 use starterbell::message::{Draft, Record};
@@ -23,7 +24,7 @@ pub fn offer_all(node: &mut Node, benches: &[Vec<u8>], records: &[Record], aroun
 fn send(node: &mut Node, open: &mut Option<Connection>, others: &[&[u8]], record: &Record, around: &mut Around) -> Result<(), Refusal> {
     let mut connection = match open.take() {
         Some(connection) => connection,
-        // as a client, for which no contact makes room
+        // as a client, which never becomes a contact
         None => node.accept(Peer::client(others[around.rng.below(others.len())], &[]))?,
     };
     let message = Draft::put_value(record.key, record.value).to_vec()?;

@@ -173,6 +173,9 @@ fn summary(wanted: &Wanted, world: &World, kinds: &str, took: Duration) -> Strin
 }
 
 fn agreement(world: &World) -> String {
+    if world.phase != Phase::Over {
+        return "none, since the run didn't come to it".into();
+    }
     let (agreeing, records, tally) = (world.agreeing(), world.recipes(), &world.tally);
     format!("{agreeing} benches hold the same {records} records, byte for byte; {} offers, {} of them outranked", tally.offers, tally.late)
 }

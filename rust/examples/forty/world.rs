@@ -216,7 +216,9 @@ impl World {
                 }
             }
         }
-        problems.extend(self.at_odds().iter().map(|bench| format!("bench {bench} holds other records than the newer version of each recipe")));
+        if self.phase == Phase::Over {
+            problems.extend(self.at_odds().iter().map(|bench| format!("bench {bench} holds other records than the newer version of each recipe")));
+        }
         let no_slot = self.tally.refusals[Refusal::NoRecordSlot.number() as usize];
         if no_slot > 0 {
             problems.push(format!("{no_slot} records had no slot, where there is one for every recipe"));
