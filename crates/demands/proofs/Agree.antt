@@ -55,7 +55,7 @@ use Rattle.demands.specs.Box as box
 use Rattle.demands.specs.Box.{Entry, Box, Who, connOf, offerBy, offerIn, noted, Turn, Fits, Ask, dealing, happens, turning, asking, Own, Allowed, Good}
 use Rattle.demands.specs.Demands.{since, Finds}
 use Rattle.demands.specs.Agree as agree
-use Rattle.demands.specs.Agree.{Never11, Sends, Brings, takesAll, Bench, end, offers, OffersReach, BenchesAgree}
+use Rattle.demands.specs.Agree.{Never11, Sends, Brings, TakesAll, Bench, end, offers, OffersReach, BenchesAgree}
 use Rattle.demands.proofs.Connections.{whole-open}
 use Rattle.demands.proofs.Deal.{decoded}
 use Rattle.demands.proofs.Kept.{after-more, dealing-keeps}
@@ -299,7 +299,7 @@ module _ (i at : ℕ) (s : Sight) (body t k y : List ℕ) (os : List Offer) (a :
 
 module _ (me : Peer) (own : Own me) (s : World Who Box Ask) (r : Ready (Allowed me) (Good me) s) where
   -- ---- a piece that one receive takes whole
-  module _ (i : ℕ) (p : List ℕ) (all : takesAll (s .lines i) p) where
+  module _ (i : ℕ) (p : List ℕ) (all : TakesAll (s .lines i) p) where
     abbrev l : Line Who
     l = s .lines i
 

@@ -45,8 +45,8 @@ pub record Brings (l : Line Who) (p key value : List ℕ) : Type 0 where
   pub sends : Sends (l .who) (take size (framedOf (l .framing) (l .buffer) p .buffer)) key value
 
 -- one receive takes all of it
-abbrev pub takesAll : Line Who → List ℕ → Type 0
-takesAll l p = framedOf (l .framing) (l .buffer) p .got .taken ≡ length p
+abbrev pub TakesAll : Line Who → List ℕ → Type 0
+TakesAll l p = framedOf (l .framing) (l .buffer) p .got .taken ≡ length p
 
 -- a bench: a box that a start gave, the world in which its host begins, and all that the host does, peers' bytes handed over among it. `empty` is "start with no
 -- records", `never` "never gave 11": no line of its log since then does
@@ -78,9 +78,9 @@ pub record OffersReach (me : Peer) : Type 0 where
   pub asked : (s : World Who Box Ask) (o : Ask) → ((key value : List ℕ) → o ≡ put key value → ⊥) → since s (call (box me) s (asks o)) ≡ []
   pub turned : (s : World Who Box Ask) (i : ℕ) (b : Turn) → since s (call (box me) s (does i b)) ≡ []
   -- a piece that one receive takes whole adds the record that it brings, be it taken or refused, and where it brings none, none
-  pub sent : (s : World Who Box Ask) → Ready (Allowed me) (Good me) s → (i : ℕ) (p key value : List ℕ) → takesAll (s .lines i) p → Brings (s .lines i) p key value
+  pub sent : (s : World Who Box Ask) → Ready (Allowed me) (Good me) s → (i : ℕ) (p key value : List ℕ) → TakesAll (s .lines i) p → Brings (s .lines i) p key value
       → since s (call (box me) s (hand i p)) ≡ record { key = key; value = value } ∷ []
-  pub silent : (s : World Who Box Ask) → Ready (Allowed me) (Good me) s → (i : ℕ) (p : List ℕ) → takesAll (s .lines i) p → ((key value : List ℕ) → Brings (s .lines i) p key value → ⊥)
+  pub silent : (s : World Who Box Ask) → Ready (Allowed me) (Good me) s → (i : ℕ) (p : List ℕ) → TakesAll (s .lines i) p → ((key value : List ℕ) → Brings (s .lines i) p key value → ⊥)
       → since s (call (box me) s (hand i p)) ≡ []
   -- and later calls forget none
   pub joins : (s : World Who Box Ask) → Ready (Allowed me) (Good me) s → (cs ds : List (Call Turn Ask)) → AllFit Fits cs → AllFit Fits ds
