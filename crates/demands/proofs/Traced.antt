@@ -12,8 +12,7 @@ use Rattle.octets.proofs.Bools.{cond-ind}
 use Rattle.peer.specs.declared.Peer.{Peer}
 use Rattle.records_history.specs.History.{Offer}
 use Rattle.message.specs.View.{fieldsOf}
-use Rattle.lookup.specs.declared.Lookup.{Lookup}
-use Rattle.lookup.specs.declared.Step.{Step}
+use Rattle.lookup.specs.Value.{Lookup, Step}
 use Rattle.lookup.specs.Lookup.{nextOf}
 use Rattle.lookup_runs.specs.Runs.{Call as LookupCall, goNext, goReply, goFail, step, outcome}
 use Rattle.lookup_runs.specs.History.{Event, history}

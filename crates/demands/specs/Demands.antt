@@ -34,7 +34,7 @@ use Rattle.message.specs.View.{fieldsOf}
 use Rattle.round_trip.specs.Claims.{RoundTrip, WrittenIsRead}
 use Rattle.writer.specs.declared.Written.the-variants as writer
 use Rattle.writer.specs.Writer.{answerOf, outAfter}
-use Rattle.lookup.specs.declared.Lookup.{Lookup}
+use Rattle.lookup.specs.Value.{Lookup}
 use Rattle.lookup.specs.declared.Answer.the-variants as lookupAnswer
 use Rattle.lookup.specs.Lookup.{keyFits as lookupKeyFits, limitFits, noLookup}
 use Rattle.lookup_runs.specs.Runs.{accepted, Started, Call as Step, step, outcome}

@@ -10,8 +10,7 @@ use lib.Dec.{eqb}
 use Rattle.octets.specs.Octets.{Bytes}
 use Rattle.peer.specs.declared.Peer.{Peer}
 use Rattle.message.specs.View.{fieldsOf}
-use Rattle.lookup.specs.declared.Lookup.{Lookup}
-use Rattle.lookup.specs.declared.Step.{Step}
+use Rattle.lookup.specs.Value.{Lookup, Step}
 use Rattle.lookup_runs.specs.Runs.{accepted, Call as LookupCall, goNext, goReply, goFail, step, outcome}
 use Rattle.lookup_runs.specs.History.{Event, history}
 use Rattle.lookup_runs.specs.Claims.{Claims}

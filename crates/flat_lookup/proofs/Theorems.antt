@@ -12,7 +12,7 @@ use borrow.Author.Tests.{ltb-true, ltb-false}
 use Rattle.octets.proofs.Bools.{either}
 use Rattle.lookup.specs.Lookup.{room, idMost, keyMost, padded, nobody}
 use Rattle.lookup_candidates.specs.declared.Candidate.{Candidate}
-use Rattle.lookup.specs.declared.Lookup.{Lookup}
+use Rattle.lookup.specs.Value.{Lookup}
 use Rattle.lookup.proofs.Form.{Formed, formed}
 use Rattle.flat_lookup.specs.FlatLookup.{placeSize, idAt, placeAt, candidateSize, keyAt, targetAt, candidatesAt, flatSize, byteAt, bytesAt, candidateIn, candidatesIn, lookupIn, candidateBytes, candidatesBytes, headBytes, lookupBytes}
 use Rattle.flat_lookup.specs.Promises.{SizedCandidate, Fits, ReadsBack, FormReadsBack, FlatLength, LooksNoFurther, StoredReadsBack}
@@ -20,11 +20,11 @@ use Rattle.flat_lookup.proofs.Padding.{padded-length, padded-whole, pad
 use Rattle.flat_lookup.proofs.Writing.{candidate-length, candidates-long, head-length}
 
 -- ---- bytes that follow change nothing
-bytes-further : (n : ℕ) (s t : List ℕ) (i : ℕ) → i + n ≤ length s → bytesAt n (s ++ t) i ≡ bytesAt n s i
+pub bytes-further : (n : ℕ) (s t : List ℕ) (i : ℕ) → i + n ≤ length s → bytesAt n (s ++ t) i ≡ bytesAt n s i
 bytes-further n s t i h =
     ap (padded n) (drop-append-le i s t (omega arith)) ∙ padded-enough n (drop i s) t (omega (arith, length-drop i s))
 
-candidate-further : (s t : List ℕ) → candidateSize ≤ length s → candidateIn (s ++ t) ≡ candidateIn s
+pub candidate-further : (s t : List ℕ) → candidateSize ≤ length s → candidateIn (s ++ t) ≡ candidateIn s
 candidate-further s t h =
     rw (
       bytes-further idMost s t idAt (omega arith),
@@ -33,7 +33,7 @@ candidate-further s t h =
       List·getD-append s t 0 1 (omega arith),
     )
 
-candidates-further : (n : ℕ) (s t : List ℕ) → n * candidateSize ≤ length s → candidatesIn n (s ++ t) ≡ candidatesIn n s
+pub candidates-further : (n : ℕ) (s t : List ℕ) → n * candidateSize ≤ length s → candidatesIn n (s ++ t) ≡ candidatesIn n s
 unfolding candidatesIn
 candidates-further zero s t h = refl
 candidates-further (suc n) s t h =
@@ -67,7 +67,7 @@ looks-no-further s = ⊎-elim short long (either (ltb (length s) flatSize))
         sym (further (take flatSize s) (drop flatSize s) h) ∙ ap lookupIn (take-append-drop flatSize s)
 
 -- ---- candidates
-candidate-back : (c : Candidate) → SizedCandidate c → candidateIn (candidateBytes c) ≡ c
+pub candidate-back : (c : Candidate) → SizedCandidate c → candidateIn (candidateBytes c) ≡ c
 unfolding candidateBytes
 candidate-back c h =
     let p : List ℕ = padded idMost (c .id) in

@@ -10,7 +10,7 @@ use lib.Seq.{sets, length-sets, take-suc, take-all, length-take-le}
 use Rattle.octets.proofs.Stores.{sets-append}
 use Rattle.lookup.specs.Lookup.{room, idMost, keyMost, padded}
 use Rattle.lookup_candidates.specs.declared.Candidate.{Candidate}
-use Rattle.lookup.specs.declared.Lookup.{Lookup}
+use Rattle.lookup.specs.Value.{Lookup}
 use Rattle.flat_lookup.specs.FlatLookup.{placeSize, candidateSize, candidatesAt, candidateBytes, candidatesBytes, headBytes, lookupBytes}
 use Rattle.flat_lookup.proofs.Padding.{padded-length, padded-whole, three-runs}
 

@@ -12,9 +12,9 @@ use mathlib.Core.Bool.{cond}
 use mathlib.Core.List.{List, [], _∷_, _++_}
 use lib.ListN.{getD, drop}
 use lib.Dec.{ltb}
-use Rattle.lookup.specs.Lookup.{room, idMost, keyMost, padded}
+use Rattle.lookup.specs.Lookup.{room, idMost, keyMost, padded, nobody}
 use Rattle.lookup_candidates.specs.declared.Candidate.{Candidate}
-use Rattle.lookup.specs.declared.Lookup.{Lookup}
+use Rattle.lookup.specs.Value.{Lookup}
 
 -- ---- the layout
 abbrev pub placeSize : ℕ
@@ -90,6 +90,10 @@ lookupIn s =
       limit = byteAt s limitAt;
       turned = ltb 0 (byteAt s turnedAt);
     }
+
+-- the candidate of rank i
+abbrev pub candidateAt : List ℕ → ℕ → Candidate
+candidateAt s i = getD (lookupIn s .candidates) i nobody
 
 -- ---- writing: a limit or a length of the key that doesn't fit is cut to its lowest byte, the count to its lowest two. A candidate's numbers and
 -- the elements of the arrays are bytes by their types.

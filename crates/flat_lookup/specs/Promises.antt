@@ -7,7 +7,7 @@ use lib.ListN.{length, getD, take}
 use lib.Seq.{sets}
 use Rattle.lookup.specs.Lookup.{room, idMost, keyMost, nobody, inForm}
 use Rattle.lookup_candidates.specs.declared.Candidate.{Candidate}
-use Rattle.lookup.specs.declared.Lookup.{Lookup}
+use Rattle.lookup.specs.Value.{Lookup}
 use Rattle.flat_lookup.specs.FlatLookup.{placeSize, flatSize, lookupIn, lookupBytes}
 
 -- the arrays have their lengths: each value of the code's types has them

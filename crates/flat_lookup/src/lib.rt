@@ -1,13 +1,9 @@
-// A lookup as plain bytes, and back: a host that holds no Rattle values keeps a lookup as bytes that it lends. specs/FlatLookup.antt has the layout.
+// A lookup as plain bytes, which the steps change in place (lookup_in_place). specs/FlatLookup.antt has the layout.
 ghost use mathlib.Core.Path.{_≡_};
-ghost use Prim.Native.Nat.{_<_, _≤_};
+ghost use Prim.Native.Nat.{_<_};
 ghost use lib.ListN.{getD, drop};
-ghost use mathlib.Core.Bool.{cond};
-ghost use lib.Seq.{sets};
-ghost use Rattle.lookup.specs.Lookup.{keyMost};
-ghost use Rattle.flat_lookup.specs.FlatLookup.{placeSize, keyAt, flatSize, bytesAt, candidateIn, lookupIn, candidateBytes, headBytes, lookupBytes};
+ghost use Rattle.flat_lookup.specs.FlatLookup.{placeSize, bytesAt, candidateIn, lookupIn, candidateAt};
 use lookup::Candidate;
-use lookup::Lookup;
 
 // How many bytes a lookup has, and a candidate.
 pub const SIZE: usize = 25256;
@@ -15,30 +11,28 @@ pub const SIZE: usize = 25256;
 pub const CANDIDATE: usize = 98;
 
 // Where the numbers of a lookup stand, its key, its target and its first candidate.
-const COUNT_AT: usize = 0;
+pub const COUNT_AT: usize = 0;
 
-const SIZE_AT: usize = 2;
+pub const SIZE_AT: usize = 2;
 
-const LIMIT_AT: usize = 3;
+pub const LIMIT_AT: usize = 3;
 
-const TURNED_AT: usize = 4;
+pub const TURNED_AT: usize = 4;
 
-const KEY_AT: usize = 8;
+pub const KEY_AT: usize = 8;
 
-const TARGET_AT: usize = 136;
+pub const TARGET_AT: usize = 136;
 
-const CANDIDATES_AT: usize = 168;
+pub const CANDIDATES_AT: usize = 168;
 
 // Where the parts of a candidate stand, from its start on.
-const MARK_AT: usize = 0;
+pub const MARK_AT: usize = 0;
 
-const LEN_AT: usize = 1;
+pub const LEN_AT: usize = 1;
 
-const ID_AT: usize = 2;
+pub const ID_AT: usize = 2;
 
-const PLACE_AT: usize = 66;
-
-// ---- reading
+pub const PLACE_AT: usize = 66;
 
 // A byte of a slice, 0 past its end.
 fn byte(s: &[u8], at: usize) -> u8
@@ -51,7 +45,7 @@ fn byte(s: &[u8], at: usize) -> u8
 }
 
 // A byte of a slice as a number, 0 past its end.
-fn number(s: &[u8], at: usize) -> usize
+pub fn number(s: &[u8], at: usize) -> usize
     ensures { λ r. ⌜ (r ≡ getD (now (s .entry)) at 0) × (r < 256) ⌝ }
 {
     byte(s, at) as usize
@@ -77,15 +71,6 @@ fn place_in(s: &[u8], at: usize) -> [u8; 32]
     place
 }
 
-// The key of a lookup.
-fn key_in(s: &[u8]) -> [u8; 128]
-    ensures { λ r. ⌜ r ≡ bytesAt keyMost (now (s .entry)) keyAt ⌝ }
-{
-    let mut key = [0u8; 128];
-    octets::copy(&mut key, 0, rest(s, KEY_AT));
-    key
-}
-
 // The candidate at the start of a slice.
 fn candidate_in(s: &[u8]) -> Candidate
     ensures { λ r. ⌜ r ≡ candidateIn (now (s .entry)) ⌝ }
@@ -103,86 +88,19 @@ fn candidate_in(s: &[u8]) -> Candidate
     }
 }
 
-// The lookup that bytes stand for. The first candidate fills the array, then the others take their places.
-pub fn lookup_in(bytes: &[u8]) -> Lookup
-    ensures { λ r. ⌜ r ≡ lookupIn (now (bytes .entry)) ⌝ }
+// How many candidates there are.
+pub fn count_in(bytes: &[u8]) -> usize
+    ensures { λ r. ⌜ r ≡ (lookupIn (now (bytes .entry))) .count ⌝ }
 {
-    let key = key_in(bytes);
-    let target = place_in(bytes, TARGET_AT);
-    let count = number(bytes, COUNT_AT) + number(bytes, COUNT_AT + 1) * 256;
-    let size = number(bytes, SIZE_AT);
-    let limit = number(bytes, LIMIT_AT);
-    let turned = number(bytes, TURNED_AT) > 0;
-    let first = candidate_in(rest(bytes, CANDIDATES_AT));
-    let mut candidates = [first; 256];
-    let mut i: usize = 1;
-    while i < lookup::ROOM {
-        let c = candidate_in(rest(bytes, CANDIDATES_AT + i * CANDIDATE));
-        candidates[i] = c;
-        i += 1;
-    }
-    Lookup {
-        candidates,
-        key,
-        target,
-        count,
-        size,
-        limit,
-        turned,
-    }
+    number(bytes, COUNT_AT) + number(bytes, COUNT_AT + 1) * 256
 }
 
-// ---- writing
-
-// A flag as a byte.
-fn flag(b: bool) -> u8
-    ensures { λ r. ⌜ r ≡ cond b 1 0 ⌝ }
+// The candidate of a rank, nobody where there is no such rank.
+pub fn candidate_at(bytes: &[u8], rank: usize) -> Candidate
+    ensures { λ r. ⌜ r ≡ candidateAt (now (bytes .entry)) rank ⌝ }
 {
-    if b {
-        return 1;
+    if rank >= lookup::ROOM {
+        return lookup_candidates::no_candidate();
     }
-    0
-}
-
-// A candidate from a place on, as far as out goes.
-fn put_candidate(out: &mut [u8], at: usize, c: Candidate)
-    requires { ⌜ at ≤ flatSize ⌝ }
-    ensures { λ _. ⌜ now (out .exit) ≡ sets (now (out .entry)) at (candidateBytes c) ⌝ }
-{
-    let id = c.id;
-    let place = c.place;
-    let numbers = [c.mark, c.len];
-    octets::copy(out, at, &numbers);
-    octets::copy(out, at + ID_AT, &id);
-    octets::copy(out, at + PLACE_AT, &place);
-}
-
-// What stands before the candidates.
-fn put_head(out: &mut [u8], l: Lookup)
-    ensures { λ _. ⌜ now (out .exit) ≡ sets (now (out .entry)) 0 (headBytes l) ⌝ }
-{
-    let key = l.key;
-    let target = l.target;
-    let low = (l.count % 256) as u8;
-    let high = (l.count / 256 % 256) as u8;
-    let size = (l.size % 256) as u8;
-    let limit = (l.limit % 256) as u8;
-    let turned = flag(l.turned);
-    let numbers = [low, high, size, limit, turned, 0, 0, 0];
-    octets::copy(out, 0, &numbers);
-    octets::copy(out, KEY_AT, &key);
-    octets::copy(out, TARGET_AT, &target);
-}
-
-// The bytes that a lookup is kept as, from the start of out, as far as out goes.
-pub fn put_lookup(out: &mut [u8], l: Lookup)
-    ensures { λ _. ⌜ now (out .exit) ≡ sets (now (out .entry)) 0 (lookupBytes l) ⌝ }
-{
-    put_head(out, l);
-    let mut i: usize = 0;
-    while i < lookup::ROOM {
-        let c = l.candidates[i];
-        put_candidate(out, CANDIDATES_AT + i * CANDIDATE, c);
-        i += 1;
-    }
+    candidate_in(rest(bytes, CANDIDATES_AT + rank * CANDIDATE))
 }

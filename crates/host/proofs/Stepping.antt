@@ -10,8 +10,7 @@ use Rattle.peer.specs.declared.Peer.{Peer}
 use Rattle.message.specs.declared.Fields.{Fields}
 use Rattle.flat.specs.Flat.{peerIn}
 use lib.Dec.{ltb}
-use Rattle.lookup.specs.declared.Lookup.{Lookup}
-use Rattle.lookup.specs.declared.Step.{Step}
+use Rattle.lookup.specs.Value.{Lookup, Step}
 use Rattle.lookup.specs.Lookup.{nextOf}
 use Rattle.host_calls.specs.Hosts.{lookupStart, lookupReply, lookupFailure}
 use Rattle.flat_lookup.specs.FlatLookup.{lookupIn}

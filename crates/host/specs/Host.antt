@@ -10,7 +10,7 @@ use lib.Dec.{ltb}
 use Rattle.connections.specs.declared.Opened.{Opened}
 use Rattle.node.specs.Box.{startOf, openOf, endConn}
 use Rattle.node.specs.Node.{Out, receiveOf}
-use Rattle.lookup.specs.declared.Step.{Step}
+use Rattle.lookup.specs.Value.{Step}
 use Rattle.lookup.specs.Lookup.{nextOf}
 use Rattle.host_calls.specs.Hosts.{seenOf, seenAfter, settleOf, settleAfter, removeOf, removeAfter, nearestTo, lookupStart, lookupReply, lookupFailure}
 use Rattle.flat.specs.Flat.{peerSize, connSize, peerIn, connIn, saysYes, connBytes}

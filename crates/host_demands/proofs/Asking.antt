@@ -10,7 +10,7 @@ use Rattle.octets.proofs.Bools.{cond-ind, cond-no, or-fails}
 use Rattle.peer.specs.declared.Peer.{Peer}
 use Rattle.message.specs.View.{fieldsOf}
 use Rattle.message.specs.declared.Fields.{Fields}
-use Rattle.lookup.specs.declared.Step.{Step}
+use Rattle.lookup.specs.Value.{Step}
 use Rattle.lookup_runs.specs.Runs.{goNext, goReply, goFail, step}
 use Rattle.cutting.specs.World.{World, asked, call}
 use Rattle.flat.specs.Flat.{peerSize, peerIn, saysYes}

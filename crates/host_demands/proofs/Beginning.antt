@@ -7,7 +7,7 @@ use lib.ListN.{length, getD, set, drop, replicate, length-replicate}
 use lib.Seq.{sets}
 use lib.Dec.{ltb}
 use Rattle.stream.specs.declared.Framing.the-variants.{Shut}
-use Rattle.lookup.specs.declared.Lookup.{Lookup}
+use Rattle.lookup.specs.Value.{Lookup}
 use Rattle.lookup.specs.Lookup.{room, idMost, keyMost, padded, nobody, noLookup}
 use Rattle.flat.specs.Flat.{connSize, framingAt, peerIn, connIn, framingIn, framingOf, pairAt, withFraming}
 use Rattle.flat_lookup.specs.FlatLookup.{placeSize, idAt, placeAt, keyAt, targetAt, flatSize, candidatesAt, candidateSize, candidateIn, candidatesIn, lookupIn, candidateBytes, candidatesBytes, headBytes, lookupBytes}

@@ -20,8 +20,7 @@ use Rattle.records.specs.declared.Answer.the-variants as put
 use Rattle.records.specs.declared.Found.{Found}
 use Rattle.records.specs.declared.Found.the-variants as found
 use Rattle.message.specs.declared.Reading.the-variants as reading
-use Rattle.lookup.specs.declared.Lookup.{Lookup}
-use Rattle.lookup.specs.declared.Step.{Step}
+use Rattle.lookup.specs.Value.{Lookup, Step}
 use Rattle.lookup.specs.declared.Answer as lookup
 use Rattle.lookup.specs.declared.Answer.the-variants as steps
 use Rattle.lookup_runs.specs.Runs.{accepted, Call, goNext, goReply, goFail, step, outcome}

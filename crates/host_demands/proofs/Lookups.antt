@@ -22,8 +22,7 @@ use Rattle.place.specs.Place.{nearerTo}
 use Rattle.lookup_marks.specs.Marks.{answered}
 use Rattle.lookup_candidates.specs.declared.Candidate.{Candidate}
 use Rattle.lookup.specs.Lookup.{room, idMost, keyMost, limitMost, fresh, nobody, contactAt, idFits, candidatesOf, inForm, markAt, mark, put, turnAway, nextOf, whomOf, reported, known, enter, meet, hear, hearAll, replyOf, failureOf, noLookup, firstOnes, begun, keyFits, limitFits, startOf}
-use Rattle.lookup.specs.declared.Lookup.{Lookup}
-use Rattle.lookup.specs.declared.Step.{Step}
+use Rattle.lookup.specs.Value.{Lookup, Step}
 use Rattle.lookup.specs.declared.Answer.{Answer}
 use Rattle.lookup.specs.declared.Answer.the-variants.{Refused, Complete, CutShort, Wait, Ask, Going}
 use Rattle.lookup.specs.declared.Whom.{Whom}

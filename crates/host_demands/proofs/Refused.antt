@@ -13,7 +13,7 @@ use Rattle.peer.specs.declared.Peer.{Peer}
 use Rattle.records.specs.declared.Answer as stored
 use Rattle.records.specs.declared.Answer.the-variants as put
 use Rattle.records.specs.Store.{putAnswer, putAfter}
-use Rattle.lookup.specs.declared.Step.{Step}
+use Rattle.lookup.specs.Value.{Step}
 use Rattle.lookup.specs.declared.Answer as lookup
 use Rattle.lookup.specs.declared.Answer.the-variants as steps
 use Rattle.lookup.specs.Lookup.{noLookup}

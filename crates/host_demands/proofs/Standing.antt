@@ -4,7 +4,7 @@ use mathlib.Core.Path.{_≡_, refl}
 use mathlib.Core.Bool.{Bool, true, false, cond}
 use mathlib.Core.List.{List, [], _∷_, _++_, map}
 use lib.Dec.{eqb}
-use Rattle.lookup.specs.declared.Lookup.{Lookup}
+use Rattle.lookup.specs.Value.{Lookup}
 use Rattle.cutting.specs.World.{Did, Line, Shared, setAt, putBack}
 use Rattle.flat_lookup.specs.FlatLookup.{lookupIn}
 use Rattle.demands.specs.Box.{Box, Who, Ask, Entry}

@@ -5,8 +5,7 @@ use mathlib.Core.List.{List, [], _∷_, _++_, map, map-append, map-map}
 use mathlib.Core.Option.{Option, none, some, Option·some-injective, Option·none-ne-some}
 use lib.ListN.{length, drop, length-map}
 use lib.Seq.{drop-append-seam}
-use Rattle.lookup.specs.declared.Lookup.{Lookup}
-use Rattle.lookup.specs.declared.Step.{Step}
+use Rattle.lookup.specs.Value.{Lookup, Step}
 use Rattle.lookup_runs.specs.Runs.{step}
 use Rattle.lookup_runs.specs.History.{Event, history}
 use Rattle.cutting.specs.World.{World, Call, call, calls, AllFit}

@@ -11,7 +11,7 @@ use Rattle.refusal.specs.Refusal.{numberOf}
 use Rattle.records.specs.Store.{putAnswer, putAfter, findOf}
 use Rattle.records_history.specs.History.{Offer}
 use Rattle.message.specs.View.{fieldsOf}
-use Rattle.lookup.specs.declared.Step.{Step}
+use Rattle.lookup.specs.Value.{Step}
 use Rattle.lookup.specs.Lookup.{nextOf}
 use Rattle.cutting.specs.World.{Line, World, Mark, happened, asked, Call, hand, does, asks, setAt}
 use Rattle.node.specs.declared.Sight.{Sight}

@@ -3,7 +3,7 @@ use Prim.Native.Nat.{ℕ}
 use mathlib.Core.Path.{_≡_}
 use mathlib.Core.List.{List, [], _∷_, _++_}
 use mathlib.Core.Option.{Option, none, some}
-use Rattle.lookup.specs.declared.Step.{Step}
+use Rattle.lookup.specs.Value.{Step}
 use Rattle.cutting.specs.World.{Ready, AllFit}
 use Rattle.flat.specs.Flat.{peerIn}
 use Rattle.flat_lookup.specs.FlatLookup.{lookupIn}

@@ -12,8 +12,7 @@ use Rattle.octets.proofs.Bools.{cond-yes, cond-no, and-r}
 use Rattle.peer.specs.declared.Peer.{Peer}
 use Rattle.peer.specs.Peers.{idIn}
 use Rattle.message.specs.declared.Fields.{Fields}
-use Rattle.lookup.specs.declared.Lookup.{Lookup}
-use Rattle.lookup.specs.declared.Step.{Step}
+use Rattle.lookup.specs.Value.{Lookup, Step}
 use Rattle.lookup.specs.Lookup as lookup
 use Rattle.connections.specs.Box.{ownFits}
 use Rattle.host_lookups.specs.Lookups.{ownId, lookupStart, lookupReply, lookupFailure}

@@ -5,8 +5,7 @@ use mathlib.Core.List.{List, []}
 use Rattle.peer.specs.declared.Peer.{Peer}
 use Rattle.peer.specs.Peers.{idIn}
 use Rattle.message.specs.declared.Fields.{Fields}
-use Rattle.lookup.specs.declared.Lookup.{Lookup}
-use Rattle.lookup.specs.declared.Step.{Step}
+use Rattle.lookup.specs.Value.{Lookup, Step}
 use Rattle.lookup.specs.Lookup as lookup
 use Rattle.connections.specs.Box.{ownFits}
 

@@ -6,7 +6,7 @@ use mathlib.Core.List.{List, [], _∷_, _++_}
 use lib.Seq.{sets}
 use Rattle.octets.proofs.Bools.{cond-yes, cond-no}
 use Rattle.octets.proofs.Stores.{sets-append}
-use Rattle.lookup.specs.declared.Step.{Step}
+use Rattle.lookup.specs.Value.{Step}
 use Rattle.flat_lookup.specs.FlatLookup.{lookupBytes}
 use Rattle.host_steps.specs.Steps.{stepFirst, isRefused, stepNumbers, stepMemory}
 

@@ -6,7 +6,7 @@ use lib.Seq.{sets}
 use Rattle.refusal.specs.Refusal.{numberOf}
 use Rattle.lookup.specs.declared.Answer as lookup
 use Rattle.lookup.specs.declared.Answer.the-variants as step
-use Rattle.lookup.specs.declared.Step.{Step}
+use Rattle.lookup.specs.Value.{Step}
 use Rattle.flat_lookup.specs.FlatLookup.{lookupBytes}
 
 -- ---- lookups

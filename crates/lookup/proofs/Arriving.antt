@@ -18,7 +18,7 @@ use Rattle.lookup.specs.Inner.{beyond, rankOn}
 use Rattle.lookup_candidates.specs.Candidates.{arrivalOf, idFits, fresh, nobody}
 use Rattle.lookup.specs.Lookup.{meet, hear}
 use Rattle.lookup_candidates.specs.declared.Candidate.{Candidate}
-use Rattle.lookup.specs.declared.Lookup.{Lookup}
+use Rattle.lookup.specs.Value.{Lookup}
 use Rattle.lookup.proofs.Lists.{first-le, first-here, first-past}
 
 -- ---- one more of a list

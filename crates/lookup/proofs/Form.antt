@@ -13,7 +13,7 @@ use Rattle.lookup.specs.Lookup.{room, keyMost, limitMost, candidatesOf, 
 use Rattle.lookup_candidates.specs.Candidates.{wellMade}
 use Rattle.lookup_candidates.specs.declared.Candidate.{Candidate}
 use Rattle.lookup_candidates.proofs.Candidates.{all-last}
-use Rattle.lookup.specs.declared.Lookup.{Lookup}
+use Rattle.lookup.specs.Value.{Lookup}
 use Rattle.lookup.proofs.Lists.{one-on, at-end}
 
 -- ---- the candidates, nearest first

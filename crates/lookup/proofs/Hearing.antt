@@ -30,8 +30,7 @@ use Rattle.parts.specs.Parts.{isView}
 use Rattle.lookup.specs.Lookup.{room, candidatesOf, turnAway, put, mark, refuses, settled, whomOf, reported, known, enter, meet, hear, hearAll, findNode, heardIds, heardFrom, replyOf}
 use Rattle.lookup_candidates.specs.Candidates.{idFits, fresh}
 use Rattle.lookup_candidates.specs.declared.Candidate.{Candidate}
-use Rattle.lookup.specs.declared.Lookup.{Lookup}
-use Rattle.lookup.specs.declared.Step.{Step}
+use Rattle.lookup.specs.Value.{Lookup, Step}
 use Rattle.lookup.specs.declared.Whom.{Whom}
 use Rattle.lookup.specs.declared.Whom.the-variants.{Nobody, At}
 

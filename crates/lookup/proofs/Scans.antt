@@ -12,7 +12,7 @@ use Rattle.lookup.specs.Lists.{firstIn}
 use Rattle.lookup.specs.Inner.{beyond, rankOf}
 use Rattle.lookup.specs.Lookup.{candidatesOf, withCandidates, put, withMark, markAt, enter}
 use Rattle.lookup_candidates.specs.declared.Candidate.{Candidate}
-use Rattle.lookup.specs.declared.Lookup.{Lookup}
+use Rattle.lookup.specs.Value.{Lookup}
 use Rattle.lookup.proofs.Lists.{one-on, at-end, first-le}
 
 -- a mark is set

@@ -22,8 +22,7 @@ use Rattle.contacts.proofs.Sorting.{take-filled}
 use Rattle.lookup.specs.Lookup.{room, keyMost, refuses, settled, noLookup, firstOnes, begun, keyFits, limitFits, startOf}
 use Rattle.lookup_candidates.specs.Candidates.{padded, idFits, nobody, contactAt}
 use Rattle.lookup_candidates.specs.declared.Candidate.{Candidate}
-use Rattle.lookup.specs.declared.Lookup.{Lookup}
-use Rattle.lookup.specs.declared.Step.{Step}
+use Rattle.lookup.specs.Value.{Lookup, Step}
 
 -- ---- ranges
 pub range-low : (n m : ℕ) → n < 1 → false ≡ (leb 1 n && leb n m)

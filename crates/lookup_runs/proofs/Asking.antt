@@ -14,8 +14,7 @@ use Rattle.contacts.specs.Near.{nearestSlots}
 use Rattle.lookup_marks.specs.Marks.{idle, flying, answered, failed, sentOf}
 use Rattle.lookup.specs.Lookup.{room, candidatesOf, marksOf, turnAway, put, withMark, mark, idFits, fresh, known, enter, meet, hear, hearAll, heardIds, nobody, begun, contactAt, firstOnes}
 use Rattle.lookup_candidates.specs.declared.Candidate.{Candidate}
-use Rattle.lookup.specs.declared.Lookup.{Lookup}
-use Rattle.lookup.specs.declared.Step.{Step}
+use Rattle.lookup.specs.Value.{Lookup, Step}
 use Rattle.lookup.specs.declared.Answer.{Answer}
 use Rattle.lookup.specs.declared.Answer.the-variants.{Refused, Complete, CutShort, Wait, Ask, Going}
 use Rattle.lookup.proofs.Form.{formed}

@@ -19,8 +19,7 @@ use Rattle.parts.specs.Parts.{isView}
 use Rattle.parts.proofs.Own.{read-view}
 use Rattle.sha256.specs.Sha256.{sha256}
 use Rattle.lookup.specs.Lookup.{room, candidatesOf, markOf, marksOf, inForm, mark, gives, refuses, ends, settled, nextOf, badPeer, flyerOf, whomOf, reported, failureOf, heardFrom, replyOf}
-use Rattle.lookup.specs.declared.Lookup.{Lookup}
-use Rattle.lookup.specs.declared.Step.{Step}
+use Rattle.lookup.specs.Value.{Lookup, Step}
 use Rattle.lookup.specs.declared.Answer.{Answer}
 use Rattle.lookup.specs.declared.Answer.the-variants.{Refused, Complete, CutShort, Wait, Ask, Going}
 use Rattle.lookup.specs.declared.Whom.{Whom}

@@ -21,8 +21,7 @@ use Rattle.lookup_marks.specs.Marks.{idle, flying, answered, failed, wanted, ma
 use Rattle.lookup.specs.Lists.{firstIn, anyIn}
 use Rattle.lookup.specs.Lookup.{candidatesOf, markOf, marksOf, inForm, put, withMark, withCandidates, markAt, mark, gives, ends, settled, nextOf, known, liesAt, flies, flyerOf, badPeer, whomOf, reported, nobody, contactAt, firstOnes, begun, findNode, heardIds, heardFrom, hearAll, startOf}
 use Rattle.lookup_candidates.specs.declared.Candidate.{Candidate}
-use Rattle.lookup.specs.declared.Lookup.{Lookup}
-use Rattle.lookup.specs.declared.Step.{Step}
+use Rattle.lookup.specs.Value.{Lookup, Step}
 use Rattle.lookup.specs.declared.Answer.{Answer}
 use Rattle.lookup.specs.declared.Answer.the-variants.{Ask, Going, Complete, CutShort}
 use Rattle.lookup.specs.declared.Whom.{Whom}

@@ -15,8 +15,7 @@ use Rattle.message.specs.declared.Fields.{Fields}
 use Rattle.lookup_marks.specs.Marks.{flying, answered, failed}
 use Rattle.lookup.specs.Lists.{anyIn}
 use Rattle.lookup.specs.Lookup.{room, candidatesOf, turnAway, put, mark, idFits, fresh, liesAt, known, enter, meet, hear, hearAll, findNode, heardIds}
-use Rattle.lookup.specs.declared.Lookup.{Lookup}
-use Rattle.lookup.specs.declared.Step.{Step}
+use Rattle.lookup.specs.Value.{Lookup, Step}
 use Rattle.lookup_runs.specs.Runs.{accepted, Call, goReply, step, outcome}
 use Rattle.lookup_runs.specs.History.{history, tells, meansPeer, namedIn}
 use Rattle.lookup_runs.proofs.Marking.{marked-candidates, put-candidates, any-unset, any-entered}

@@ -23,8 +23,7 @@ use Rattle.lookup_marks.specs.Marks.{flying, answered, failed}
 use Rattle.lookup.specs.Lists.{anyIn}
 use Rattle.lookup.specs.Lookup.{idMost, candidatesOf, mark, idFits, fresh, heardIds, contactAt, firstOnes, begun}
 use Rattle.lookup_candidates.specs.declared.Candidate.{Candidate}
-use Rattle.lookup.specs.declared.Lookup.{Lookup}
-use Rattle.lookup.specs.declared.Step.{Step}
+use Rattle.lookup.specs.Value.{Lookup, Step}
 use Rattle.lookup_runs.specs.Runs.{Call, step, outcome}
 use Rattle.lookup_runs.specs.Claims.{idOf, hasOwnId}
 use Rattle.lookup_runs.proofs.Members.{In, in-any}

@@ -15,7 +15,7 @@ use Rattle.lookup_marks.specs.Marks.{idle, flying, marked, twentyOf, pick, idle
 use Rattle.lookup.specs.Lists.{firstIn, anyIn}
 use Rattle.lookup.specs.Lookup.{candidatesOf, markOf, put, withMark, markAt, mark, flies, flyerOf, enter, nobody}
 use Rattle.lookup_candidates.specs.declared.Candidate.{Candidate}
-use Rattle.lookup.specs.declared.Lookup.{Lookup}
+use Rattle.lookup.specs.Value.{Lookup}
 
 pub take-mark : (n i m : ℕ) (cs : List Candidate) → take n (markAt i m cs) ≡ markAt i m (take n cs)
 unfolding markAt

@@ -16,8 +16,7 @@ use Rattle.message.specs.declared.Fields.{Fields}
 use Rattle.lookup_marks.specs.Marks.{idle, flying, answered, failed, isOver, idleOf, flightsOf}
 use Rattle.parts.specs.Parts.{isView}
 use Rattle.lookup.specs.Lookup.{candidatesOf, marksOf, inForm, mark, gives, refuses, ends, settled, nextOf, badPeer, flyerOf, whomOf, reported, failureOf, hearAll, findNode, heardIds, heardFrom, replyOf, nobody}
-use Rattle.lookup.specs.declared.Lookup.{Lookup}
-use Rattle.lookup.specs.declared.Step.{Step}
+use Rattle.lookup.specs.Value.{Lookup, Step}
 use Rattle.lookup.specs.declared.Answer.{Answer}
 use Rattle.lookup.specs.declared.Answer.the-variants.{Refused, Complete, CutShort, Wait, Ask, Going}
 use Rattle.lookup.specs.declared.Whom.{Whom}

@@ -27,8 +27,7 @@ use Rattle.lookup_marks.specs.Marks.{idle, flying, answered, failed}
 use Rattle.lookup.specs.Lists.{anyIn}
 use Rattle.lookup.specs.Lookup.{room, idMost, keyMost, limitMost, candidatesOf, wellMade, follow, nearestFirst, inForm, turnAway, put, mark, idFits, padded, fresh, known, enter, meet, hear, hearAll, nobody, contactAt, firstOnes, begun, refuses, settled, noLookup, keyFits, limitFits, startOf}
 use Rattle.lookup_candidates.specs.declared.Candidate.{Candidate}
-use Rattle.lookup.specs.declared.Lookup.{Lookup}
-use Rattle.lookup.specs.declared.Step.{Step}
+use Rattle.lookup.specs.Value.{Lookup, Step}
 use Rattle.lookup.proofs.Form.{Formed, formed, form-of}
 use Rattle.lookup.proofs.Hearing.{enter-length}
 use Rattle.lookup.proofs.Starting.{nearest-few}

@@ -19,8 +19,7 @@ use Rattle.lookup_marks.specs.declared.Ranks.{Ranks}
 use Rattle.lookup.specs.Lists.{anyIn}
 use Rattle.lookup.specs.Lookup.{room, idMost, candidatesOf, liesAt, known, nobody, wellMade, nearestFirst, begun, startOf}
 use Rattle.lookup_candidates.specs.declared.Candidate.{Candidate}
-use Rattle.lookup.specs.declared.Lookup.{Lookup}
-use Rattle.lookup.specs.declared.Step.{Step}
+use Rattle.lookup.specs.Value.{Lookup, Step}
 use Rattle.lookup.specs.declared.Answer.the-variants.{Complete, CutShort}
 use Rattle.lookup.proofs.Form.{formed}
 use Rattle.lookup_runs.specs.Runs.{Started, Call, step, outcome}

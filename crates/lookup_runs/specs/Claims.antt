@@ -17,8 +17,7 @@ use Rattle.lookup_marks.specs.Marks.{isOver, flightsOf}
 use Rattle.lookup.specs.Lists.{anyIn}
 use Rattle.lookup.specs.Lookup.{candidatesOf, marksOf, inForm, ends, known, nobody}
 use Rattle.lookup_candidates.specs.declared.Candidate.{Candidate}
-use Rattle.lookup.specs.declared.Lookup.{Lookup}
-use Rattle.lookup.specs.declared.Step.{Step}
+use Rattle.lookup.specs.Value.{Lookup, Step}
 use Rattle.lookup.specs.declared.Answer.the-variants.{Refused, Complete, CutShort}
 use Rattle.lookup_runs.specs.Runs.{Call, goNext, goReply, goFail, outcome}
 use Rattle.lookup_runs.specs.History.{Event, history, hasAnswered, hasFailed, heardOf, timesAsked, hasBeenAsked, requests, markBy, placesFound, TwentyNearest}

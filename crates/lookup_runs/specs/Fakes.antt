@@ -12,8 +12,7 @@ use Rattle.parts.specs.Parts.{isView}
 use Rattle.lookup_marks.specs.Marks.{answered, failed}
 use Rattle.lookup.specs.Lists.{anyIn}
 use Rattle.lookup.specs.Lookup.{candidatesOf, put, withCandidates, withMark, contactAt, nobody, badPeer, whomOf, reported, findNode, heardIds, heardFrom, nextOf, replyOf, failureOf, startOf}
-use Rattle.lookup.specs.declared.Lookup.{Lookup}
-use Rattle.lookup.specs.declared.Step.{Step}
+use Rattle.lookup.specs.Value.{Lookup, Step}
 use Rattle.lookup_runs.specs.Runs.{Started, Call, goNext, goReply, goFail}
 use Rattle.lookup_runs.specs.Claims.{Claims}
 

@@ -5,7 +5,7 @@ use mathlib.Core.List.{List}
 use Rattle.refusal.specs.declared.Refusal.{Refusal}
 use Rattle.refusal.specs.declared.Refusal.the-variants.{OutOfForm}
 use Rattle.lookup.specs.Lookup.{refuses, noLookup, startOf}
-use Rattle.lookup.specs.declared.Lookup.{Lookup}
+use Rattle.lookup.specs.Value.{Lookup}
 use Rattle.lookup.specs.declared.Answer.the-variants.{Refused}
 use Rattle.lookup_runs.specs.Runs.{Call, step, outcome}
 

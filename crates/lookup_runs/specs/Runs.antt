@@ -6,8 +6,7 @@ use mathlib.Core.List.{List, [], _∷_}
 use Rattle.octets.specs.Octets.{Bytes}
 use Rattle.message.specs.declared.Fields.{Fields}
 use Rattle.lookup.specs.Lookup.{nextOf, replyOf, failureOf, startOf}
-use Rattle.lookup.specs.declared.Lookup.{Lookup}
-use Rattle.lookup.specs.declared.Step.{Step}
+use Rattle.lookup.specs.Value.{Lookup, Step}
 use Rattle.lookup.specs.declared.Answer.{Answer}
 use Rattle.lookup.specs.declared.Answer.the-variants.{Refused, Complete, CutShort, Wait, Ask, Going}
 

@@ -46,8 +46,7 @@ use Rattle.view.specs.declared.View.{View}
 use Rattle.view.proofs.View as T
 use Rattle.view.proofs.View.Laws as T′
 use Rattle.lookup.specs.Lookup.{replyOf}
-use Rattle.lookup.specs.declared.Lookup.{Lookup}
-use Rattle.lookup.specs.declared.Step.{Step}
+use Rattle.lookup.specs.Value.{Lookup, Step}
 use Rattle.lookup.proofs.Lookup as X
 use Rattle.lookup.proofs.Lookup.Laws as X′
 use Rattle.lookup.proofs.Step as R
