@@ -1,122 +1,102 @@
 -- What a step of a lookup hands over is what the lookup gave. Assumes nothing.
 use Prim.Native.Nat.{ℕ, _<_, _≤_}
-use mathlib.Core.Path.{_≡_, sym, ap, _∙_}
-use mathlib.Core.Bool.{Bool, true, false}
+use mathlib.Core.Path.{_≡_, refl, sym, ap, _∙_, subst}
+use mathlib.Core.Bool.{Bool, true, false, cond, _||_}
 use mathlib.Core.List.{List}
+use lib.Dec.{ltb}
 use lib.ListN.{length}
 use borrow.Author.Tests.{lt-ltb, le-ltb}
-use Rattle.octets.proofs.Bools.{or-l, cond-yes, cond-no, or-r, or-fails}
+use Rattle.octets.proofs.Bools.{or-l, cond-yes}
+use Rattle.refusal.specs.declared.Refusal.the-variants.{OutOfForm}
 use Rattle.peer.specs.declared.Peer.{Peer}
 use Rattle.message.specs.declared.Fields.{Fields}
-use Rattle.flat.specs.Flat.{peerIn}
-use lib.Dec.{ltb}
-use Rattle.lookup.specs.Value.{Lookup, Step}
-use Rattle.lookup.specs.Lookup.{nextOf}
+use Rattle.flat.specs.Flat.{peerSize, peerIn}
+use Rattle.lookup.specs.Value.{Step}
+use Rattle.lookup.specs.Lookup.{refuses, nextOf}
+use Rattle.flat_lookup.specs.FlatLookup.{flatSize, lookupIn}
+use Rattle.lookup_in_place.specs.declared.Outcome.{Outcome}
+use Rattle.lookup_in_place.specs.InPlace.{outcomeOf, stepIn, stepMemory, startedMemory, startMemory}
 use Rattle.host_calls.specs.Hosts.{lookupStart, lookupReply, lookupFailure}
-use Rattle.flat_lookup.specs.FlatLookup.{lookupIn}
 use Rattle.host_numbers.specs.Numbers.{viewIn}
-use Rattle.host_steps.specs.Steps.{stepNumber, stepNumbers, stepMemory, startedMemory}
+use Rattle.host_steps.specs.Steps.{stepNumber, outcomeNumbers, stepNumbers}
 use Rattle.host.specs.Host.{tooShort, Steps, Begins, Nexts, Replies, Fails}
 
--- ---- a call
-module _ (short : Bool) (s : Step) (after m out : List ℕ) where
-  steps-short : short ≡ true → Steps short s after m out 0 m out
-  steps-short h = record {
-    code = sym (cond-yes short 0 (stepNumber (s .answer)) h);
-    memory = sym (cond-yes short m after h);
-    numbers = sym (cond-yes short out (stepNumbers out s) h);
-  }
-
-  steps-done : (r : ℕ) (m′ out′ : List ℕ) → short ≡ false → r ≡ stepNumber (s .answer) → m′ ≡ after → out′ ≡ stepNumbers out s
-      → Steps short s after m out r m′ out′
-  steps-done r m′ out′ h hr hm ho = record {
-    code = hr ∙ sym (cond-no short 0 (stepNumber (s .answer)) h);
-    memory = hm ∙ sym (cond-no short m after h);
-    numbers = ho ∙ sym (cond-no short out (stepNumbers out s) h);
-  }
-
+-- ---- the memory of the box
 module _ (me m : List ℕ) where
-  box-short : length me < 616 → tooShort me m ≡ true
+  box-there : peerSize ≤ length me → tooShort me m ≡ ltb (length m) flatSize
   unfolding tooShort
-  box-short l = or-l (ltb (length me) 616) (ltb (length m) 25256) (lt-ltb (length me) 616 l)
+  box-there l = ap (λ (b : Bool). b || ltb (length m) flatSize) (le-ltb (length me) peerSize l)
 
-  lookup-short : length m < 25256 → tooShort me m ≡ true
+  steps-short : (s : Step) (after out : List ℕ) → length me < peerSize → Steps (tooShort me m) s after m out 0 m out
   unfolding tooShort
-  lookup-short l = or-r (ltb (length me) 616) (ltb (length m) 25256) (lt-ltb (length m) 25256 l)
+  steps-short s after out l =
+      let h : tooShort me m ≡ true = or-l (ltb (length me) peerSize) (ltb (length m) flatSize) (lt-ltb (length me) peerSize l) in
+      record {
+        code = sym (cond-yes (tooShort me m) 0 (stepNumber (s .answer)) h);
+        memory = sym (cond-yes (tooShort me m) m after h);
+        numbers = sym (cond-yes (tooShort me m) out (stepNumbers out s) h);
+      }
 
-  enough : 616 ≤ length me → 25256 ≤ length m → tooShort me m ≡ false
-  unfolding tooShort
-  enough l k = or-fails (ltb (length me) 616) (ltb (length m) 25256) (le-ltb (length me) 616 l) (le-ltb (length m) 25256 k)
+-- ---- a step, and what was told of it: a lookup's memory that is too short is out of form, which refuses with 0
+module _ (m out : List ℕ) (o : Outcome) (r : ℕ) (m′ out′ : List ℕ) (told : (r ≡ stepNumber (o .answer)) × (out′ ≡ outcomeNumbers out o)) where
+  steps-told : (s : Step) (short : Bool) (after : List ℕ) → short ≡ ltb (length m) flatSize → o ≡ outcomeOf (stepIn m s)
+      → m′ ≡ cond (ltb (length m) flatSize) m after → Steps short s after m out r m′ out′
+  steps-told s short after e eo em =
+      let few : Bool = ltb (length m) flatSize in
+      record {
+        code = told .0 ∙ ap (λ (x : Outcome). stepNumber (x .answer)) eo ∙ number few ∙ ap (λ (b : Bool). cond b 0 (stepNumber (s .answer))) (sym e);
+        memory = em ∙ ap (λ (b : Bool). cond b m after) (sym e);
+        numbers = told .1 ∙ ap (outcomeNumbers out) eo ∙ numbers few ∙ ap (λ (b : Bool). cond b out (stepNumbers out s)) (sym e);
+      }
+    where
+      number : (b : Bool) → stepNumber (cond b (refuses (lookupIn m) OutOfForm) s .answer) ≡ cond b 0 (stepNumber (s .answer))
+      number true = refl
+      number false = refl
 
--- what a step x gave, where x is s
-module _ (x s : Step) (e : x ≡ s) (m out : List ℕ) where
-  code-of-step : (r : ℕ) → r ≡ stepNumber (x .answer) → r ≡ stepNumber (s .answer)
-  code-of-step r h = h ∙ ap (λ (y : Step). stepNumber (y .answer)) e
+      numbers : (b : Bool) → stepNumbers out (cond b (refuses (lookupIn m) OutOfForm) s) ≡ cond b out (stepNumbers out s)
+      numbers true = refl
+      numbers false = refl
 
-  memory-of-step : (m′ : List ℕ) → m′ ≡ stepMemory m x → m′ ≡ stepMemory m s
-  memory-of-step m′ h = h ∙ ap (stepMemory m) e
+  step-told : (s : Step) (short : Bool) → short ≡ ltb (length m) flatSize → (o ≡ outcomeOf (stepIn m s)) × (m′ ≡ stepMemory m (stepIn m s))
+      → Steps short s (stepMemory m s) m out r m′ out′
+  step-told s short e (eo, em) = steps-told s short (stepMemory m s) e eo (em ∙ left (ltb (length m) flatSize))
+    where
+      left : (b : Bool) → stepMemory m (cond b (refuses (lookupIn m) OutOfForm) s) ≡ cond b m (stepMemory m s)
+      left true = refl
+      left false = refl
 
-  started-memory : (m′ : List ℕ) → m′ ≡ startedMemory m x → m′ ≡ startedMemory m s
-  started-memory m′ h = h ∙ ap (startedMemory m) e
+  pub next-told : (o ≡ outcomeOf (stepIn m (nextOf (lookupIn m)))) × (m′ ≡ stepMemory m (stepIn m (nextOf (lookupIn m)))) → Nexts m out r m′ out′
+  next-told h = step-told (nextOf (lookupIn m)) (ltb (length m) flatSize) refl h
 
-  numbers-of-step : (out′ : List ℕ) → out′ ≡ stepNumbers out x → out′ ≡ stepNumbers out s
-  numbers-of-step out′ h = h ∙ ap (stepNumbers out) e
+  module _ (me : List ℕ) (l : peerSize ≤ length me) (p : Peer) (e : p ≡ peerIn me) where
+    pub start-told : (t key : List ℕ) (limit : ℕ) → (o ≡ outcomeOf (stepIn m (lookupStart p t key limit))) × (m′ ≡ startMemory m (lookupStart p t key limit))
+        → Begins me m t key limit out r m′ out′
+    start-told t key limit (eo, em) =
+        subst (λ (q : Peer). Steps (tooShort me m) (lookupStart q t key limit) (startedMemory m (lookupStart q t key limit)) m out r m′ out′) e
+        (steps-told (lookupStart p t key limit) (tooShort me m) (startedMemory m (lookupStart p t key limit)) (box-there me m l) eo em)
 
-module _ (me m t key : List ℕ) (limit : ℕ) (out : List ℕ) where
-  pub begin-short : length me < 616 → Begins me m t key limit out 0 m out
-  begin-short l = let s = lookupStart (peerIn me) t key limit in steps-short (tooShort me m) s (startedMemory m s) m out (box-short me m l)
+    abbrev Stepped : Step → Type 0
+    Stepped s = (o ≡ outcomeOf (stepIn m s)) × (m′ ≡ stepMemory m (stepIn m s))
 
-  pub begin-second : length m < 25256 → Begins me m t key limit out 0 m out
-  begin-second l = let s = lookupStart (peerIn me) t key limit in steps-short (tooShort me m) s (startedMemory m s) m out (lookup-short me m l)
+    pub reply-told : (id body view : List ℕ) (v : Fields) → v ≡ viewIn view → Stepped (lookupReply p (lookupIn m) id body v) → Replies me m id body view out r m′ out′
+    reply-told id body view v ev h =
+        subst (λ (q : Peer). Replying q (viewIn view)) e (subst (Replying p) ev (step-told (lookupReply p (lookupIn m) id body v) (tooShort me m) (box-there me m l) h))
+      where
+        Replying : Peer → Fields → Type 0
+        Replying q w = Steps (tooShort me m) (lookupReply q (lookupIn m) id body w) (stepMemory m (lookupReply q (lookupIn m) id body w)) m out r m′ out′
 
-  pub begin-done : (r : ℕ) (m′ out′ : List ℕ) (p : Peer) (x : Step) → 616 ≤ length me → 25256 ≤ length m → p ≡ peerIn me → x ≡ lookupStart p t key limit
-      → r ≡ stepNumber (x .answer) → m′ ≡ startedMemory m x → out′ ≡ stepNumbers out x → Begins me m t key limit out r m′ out′
-  begin-done r m′ out′ p x l k ep ex hr hm ho =
-      let s = lookupStart (peerIn me) t key limit in
-      let e = ex ∙ ap (λ (q : Peer). lookupStart q t key limit) ep in
-      steps-done (tooShort me m) s (startedMemory m s) m out r m′ out′ (enough me m l k) (code-of-step x s e m out r hr) (started-memory x s e m out m′ hm) (numbers-of-step x s e m out out′ ho)
+    pub failure-told : (id : List ℕ) → Stepped (lookupFailure p (lookupIn m) id) → Fails me m id out r m′ out′
+    failure-told id h =
+        subst (λ (q : Peer). Steps (tooShort me m) (lookupFailure q (lookupIn m) id) (stepMemory m (lookupFailure q (lookupIn m) id)) m out r m′ out′) e
+        (step-told (lookupFailure p (lookupIn m) id) (tooShort me m) (box-there me m l) h)
 
-module _ (m out : List ℕ) where
-  pub next-short : length m < 25256 → Nexts m out 0 m out
-  next-short l = let s = nextOf (lookupIn m) in steps-short (ltb (length m) 25256) s (stepMemory m s) m out (lt-ltb (length m) 25256 l)
+-- ---- a box whose memory is too short
+module _ (me m out : List ℕ) (l : length me < peerSize) where
+  pub start-short : (t key : List ℕ) (limit : ℕ) → Begins me m t key limit out 0 m out
+  start-short t key limit = let s = lookupStart (peerIn me) t key limit in steps-short me m s (startedMemory m s) out l
 
-  pub next-done : (r : ℕ) (m′ out′ : List ℕ) (l : Lookup) (x : Step) → 25256 ≤ length m → l ≡ lookupIn m → x ≡ nextOf l
-      → r ≡ stepNumber (x .answer) → m′ ≡ stepMemory m x → out′ ≡ stepNumbers out x → Nexts m out r m′ out′
-  next-done r m′ out′ l x k el ex hr hm ho =
-      let s = nextOf (lookupIn m) in
-      let e = ex ∙ ap nextOf el in
-      steps-done (ltb (length m) 25256) s (stepMemory m s) m out r m′ out′ (le-ltb (length m) 25256 k) (code-of-step x s e m out r hr) (memory-of-step x s e m out m′ hm) (numbers-of-step x s e m out out′ ho)
+  pub reply-short : (id body view : List ℕ) → Replies me m id body view out 0 m out
+  reply-short id body view = let s = lookupReply (peerIn me) (lookupIn m) id body (viewIn view) in steps-short me m s (stepMemory m s) out l
 
-module _ (me m id body view out : List ℕ) where
-  pub reply-short : length me < 616 → Replies me m id body view out 0 m out
-  reply-short l =
-      let s = lookupReply (peerIn me) (lookupIn m) id body (viewIn view) in steps-short (tooShort me m) s (stepMemory m s) m out (box-short me m l)
-
-  pub reply-second : length m < 25256 → Replies me m id body view out 0 m out
-  reply-second l =
-      let s = lookupReply (peerIn me) (lookupIn m) id body (viewIn view) in steps-short (tooShort me m) s (stepMemory m s) m out (lookup-short me m l)
-
-  pub reply-done : (r : ℕ) (m′ out′ : List ℕ) (p : Peer) (l : Lookup) (v : Fields) (x : Step) → 616 ≤ length me → 25256 ≤ length m
-      → p ≡ peerIn me → l ≡ lookupIn m → v ≡ viewIn view → x ≡ lookupReply p l id body v
-      → r ≡ stepNumber (x .answer) → m′ ≡ stepMemory m x → out′ ≡ stepNumbers out x → Replies me m id body view out r m′ out′
-  reply-done r m′ out′ p l v x b k ep el ev ex hr hm ho =
-      let s = lookupReply (peerIn me) (lookupIn m) id body (viewIn view) in
-      let e = ex ∙ ap (λ (q : Peer). lookupReply q l id body v) ep
-      ∙ ap (λ (q : Lookup). lookupReply (peerIn me) q id body v) el
-      ∙ ap (λ (q : Fields). lookupReply (peerIn me) (lookupIn m) id body q) ev in
-      steps-done (tooShort me m) s (stepMemory m s) m out r m′ out′ (enough me m b k) (code-of-step x s e m out r hr) (memory-of-step x s e m out m′ hm) (numbers-of-step x s e m out out′ ho)
-
-module _ (me m id out : List ℕ) where
-  pub failure-short : length me < 616 → Fails me m id out 0 m out
-  failure-short l = let s = lookupFailure (peerIn me) (lookupIn m) id in steps-short (tooShort me m) s (stepMemory m s) m out (box-short me m l)
-
-  pub failure-second : length m < 25256 → Fails me m id out 0 m out
-  failure-second l = let s = lookupFailure (peerIn me) (lookupIn m) id in steps-short (tooShort me m) s (stepMemory m s) m out (lookup-short me m l)
-
-  pub failure-done : (r : ℕ) (m′ out′ : List ℕ) (p : Peer) (l : Lookup) (x : Step) → 616 ≤ length me → 25256 ≤ length m
-      → p ≡ peerIn me → l ≡ lookupIn m → x ≡ lookupFailure p l id
-      → r ≡ stepNumber (x .answer) → m′ ≡ stepMemory m x → out′ ≡ stepNumbers out x → Fails me m id out r m′ out′
-  failure-done r m′ out′ p l x b k ep el ex hr hm ho =
-      let s = lookupFailure (peerIn me) (lookupIn m) id in
-      let e = ex ∙ ap (λ (q : Peer). lookupFailure q l id) ep ∙ ap (λ (q : Lookup). lookupFailure (peerIn me) q id) el in
-      steps-done (tooShort me m) s (stepMemory m s) m out r m′ out′ (enough me m b k) (code-of-step x s e m out r hr) (memory-of-step x s e m out m′ hm) (numbers-of-step x s e m out out′ ho)
+  pub failure-short : (id : List ℕ) → Fails me m id out 0 m out
+  failure-short id = let s = lookupFailure (peerIn me) (lookupIn m) id in steps-short me m s (stepMemory m s) out l

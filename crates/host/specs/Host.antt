@@ -19,7 +19,8 @@ use Rattle.host_numbers.specs.Numbers.{toldCode, viewIn}
 use Rattle.contact_calls.specs.Calls.{seenNumber, settleNumber, removeNumber}
 use Rattle.host_answers.specs.Answers.{seenNumbers, nearestNumbers}
 use Rattle.host_state.specs.State.{boxAfter, endingCode, endedMemory, answerNumber, receivedNumbers, receivedMemory, nothingTaken}
-use Rattle.host_steps.specs.Steps.{stepNumber, stepNumbers, stepMemory, startedMemory}
+use Rattle.lookup_in_place.specs.InPlace.{stepMemory, startedMemory}
+use Rattle.host_steps.specs.Steps.{stepNumber, stepNumbers}
 
 -- ---- memory that the host lends
 -- memory of under n bytes can't be what it is lent for: the first, else the second

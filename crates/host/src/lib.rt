@@ -336,11 +336,8 @@ pub extern "C" fn starterbell_lookup_start(
     if me.len() < flat::PEER {
         return 0;
     }
-    if memory.len() < flat_lookup::SIZE {
-        return 0;
-    }
-    let s = host_calls::lookup_start(flat::peer_in(me), contacts, key, limit);
-    host_steps::keep_start(memory, out, s)
+    let o = host_calls::lookup_start(flat::peer_in(me), memory, contacts, key, limit);
+    host_steps::tell(out, o)
 }
 
 // The next step of a lookup. 65 where it waits, 66 where a peer is to be asked, 67 where it is complete, 68 where it was cut short, or a refusal. In C:
@@ -350,11 +347,8 @@ pub extern "C" fn starterbell_lookup_start(
 pub extern "C" fn starterbell_lookup_next(memory: &mut [u8], out: &mut [u64]) -> u32
     ensures { λ r. ⌜ Nexts (now (memory .entry)) (now (out .entry)) r (now (memory .exit)) (now (out .exit)) ⌝ }
 {
-    if memory.len() < flat_lookup::SIZE {
-        return 0;
-    }
-    let s = host_calls::lookup_next(flat_lookup::lookup_in(memory));
-    host_steps::keep_step(memory, out, s)
+    let o = host_calls::lookup_next(memory);
+    host_steps::tell(out, o)
 }
 
 // A message that came for a lookup, from the peer with this id: its body, and its view as receive or read gave it. 64 where the lookup is going, 67 where it
@@ -376,13 +370,9 @@ pub extern "C" fn starterbell_lookup_reply(
     if me.len() < flat::PEER {
         return 0;
     }
-    if memory.len() < flat_lookup::SIZE {
-        return 0;
-    }
     let p = flat::peer_in(me);
-    let l = flat_lookup::lookup_in(memory);
-    let s = host_calls::lookup_reply(p, l, id, body, host_numbers::view_in(view));
-    host_steps::keep_step(memory, out, s)
+    let o = host_calls::lookup_reply(p, memory, id, body, host_numbers::view_in(view));
+    host_steps::tell(out, o)
 }
 
 // The peer with this id failed a lookup. Returns what a reply returns. In C:
@@ -401,11 +391,6 @@ pub extern "C" fn starterbell_lookup_failure(
     if me.len() < flat::PEER {
         return 0;
     }
-    if memory.len() < flat_lookup::SIZE {
-        return 0;
-    }
-    let p = flat::peer_in(me);
-    let l = flat_lookup::lookup_in(memory);
-    let s = host_calls::lookup_failure(p, l, id);
-    host_steps::keep_step(memory, out, s)
+    let o = host_calls::lookup_failure(flat::peer_in(me), memory, id);
+    host_steps::tell(out, o)
 }

@@ -20,7 +20,8 @@ use Rattle.host_calls.specs.Hosts.{ownId, seenOf, seenAfter, settleOf, settleAf
 use Rattle.host_numbers.specs.Numbers.{toldCode, viewNumbers, viewIn}
 use Rattle.contact_calls.specs.Calls.{seenNumber, settleNumber, removeNumber}
 use Rattle.host_answers.specs.Answers.{seenNumbers, nearestNumbers}
-use Rattle.host_steps.specs.Steps.{stepNumber, stepNumbers, stepMemory, startedMemory}
+use Rattle.lookup_in_place.specs.InPlace.{stepMemory, startedMemory}
+use Rattle.host_steps.specs.Steps.{stepNumber, stepNumbers}
 use Rattle.host.specs.Host.{lent, tooShort, seenContacts, settleContacts, removeContacts}
 use Rattle.demands.specs.Box as box
 use Rattle.demands.specs.Box.{Box, Who, Ask}
@@ -28,7 +29,9 @@ use Rattle.host_demands.specs.Calls as calls
 use Rattle.host_demands.specs.Calls.{Memory, History, Lent, Seen, onlyNumber, withContacts, withLookup, worldIn, Stands, entrySeen, startStep, nextStep, replyStep, heardStep, failureStep}
 use Rattle.host_demands.specs.Hosted.{Started, Follows}
 use Rattle.host_demands.proofs.Connections.{lent-enough}
-use Rattle.host_demands.proofs.Lookups.{step-reads, start-reads, step-length, start-length}
+use Rattle.lookup_in_place.proofs.ReadBack.{start-reads}
+use Rattle.lookup_value.proofs.ReadBack.{step-reads}
+use Rattle.host_demands.proofs.Lookups.{step-length, start-length}
 use Rattle.host_demands.proofs.Standing.{set-lookup, one-more-seen}
 
 module _ (me : List ℕ) (S : Started me) (m : Memory) (h : History) (len : Lent m) where

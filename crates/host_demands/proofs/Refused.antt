@@ -27,14 +27,15 @@ use Rattle.host_calls.specs.Hosts.{ownId, seenOf, seenAfter, settleOf, settleAf
 use Rattle.contact_calls.specs.Calls.{seenNumber, settleNumber, removeNumber}
 use Rattle.host_answers.specs.Answers.{putNumber}
 use Rattle.host_state.specs.State.{answerNumber}
-use Rattle.host_steps.specs.Steps.{stepNumber, stepMemory, isRefused}
+use Rattle.lookup_in_place.specs.InPlace.{stepMemory, isRefused}
+use Rattle.host_steps.specs.Steps.{stepNumber}
 use Rattle.host.specs.Host.{lent, lentBoth, tooShort}
 use Rattle.demands.specs.Demands.{RefusedLeaves}
 use Rattle.demands.proofs.Leaving.{refused-leaves}
 use Rattle.host_demands.specs.Calls as host
 use Rattle.host_demands.specs.Calls.{Memory, returns, receivedBy, startStep, nextStep, replyStep, heardStep, failureStep}
 use Rattle.host_demands.specs.Hosted.{Keeps, RefusedKeeps, RefusedStart}
-use Rattle.host_demands.proofs.Lookups.{start-reads}
+use Rattle.lookup_in_place.proofs.ReadBack.{start-reads}
 
 -- memory too short changes nothing; else what the inner call says
 if-short : {A : Type 0} (b : Bool) (x y : A) (n : ℕ) → cond b 0 n < 64 → (n < 64 → y ≡ x) → cond b x y ≡ x

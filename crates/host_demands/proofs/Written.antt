@@ -19,7 +19,7 @@ use Rattle.flat.specs.Flat.{connSize, peerIn, saysYes, connBytes, withFraming}
 use Rattle.flat_lookup.specs.FlatLookup.{flatSize}
 use Rattle.host_calls.specs.Hosts.{ownId, lookupStart, lookupReply, lookupFailure}
 use Rattle.host_numbers.specs.Numbers.{viewNumbers, viewIn}
-use Rattle.host_steps.specs.Steps.{stepMemory, startedMemory}
+use Rattle.lookup_in_place.specs.InPlace.{stepMemory, startedMemory}
 use Rattle.host.specs.Host.{openMemory}
 use Rattle.demands.specs.Box as box
 use Rattle.demands.specs.Box.{Box, Who, Turn, Ask, Fits}

@@ -1,13 +1,14 @@
--- A lookup after a step: the number that it returns, the bytes that it leaves, and the numbers that go to out.
+-- What a step of a lookup answered: the number that it returns, and the numbers that go to out.
 use Prim.Native.Nat.{ℕ}
-use mathlib.Core.Bool.{Bool, true, false, cond}
+use mathlib.Core.Bool.{cond}
 use mathlib.Core.List.{List, [], _∷_, _++_}
 use lib.Seq.{sets}
 use Rattle.refusal.specs.Refusal.{numberOf}
 use Rattle.lookup.specs.declared.Answer as lookup
 use Rattle.lookup.specs.declared.Answer.the-variants as step
 use Rattle.lookup.specs.Value.{Step}
-use Rattle.flat_lookup.specs.FlatLookup.{lookupBytes}
+use Rattle.lookup_in_place.specs.declared.Outcome.{Outcome}
+use Rattle.lookup_in_place.specs.InPlace.{outcomeOf, isRefused}
 
 -- ---- lookups
 -- 64 going, 65 wait, 66 ask, 67 complete, 68 cut short
@@ -28,22 +29,9 @@ stepFirst step.Wait = 0
 stepFirst (step.Ask i) = i
 stepFirst step.Going = 0
 
-abbrev pub isRefused : lookup.Answer → Bool
-isRefused (step.Refused r) = true
-isRefused (step.Complete n) = false
-isRefused (step.CutShort n) = false
-isRefused step.Wait = false
-isRefused (step.Ask i) = false
-isRefused step.Going = false
+-- that number, how many were found, and their twenty ranks; nothing where the step was refused
+abbrev pub outcomeNumbers : List ℕ → Outcome → List ℕ
+outcomeNumbers out o = cond (isRefused (o .answer)) out (sets out 0 ((stepFirst (o .answer) ∷ o .found .n ∷ []) ++ o .found .at))
 
--- that number, how many were found, and their twenty ranks
 abbrev pub stepNumbers : List ℕ → Step → List ℕ
-stepNumbers out s = cond (isRefused (s .answer)) out (sets out 0 ((stepFirst (s .answer) ∷ s .found .n ∷ []) ++ s .found .at))
-
--- the lookup is written back, unless the step was refused
-abbrev pub stepMemory : List ℕ → Step → List ℕ
-stepMemory m s = cond (isRefused (s .answer)) m (sets m 0 (lookupBytes (s .lookup)))
-
--- a refused start gives an empty lookup, which is written too
-abbrev pub startedMemory : List ℕ → Step → List ℕ
-startedMemory m s = sets m 0 (lookupBytes (s .lookup))
+stepNumbers out s = outcomeNumbers out (outcomeOf s)

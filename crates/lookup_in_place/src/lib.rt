@@ -14,7 +14,7 @@ ghost use Rattle.lookup_candidates.specs.Candidates.{markOf, wellMade, flies, l
 ghost use Rattle.lookup.specs.Lookup.{marksOf, nearestFirst, inForm, mark, ends, settled, nextOf, flyerOf, whomOf, withCandidates, turnAway, known, meet, hear, hearAll, heardIds, heardFrom, nobody, noLookup, begun, keyFits, limitFits, startOf};
 ghost use Rattle.lookup.specs.declared.Answer.the-variants.{Refused};
 ghost use Rattle.lookup.specs.Inner.{beyond, rankOf};
-ghost use Rattle.flat_lookup.specs.FlatLookup.{candidateSize, candidatesAt, flatSize, lookupIn, candidateBytes, candidatesBytes, headBytes, lookupBytes, candidateAt};
+ghost use Rattle.flat_lookup.specs.FlatLookup.{candidateSize, flatSize, lookupIn, candidateBytes, headBytes, lookupBytes, candidateAt};
 ghost use Rattle.lookup_in_place.specs.InPlace.{answers, outcomeOf, isRefused, stepMemory, nextIn, failureIn, replyIn, startIn, startMemory};
 ghost use Rattle.lookup_in_place.specs.Inner.{askedOf, joined, Becomes, opened, membersOf};
 use flat_lookup::CANDIDATE;
@@ -577,19 +577,21 @@ fn hear_out(m: &mut [u8], i: usize, ours: [u8; 32], body: &[u8], kind: u64) -> O
 // ---- a lookup begins
 
 // What stands before the candidates of a lookup from which nobody was turned away.
-fn put_head(
-    m: &mut [u8],
-    key: [u8; 128],
-    target: [u8; 32],
-    count: usize,
-    size: usize,
-    limit: usize,
-)
+fn put_head(m: &mut [u8], key: [u8; 128], target: [u8; 32], count: usize, size: usize, limit: usize)
     ensures { λ _. ⌜ now (m .exit) ≡ sets (now (m .entry)) 0 (headBytes (opened key target count size limit [])) ⌝ }
 {
     let low = (count % 256) as u8;
     let high = (count / 256 % 256) as u8;
-    let numbers = [low, high, (size % 256) as u8, (limit % 256) as u8, 0, 0, 0, 0];
+    let numbers = [
+        low,
+        high,
+        (size % 256) as u8,
+        (limit % 256) as u8,
+        0,
+        0,
+        0,
+        0,
+    ];
     octets::copy(m, COUNT_AT, &numbers);
     octets::copy(m, KEY_AT, &key);
     octets::copy(m, TARGET_AT, &target);
@@ -597,7 +599,7 @@ fn put_head(
 
 // The contact in the slot at[i] of the table as a candidate, nobody from n on.
 fn member(table: &[u8], at: [usize; 20], n: usize, i: usize) -> Candidate
-    requires { ⌜ n ≤ 20 ⌝ }
+    requires { ⌜ (n ≤ 20) × (i < 256) ⌝ }
     ensures { λ r. ⌜ r ≡ getD (membersOf (now (table .entry)) at n) i nobody ⌝ }
 {
     if i < n {
@@ -606,11 +608,21 @@ fn member(table: &[u8], at: [usize; 20], n: usize, i: usize) -> Candidate
     lookup_candidates::no_candidate()
 }
 
-// The contacts in the first n of these slots as candidates, nobody after them.
-fn put_members(m: &mut [u8], table: &[u8], at: [usize; 20], n: usize)
+// All of such a lookup: its candidates are the contacts in the first n of these slots, and nobody stands after them.
+fn put_lookup(
+    m: &mut [u8],
+    key: [u8; 128],
+    target: [u8; 32],
+    size: usize,
+    limit: usize,
+    table: &[u8],
+    at: [usize; 20],
+    n: usize,
+)
     requires { ⌜ n ≤ 20 ⌝ }
-    ensures { λ _. ⌜ now (m .exit) ≡ sets (now (m .entry)) candidatesAt (candidatesBytes (membersOf (now (table .entry)) at n)) ⌝ }
+    ensures { λ _. ⌜ now (m .exit) ≡ sets (now (m .entry)) 0 (lookupBytes (opened key target n size limit (membersOf (now (table .entry)) at n))) ⌝ }
 {
+    put_head(m, key, target, n, size, limit);
     let mut i: usize = 0;
     while i < lookup::ROOM {
         put_at(m, CANDIDATES_AT + i * CANDIDATE, member(table, at, n, i));
@@ -620,8 +632,8 @@ fn put_members(m: &mut [u8], table: &[u8], at: [usize; 20], n: usize)
 
 // A lookup with the nearest contacts as candidates.
 fn begin(m: &mut [u8], table: &[u8], key: &[u8], limit: usize)
-    requires { ⌜ length (now key) ≤ 128 ⌝ }
-    ensures { λ _. ⌜ now (m .exit) ≡ sets (now (m .entry)) 0 (lookupBytes (begun (now (table .entry)) (now (key .entry)) limit)) ⌝ }
+    requires { ⌜ (flatSize ≤ length (now m)) × (length (now key) ≤ 128) × (limit ≤ 10) ⌝ }
+    ensures { λ _. ⌜ (now (m .exit) ≡ sets (now (m .entry)) 0 (lookupBytes (begun (now (table .entry)) (now (key .entry)) limit))) × (lookupIn (now (m .exit)) ≡ begun (now (table .entry)) (now (key .entry)) limit) ⌝ }
 {
     let target = sha256::hash(key);
     let near = contacts::nearest(table, &target);
@@ -629,8 +641,7 @@ fn begin(m: &mut [u8], table: &[u8], key: &[u8], limit: usize)
     let n = near.n;
     let mut kept = [0u8; 128];
     octets::copy(&mut kept, 0, key);
-    put_head(m, kept, target, n, key.len(), limit);
-    put_members(m, table, at, n);
+    put_lookup(m, kept, target, key.len(), limit, table, at, n);
 }
 
 // The lookup that a refused start leaves, and its answer.
@@ -640,8 +651,7 @@ fn refuse(m: &mut [u8], r: Refusal) -> Outcome
     let at = [0usize; 20];
     let key = [0u8; 128];
     let target = [0u8; 32];
-    put_head(m, key, target, 0, 0, 0);
-    put_members(m, &key, at, 0);
+    put_lookup(m, key, target, 0, 0, &key, at, 0);
     give(Answer::Refused(r))
 }
 

@@ -1,4 +1,4 @@
--- `host_lookups::lookup_failure` meets its contract. Assumes nothing.
+-- `lookup_failure`: the step, with the id that the box goes by. Assumes nothing.
 use native.Mathlib.Omega.{arith}
 use mathlib.Core.Path.{_≡_}
 use lib.ListN.{length}
@@ -12,16 +12,19 @@ own-size-requires : tie.Need-own-size-requires
 own-size-requires c κs = search needs
 
 array-share-prefix-own : tie.Need-array-share-prefix-own
-array-share-prefix-own c = let a : length (c .before .before .before .before .args .me .id) ≡ 64 = search needs in omega arith
+array-share-prefix-own c = let a : length (c .before .before .before .before .before .before .args .me .id) ≡ 64 = search needs in omega arith
 
 slice-aggregate-failure : tie.Need-slice-aggregate-failure
-slice-aggregate-failure c = let a : length (c .before .before .before .before .before .args .me .id) ≡ 64 = search needs in prefix-length (c .before .before .own-size .result) (c .before .before .before .before .before .args .me .id) (omega arith)
+slice-aggregate-failure c = let a : length (c .before .before .before .before .before .before .before .args .me .id) ≡ 64 = search needs in prefix-length (c .before .before .before .own-size .result) (c .before .before .before .before .before .before .before .args .me .id) (omega arith)
 
 failure-requires : tie.Need-failure-requires
 failure-requires c κs = search needs
 
+same-length : tie.Need-same-length
+same-length c = search needs
+
 returns : tie.Need-returns
-returns c = let a = c .before .before .before .before .before .before .args in failure-by (a .me) (c .before .before .before .own-size .result) (c .before .before .before .own-size .ensures .0) (a .lookup) (a .id .now) _ (c .failure .ensures)
+returns c = let a = c .before .before .before .before .before .before .before .before .before .before .args in failure-by (a .me) (c .before .before .before .before .before .before .own-size .result) (c .before .before .before .before .before .before .own-size .ensures .0) (a .memory .now) _ _ (a .id .now) (c .before .before .failure .ensures)
 
 pub lookup-failure-spec : {M : Type 1} → statement M
 lookup-failure-spec =
@@ -31,4 +34,5 @@ lookup-failure-spec =
     array-share-prefix-own
     slice-aggregate-failure
     failure-requires
+    same-length
     returns)

@@ -1,4 +1,4 @@
--- `host_lookups::lookup_reply` meets its contract. Assumes nothing.
+-- `lookup_reply`: the step, with the id that the box goes by. Assumes nothing.
 use native.Mathlib.Omega.{arith}
 use mathlib.Core.Path.{_≡_}
 use lib.ListN.{length}
@@ -12,16 +12,19 @@ own-size-requires : tie.Need-own-size-requires
 own-size-requires c κs = search needs
 
 array-share-prefix-own : tie.Need-array-share-prefix-own
-array-share-prefix-own c = let a : length (c .before .before .before .before .before .args .me .id) ≡ 64 = search needs in omega arith
+array-share-prefix-own c = let a : length (c .before .before .before .before .before .before .before .args .me .id) ≡ 64 = search needs in omega arith
 
 slice-aggregate-reply : tie.Need-slice-aggregate-reply
-slice-aggregate-reply c = let a : length (c .before .before .before .before .before .before .args .me .id) ≡ 64 = search needs in prefix-length (c .before .before .own-size .result) (c .before .before .before .before .before .before .args .me .id) (omega arith)
+slice-aggregate-reply c = let a : length (c .before .before .before .before .before .before .before .before .args .me .id) ≡ 64 = search needs in prefix-length (c .before .before .before .own-size .result) (c .before .before .before .before .before .before .before .before .args .me .id) (omega arith)
 
 reply-requires : tie.Need-reply-requires
 reply-requires c κs = search needs
 
+same-length : tie.Need-same-length
+same-length c = search needs
+
 returns : tie.Need-returns
-returns c = let a = c .before .before .before .before .before .before .before .args in reply-by (a .me) (c .before .before .before .own-size .result) (c .before .before .before .own-size .ensures .0) (a .lookup) (a .id .now) (a .body .now) (a .view) _ (c .reply .ensures)
+returns c = let a = c .before .before .before .before .before .before .before .before .before .before .before .args in reply-by (a .me) (c .before .before .before .before .before .before .own-size .result) (c .before .before .before .before .before .before .own-size .ensures .0) (a .memory .now) _ _ (a .id .now) (a .body .now) (a .view) (c .before .before .reply .ensures)
 
 pub lookup-reply-spec : {M : Type 1} → statement M
 lookup-reply-spec =
@@ -31,4 +34,5 @@ lookup-reply-spec =
     array-share-prefix-own
     slice-aggregate-reply
     reply-requires
+    same-length
     returns)

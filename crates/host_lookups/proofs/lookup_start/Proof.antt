@@ -1,4 +1,4 @@
--- `host_lookups::lookup_start` meets its contract. Assumes nothing.
+-- `lookup_start`: the step, with the id that the box goes by. Assumes nothing.
 use native.Mathlib.Omega.{arith}
 use mathlib.Core.Path.{_≡_}
 use lib.ListN.{length}
@@ -11,19 +11,28 @@ use Rattle.host_lookups.proofs.lookup_start.Tie as tie
 own-size-requires : tie.Need-own-size-requires
 own-size-requires c κs = search needs
 
-array-share-prefix-id : tie.Need-array-share-prefix-id
-array-share-prefix-id c = let a : length (c .before .before .before .before .before .args .me .id) ≡ 64 = search needs in omega arith
+array-share-prefix-own : tie.Need-array-share-prefix-own
+array-share-prefix-own c = let a : length (c .before .before .before .before .before .before .before .args .me .id) ≡ 64 = search needs in omega arith
 
 slice-aggregate-start : tie.Need-slice-aggregate-start
-slice-aggregate-start c = let a : length (c .before .before .before .before .before .before .args .me .id) ≡ 64 = search needs in prefix-length (c .before .before .own-size .result) (c .before .before .before .before .before .before .args .me .id) (omega arith)
+slice-aggregate-start c = let a : length (c .before .before .before .before .before .before .before .before .args .me .id) ≡ 64 = search needs in prefix-length (c .before .before .before .own-size .result) (c .before .before .before .before .before .before .before .before .args .me .id) (omega arith)
 
 start-requires : tie.Need-start-requires
 start-requires c κs = search needs
 
+same-length : tie.Need-same-length
+same-length c = search needs
+
 returns : tie.Need-returns
-returns c = let a = c .before .before .before .before .before .before .before .args in start-by (a .me) (c .before .before .before .own-size .result) (c .before .before .before .own-size .ensures .0) (a .contacts .now) (a .key .now) (a .limit) _ (c .start .ensures)
+returns c = let a = c .before .before .before .before .before .before .before .before .before .before .before .args in start-by (a .me) (c .before .before .before .before .before .before .own-size .result) (c .before .before .before .before .before .before .own-size .ensures .0) (a .memory .now) _ _ (a .contacts .now) (a .key .now) (a .limit) (c .before .before .start .ensures)
 
 pub lookup-start-spec : {M : Type 1} → statement M
 lookup-start-spec =
     tie.close
-    (tie.spec own-size-requires array-share-prefix-id slice-aggregate-start start-requires returns)
+    (tie.spec
+    own-size-requires
+    array-share-prefix-own
+    slice-aggregate-start
+    start-requires
+    same-length
+    returns)

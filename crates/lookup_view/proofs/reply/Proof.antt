@@ -46,14 +46,16 @@ use Rattle.view.specs.declared.View.{View}
 use Rattle.view.proofs.View as T
 use Rattle.view.proofs.View.Laws as T′
 use Rattle.lookup.specs.Lookup.{replyOf}
-use Rattle.lookup.specs.Value.{Lookup, Step}
-use Rattle.lookup.proofs.Lookup as X
-use Rattle.lookup.proofs.Lookup.Laws as X′
-use Rattle.lookup.proofs.Step as R
-use Rattle.lookup.proofs.Step.Laws as R′
-use Rattle.lookup.proofs.Lookup.reply.Symbol as g-def
-use Rattle.lookup.proofs.Lookup.reply.Symbol.{name as #g}
-use Rattle.lookup.proofs.Lookup.reply.Met as g-thm
+use Rattle.lookup_value.specs.declared.Lookup.{Lookup}
+use Rattle.lookup_value.specs.declared.Step.{Step}
+use Rattle.lookup_value.specs.Value.{lookupOf, Gives}
+use Rattle.lookup_value.proofs.Lookup as X
+use Rattle.lookup_value.proofs.Lookup.Laws as X′
+use Rattle.lookup_value.proofs.Step as R
+use Rattle.lookup_value.proofs.Step.Laws as R′
+use Rattle.lookup_value.proofs.Lookup.reply.Symbol as g-def
+use Rattle.lookup_value.proofs.Lookup.reply.Symbol.{name as #g}
+use Rattle.lookup_value.proofs.Lookup.reply.Met as g-thm
 use Rattle.lookup_view.proofs.reply as f
 use Rattle.lookup_view.proofs.reply.Key.{name as #f}
 use Rattle.lookup_view.proofs.reply.Statement as stated
@@ -220,7 +222,7 @@ module _ (P S : RattleType) (Says : P .Denot → List ℕ → List ℕ → List 
 
 -- ---- at a lookup and a step
 abbrev Says : Lookup → List ℕ → List ℕ → List ℕ → List ℕ → Fields → Step → Type 0
-Says l own ours id body v r = r ≡ replyOf l own ours id body v
+Says l own ours id body v r = Gives l (replyOf (lookupOf l) own ours id body v) r
 
 lookup-typed : Typed X.the-row X′.mir
 lookup-typed M 𝓤 H A W x u is = LL.lawful X.the-type X′.the-laws 𝓤 H A W .typed x _ is .0
@@ -233,4 +235,4 @@ unfolding code.routine tablesOf
 reply-spec 𝓤 H 𝓜 𝓖 𝓡 =
     entered 𝓤 H (tripleOf 𝓤 H (𝓖 .A) f.signature (f.spec 𝓤 H (𝓖 .A) (𝓜 .mem) (𝓡 .run))) (tables 𝓤 H 𝓜 𝓡 code.env .C) (tables 𝓤 H 𝓜 𝓡 code.env .Λ) #f code.function (code.unfolded 𝓤 H 𝓜 𝓡)
     (meets X.the-row R.the-row Says X′.mir R′.mir (LL.val X.the-type X′.the-laws) (LL.tells X.the-type X′.the-laws) lookup-typed (λ x. tt) (λ x w. refl) step-typed #g 𝓤 H (𝓖 .A) (givenOf 𝓤 H 𝓜 𝓖) (tablesOf 𝓤 H 𝓜 (tables 𝓤 H 𝓜 𝓡 code.env))
-    (cited 𝓤 H (G X.the-row R.the-row Says 𝓤 H (𝓖 .A)) 𝓜 𝓡 code.env #g g-def.routine code.calls-lookup·Lookup·reply (g-thm.met 𝓤 H 𝓜 𝓖 𝓡)))
+    (cited 𝓤 H (G X.the-row R.the-row Says 𝓤 H (𝓖 .A)) 𝓜 𝓡 code.env #g g-def.routine code.calls-lookup-value·Lookup·reply (g-thm.met 𝓤 H 𝓜 𝓖 𝓡)))
