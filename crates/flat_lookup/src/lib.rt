@@ -95,6 +95,20 @@ pub fn count_in(bytes: &[u8]) -> usize
     number(bytes, COUNT_AT) + number(bytes, COUNT_AT + 1) * 256
 }
 
+// The place that is looked for.
+pub fn target_in(bytes: &[u8]) -> [u8; 32]
+    ensures { λ r. ⌜ r ≡ (lookupIn (now (bytes .entry))) .target ⌝ }
+{
+    place_in(bytes, TARGET_AT)
+}
+
+// Whether someone was turned away.
+pub fn turned_in(bytes: &[u8]) -> bool
+    ensures { λ r. ⌜ r ≡ (lookupIn (now (bytes .entry))) .turned ⌝ }
+{
+    number(bytes, TURNED_AT) > 0
+}
+
 // The candidate of a rank, nobody where there is no such rank.
 pub fn candidate_at(bytes: &[u8], rank: usize) -> Candidate
     ensures { λ r. ⌜ r ≡ candidateAt (now (bytes .entry)) rank ⌝ }

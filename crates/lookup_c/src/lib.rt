@@ -2,7 +2,7 @@
 // claimed of what is answered but that each run is safe and ends; `lookup` has the contracts.
 use lookup::Answer;
 use lookup::Candidate;
-use lookup::Lookup;
+use lookup_value::Lookup;
 use message::Fields;
 use message::Reading;
 
@@ -56,11 +56,15 @@ fn heard_from(
 
 // The lookup after the candidate of rank i has.
 fn heard(l: Lookup, i: usize, own: &[u8], ours: [u8; 32], body: &[u8], view: Fields) -> Lookup {
-    if i >= 256 {
-        return l;
-    }
-    let c = l.candidates[i];
-    heard_from(l, c, own, ours, body, view)
+    let bytes = l.bytes;
+    heard_from(
+        l,
+        flat_lookup::candidate_at(&bytes, i),
+        own,
+        ours,
+        body,
+        view,
+    )
 }
 
 // The lookup after one step: next, and a reply of the peer that it names.
@@ -108,7 +112,8 @@ fn turned(
     let mut i: usize = 0;
     while i < turns {
         let k = stepped(l, own, ours, message_at(bodies, at), view);
-        sum = std::num::wrapping_add_usize(sum, k.count);
+        let bytes = k.bytes;
+        sum = std::num::wrapping_add_usize(sum, flat_lookup::count_in(&bytes));
         at = following(n, at);
         i += 1;
     }

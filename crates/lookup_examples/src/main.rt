@@ -5,8 +5,8 @@ ghost use Prim.Native.Nat.{_<_, _≤_};
 use libc::STDOUT_FILENO;
 use lookup::Answer;
 use lookup::Candidate;
-use lookup::Lookup;
 use lookup_marks::Ranks;
+use lookup_value::Lookup;
 use message::Reading;
 
 // How a peer behaves, and a network that has such peers.
@@ -275,26 +275,26 @@ fn behaved(l: Lookup, c: Candidate, network: u8, places: &[u8], n: usize) -> Loo
         let body = [8u8, 5];
         return hand_in(l, id, &body);
     }
-    let target = l.target;
+    let bytes = l.bytes;
+    let target = flat_lookup::target_in(&bytes);
     let body = reply_of(places, n, target, k, b == CHATTY);
     hand_in(l, id, &body)
 }
 
 // ---- a lookup from start to end
 
-// The farthest candidate in flight, or 0.
-fn last_in_flight(l: Lookup) -> usize
-    ensures { λ r. ⌜ r < 256 ⌝ }
-{
+// The farthest candidate in flight, or the nearest of all.
+fn last_in_flight(l: Lookup) -> Candidate {
+    let bytes = l.bytes;
     let mut i: usize = 255;
     while 0 < i {
-        let c = l.candidates[i];
+        let c = flat_lookup::candidate_at(&bytes, i);
         if c.mark == lookup_marks::IN_FLIGHT {
-            return i;
+            return c;
         }
         i -= 1;
     }
-    0
+    flat_lookup::candidate_at(&bytes, 0)
 }
 
 // Over: 1 complete, 2 cut short; else 0.
@@ -346,9 +346,7 @@ fn turn(l: Lookup, network: u8, places: &[u8], n: usize) -> Lookup {
     if !waits(a) {
         return k;
     }
-    let i = last_in_flight(k);
-    let c = k.candidates[i];
-    behaved(k, c, network, places, n)
+    behaved(k, last_in_flight(k), network, places, n)
 }
 
 // Turns until the lookup is over, or 2,000.
@@ -369,6 +367,7 @@ fn run_on(first: Lookup, network: u8, places: &[u8], n: usize) -> Lookup {
 
 // Whether the peer k is among the candidates that were found.
 fn was_found(l: Lookup, found: Ranks, k: usize) -> bool {
+    let bytes = l.bytes;
     let at = found.at;
     let mut i: usize = 0;
     while i < 20 {
@@ -378,10 +377,7 @@ fn was_found(l: Lookup, found: Ranks, k: usize) -> bool {
         if !used {
             continue;
         }
-        if r >= 256 {
-            continue;
-        }
-        let c = l.candidates[r];
+        let c = flat_lookup::candidate_at(&bytes, r);
         let id = c.id;
         if id[2] != REAL {
             continue;
@@ -434,7 +430,8 @@ fn report(l: Lookup, near: [usize; 20]) {
     say(b", requests ");
     say_number(sent_of(a));
     say(b", candidates ");
-    say_number(l.count);
+    let bytes = l.bytes;
+    say_number(flat_lookup::count_in(&bytes));
     say(b"\n");
 }
 
@@ -447,7 +444,8 @@ fn look_up(places: &[u8], n: usize, key: u8, network: u8) {
     let l = run_on(s.lookup, network, places, n);
     say_number(n);
     say(b" peers: ");
-    let target = l.target;
+    let bytes = l.bytes;
+    let target = flat_lookup::target_in(&bytes);
     report(l, nearest_known(places, n, target, NOBODY));
 }
 
@@ -484,15 +482,14 @@ fn fill_up(l: Lookup, n: usize) -> Lookup
 {
     let s = l.next();
     let asked = s.lookup;
-    let i = last_in_flight(asked);
-    let c = asked.candidates[i];
-    answers(asked, c, n)
+    answers(asked, last_in_flight(asked), n)
 }
 
 fn say_filled(l: Lookup) {
+    let bytes = l.bytes;
     say(b"candidates ");
-    say_number(l.count);
-    if l.turned {
+    say_number(flat_lookup::count_in(&bytes));
+    if flat_lookup::turned_in(&bytes) {
         say(b", someone turned away\n");
         return;
     }

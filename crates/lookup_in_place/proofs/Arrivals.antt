@@ -1,11 +1,11 @@
 -- Laws of a candidate that comes in: the bytes of those after it move up, and it takes its rank. Assumes nothing.
 use Prim.Native.Nat.{ℕ, zero, suc, _+_, _-_, _*_, _/_, _%_, _≤_, _<_}
-use mathlib.Core.Path.{_≡_, refl, sym, ap, ap₂, _∙_, subst}
-use mathlib.Core.Bool.{Bool, true, false, not, _||_}
+use mathlib.Core.Path.{_≡_, refl, sym, ap, ap₂, _∙_}
+use mathlib.Core.Bool.{Bool, true, false, _||_}
 use mathlib.Core.List.{List, [], _∷_, _++_, append-assoc}
 use native.Mathlib.Omega.{arith}
 use lib.Dec.{ltb}
-use lib.ListN.{length, getD, take, drop, set, length-drop, length-set, length-append, length-take, take-append-drop}
+use lib.ListN.{length, getD, take, drop, set, length-drop, length-set, take-append-drop}
 use lib.Seq.{sets, sets-eq, length-sets, set-comm, getD-set-same, getD-set-other, take-append-le, take-take, take-set-le, getD-take, getD-drop, drop-append-le, drop-at, drop-cons, drop-drop, drop-set-lt, length-take-le}
 use Rattle.octets.specs.Octets.{part}
 use Rattle.octets.proofs.Bools.{or-l, or-off}

@@ -18,7 +18,7 @@ use Rattle.lookup.proofs.Lists.{Mapping, map-one}
 use Rattle.lookup.specs.Lookup.{room, idMost, keyMost, padded, nobody}
 use Rattle.lookup_candidates.specs.declared.Candidate.{Candidate}
 use Rattle.lookup.specs.Value.{Lookup}
-use Rattle.flat_lookup.specs.FlatLookup.{placeSize, idAt, placeAt, keyAt, targetAt, candidateSize, candidatesAt, flatSize, byteAt, bytesAt, candidateIn, candidatesIn, lookupIn, candidateAt}
+use Rattle.flat_lookup.specs.FlatLookup.{placeSize, placeAt, keyAt, targetAt, candidateSize, candidatesAt, flatSize, byteAt, bytesAt, candidatesIn, lookupIn, candidateAt}
 use Rattle.flat_lookup.proofs.Padding.{padded-front}
 use Rattle.flat_lookup.proofs.Reading.{candidates-length, candidate-is}
 use Rattle.flat_lookup.proofs.Theorems.{bytes-further}

@@ -32,9 +32,9 @@ use Rattle.lookup.proofs.Form.{formed, form-size-low, form-size-high, form-limi
 use Rattle.lookup.proofs.Steps.{marks-part, marks-count, next-full, next-ask, next-wait, whom-none, whom-at, fail-refused, fail-at, meet-known, meet-new, meet-full}
 use Rattle.lookup.proofs.Hearing.{Heard, heard-start, heard-one, heard-all, from-found, from-other, found-fits, reply-bad, reply-refused, reply-at}
 use Rattle.lookup.proofs.Arriving.{hear-nobody, hear-someone}
-use Rattle.flat_lookup.specs.FlatLookup.{flatSize, byteAt, lookupIn, lookupBytes}
+use Rattle.flat_lookup.specs.FlatLookup.{flatSize, lookupIn, lookupBytes}
 use Rattle.lookup_in_place.specs.declared.Outcome.{Outcome}
-use Rattle.lookup_in_place.specs.InPlace.{answers, outcomeOf, isRefused, stepMemory, stepIn, nextIn, failureIn, replyIn}
+use Rattle.lookup_in_place.specs.InPlace.{answers, outcomeOf, isRefused, stepMemory, stepIn, failureIn, replyIn}
 use Rattle.lookup_in_place.specs.Inner.{askedOf, joined, Becomes}
 use Rattle.lookup_in_place.proofs.Parts.{all-there}
 use Rattle.lookup_in_place.proofs.Whole.{becomes-nothing}
@@ -88,19 +88,6 @@ module _ (m ms : List ℕ) (n : ℕ) (en : n ≡ lookupIn m .count) (em : ms ≡
 -- a lookup in form has its candidates in the array
 pub room-in : (m : List ℕ) (b : Bool) (n : ℕ) → b ≡ inForm (lookupIn m) → not b ≡ false → n ≡ lookupIn m .count → n ≤ 256
 room-in m b n e h en = subst (λ (x : ℕ). x ≤ 256) (sym en) (formed (lookupIn m) (sym e ∙ not-false b h) .fits)
-
--- ---- whether someone was turned away
-pub turned-yes : (m : List ℕ) (k : ℕ) → k ≡ byteAt m 4 → 0 < k → lookupIn m .turned ≡ true
-turned-yes m k e h = ap (ltb 0) (sym e) ∙ lt-ltb 0 k h
-
-pub turned-no : (m : List ℕ) (k : ℕ) → k ≡ byteAt m 4 → k ≤ 0 → lookupIn m .turned ≡ false
-turned-no m k e h = ap (ltb 0) (sym e) ∙ le-ltb 0 k h
-
-pub flag-yes : (k : ℕ) → 0 < k → _≡_ {A = ℕ} 1 (cond (ltb 0 k) 1 0)
-flag-yes k h = sym (cond-yes (ltb 0 k) 1 0 (lt-ltb 0 k h))
-
-pub flag-no : (k : ℕ) → k ≤ 0 → _≡_ {A = ℕ} 0 (cond (ltb 0 k) 1 0)
-flag-no k h = sym (cond-no (ltb 0 k) 1 0 (le-ltb 0 k h))
 
 -- ---- next
 module _ (m ms : List ℕ) (b o : Bool) (n limit f : ℕ) (eb : b ≡ inForm (lookupIn m)) (h : not b ≡ false) (en : n ≡ lookupIn m .count) (em : ms ≡ marksOf (lookupIn m))

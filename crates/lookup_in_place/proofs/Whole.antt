@@ -1,14 +1,13 @@
 -- Laws of all of a lookup's bytes: they are written as they were read, one mark set, and what becomes of them by several changes. Assumes nothing.
 use Prim.Native.Nat.{ℕ, zero, suc, _+_, _-_, _*_, _/_, _%_, _≤_, _<_}
-use mathlib.Core.Path.{_≡_, refl, sym, ap, ap₂, _∙_, subst}
-use mathlib.Core.Bool.{cond}
+use mathlib.Core.Path.{_≡_, refl, sym, ap, ap₂, _∙_}
+use mathlib.Core.Bool.{Bool, cond}
 use mathlib.Core.List.{List, [], _∷_, _++_, append-assoc}
 use native.Mathlib.Omega.{arith}
 use lib.Dec.{ltb}
 use lib.ListN.{length, getD, take, drop, set, length-drop, length-set, length-append, take-append-drop}
-use lib.Seq.{sets, sets-eq, length-sets, take-add, take-take, take-set-le, drop-set-lt, drop-set-add, getD-set-same, getD-drop, drop-drop, drop-cons, length-take-le, drop-at, take-at}
-use Rattle.octets.specs.Octets.{Bytes, part}
-use Rattle.octets.proofs.Stores.{sets-append, take-sets, drop-sets}
+use lib.Seq.{sets, sets-eq, take-add, take-set-le, drop-set-lt, drop-set-add, getD-set-same, getD-drop, drop-drop, drop-cons, length-take-le}
+use Rattle.octets.specs.Octets.{Bytes}
 use Rattle.lookup.specs.Lookup.{room, idMost, keyMost, padded, withMark, markAt, mark, withCandidates}
 use Rattle.lookup_candidates.specs.declared.Candidate.{Candidate}
 use Rattle.lookup.specs.Value.{Lookup}
@@ -100,10 +99,9 @@ tidied m l b =
     ∙ sym (ap (sets m 0) all ∙ over-front (take 4 m ++ (f ++ take 25248 (drop 8 m))) m flatSize long l
     ∙ append-assoc (take 4 m) (f ++ take 25248 (drop 8 m)) (drop flatSize m))
 
-pub tidied-by : (m m′ : List ℕ) (k b : ℕ) → flatSize ≤ length m → Bytes m → k ≡ byteAt m 4 → b ≡ cond (ltb 0 k) 1 0 → m′ ≡ sets m 4 (b ∷ 0 ∷ 0 ∷ 0 ∷ [])
+pub tidied-by : (m m′ : List ℕ) (t : Bool) (b : ℕ) → flatSize ≤ length m → Bytes m → t ≡ lookupIn m .turned → b ≡ cond t 1 0 → m′ ≡ sets m 4 (b ∷ 0 ∷ 0 ∷ 0 ∷ [])
     → m′ ≡ sets m 0 (lookupBytes (lookupIn m))
-tidied-by m m′ k b h g ek eb e =
-    e ∙ ap (λ (x : ℕ). sets m 4 (x ∷ 0 ∷ 0 ∷ 0 ∷ [])) (eb ∙ ap (λ (x : ℕ). cond (ltb 0 x) 1 0) ek) ∙ tidied m h g
+tidied-by m m′ t b h g et eb e = e ∙ ap (λ (x : ℕ). sets m 4 (x ∷ 0 ∷ 0 ∷ 0 ∷ [])) (eb ∙ ap (λ (x : Bool). cond x 1 0) et) ∙ tidied m h g
 
 -- ---- a mark is set
 front-kept : (s t : List ℕ) → candidateSize ≤ length s → candidateSize ≤ length t → take candidateSize s ≡ take candidateSize t → candidateIn s ≡ candidateIn t

@@ -5,7 +5,6 @@ ghost use mathlib.Core.Bool.{cond, _&&_};
 ghost use mathlib.Core.List.{map, []};
 ghost use Prim.Native.Nat.{_+_, _<_, _≤_};
 ghost use lib.ListN.{length, getD, take};
-ghost use lib.Dec.{ltb};
 ghost use lib.Seq.{sets};
 ghost use Rattle.octets.specs.Octets.{part};
 ghost use Rattle.place.specs.Place.{nearerTo};
@@ -191,7 +190,7 @@ fn end(m: &[u8], marks: &[u8]) -> Outcome
 {
     let found = lookup_marks::twenty(marks);
     let sent = lookup_marks::sent(marks);
-    if flat_lookup::number(m, TURNED_AT) > 0 {
+    if flat_lookup::turned_in(m) {
         return Outcome {
             found,
             answer: Answer::CutShort(sent),
@@ -302,11 +301,11 @@ fn about(m: &[u8], own: &[u8], ours: [u8; 32], id: &[u8]) -> Whom
 
 // ---- changes
 
-// A number as a flag: 0 or 1.
-fn flag(b: usize) -> u8
-    ensures { λ r. ⌜ r ≡ cond (ltb 0 b) 1 0 ⌝ }
+// A flag as a byte.
+fn flag(b: bool) -> u8
+    ensures { λ r. ⌜ r ≡ cond b 1 0 ⌝ }
 {
-    if b > 0 {
+    if b {
         return 1;
     }
     0
@@ -317,7 +316,7 @@ fn tidy(m: &mut [u8])
     requires { ⌜ flatSize ≤ length (now m) ⌝ }
     ensures { λ _. ⌜ now (m .exit) ≡ sets (now (m .entry)) 0 (lookupBytes (lookupIn (now (m .entry)))) ⌝ }
 {
-    let numbers = [flag(flat_lookup::number(m, TURNED_AT)), 0, 0, 0];
+    let numbers = [flag(flat_lookup::turned_in(m)), 0, 0, 0];
     octets::copy(m, TURNED_AT, &numbers);
 }
 

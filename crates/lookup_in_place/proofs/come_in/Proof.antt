@@ -1,8 +1,7 @@
 -- `come_in`: the gap, the candidate, the count. Assumes nothing.
 use Rattle.lookup_in_place.proofs.Arrivals.{grows, comes-in}
 use Rattle.flat_lookup.specs.Promises.{SizedCandidate}
-use lib.ListN.{length, length-map}
-use mathlib.Core.Path.{_≡_}
+use lib.ListN.{length-map}
 use borrow.Author.Needs.{needs}
 use Rattle.lookup_in_place.proofs.come_in.Statement.{statement}
 use Rattle.lookup_in_place.proofs.come_in.Tie as tie

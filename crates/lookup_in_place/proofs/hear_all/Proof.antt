@@ -2,7 +2,6 @@
 use Rattle.lookup_in_place.proofs.Steps.{Hearing, hearing-none, hearing-one, hearing-long, hearing-room, hearing-all}
 use Rattle.lookup.proofs.Hearing.{ids-within, cut-order, cut-end}
 use borrow.Author.Needs.{needs}
-use mathlib.Core.Path.{refl}
 use native.Mathlib.Omega.{arith}
 use Prim.Native.Nat.{_-_}
 use Rattle.lookup_in_place.proofs.hear_all.Statement.{statement}

@@ -6,7 +6,7 @@ use Rattle.lookup.specs.Lookup.{follow, nearestFirst}
 use native.Mathlib.Omega.{arith}
 use lib.ListN.{take, drop}
 use mathlib.Core.Path.{_≡_}
-use Prim.Native.Nat.{_≤_, _<_, _-_, _+_}
+use Prim.Native.Nat.{_<_, _-_, _+_}
 use borrow.Author.Needs.{needs}
 use Rattle.lookup_in_place.proofs.in_order.Statement.{statement}
 use Rattle.lookup_in_place.proofs.in_order.Tie as tie

@@ -1,6 +1,5 @@
 -- `is_beyond`: the places, compared. Assumes nothing.
 use Rattle.lookup_in_place.proofs.Steps.{beyond-by}
-use mathlib.Core.Path.{_∙_, ap}
 use Rattle.flat_lookup.specs.FlatLookup.{candidateAt}
 use borrow.Author.Needs.{needs}
 use Rattle.lookup_in_place.proofs.is_beyond.Statement.{statement}

@@ -8,7 +8,7 @@ use Rattle.flat_lookup.specs.FlatLookup.{lookupIn}
 use native.Mathlib.Omega.{arith}
 use lib.ListN.{take, drop}
 use mathlib.Core.Path.{_≡_, refl}
-use Prim.Native.Nat.{_≤_, _-_, _+_}
+use Prim.Native.Nat.{_≤_, _-_}
 use Rattle.lookup_in_place.proofs.is_known.Statement.{statement}
 use Rattle.lookup_in_place.proofs.is_known.Tie as tie
 use Rattle.lookup_in_place.proofs.lies_at.Reads as lies-at-reads

@@ -1,6 +1,5 @@
 -- `make_gap`: the bytes from g on have moved. Assumes nothing.
 use Rattle.lookup_in_place.proofs.Arrivals.{Moving, move-none, move-one, move-long, move-all}
-use borrow.Author.Needs.{needs}
 use native.Mathlib.Omega.{arith}
 use Prim.Native.Nat.{_-_}
 use Rattle.lookup_in_place.proofs.make_gap.Statement.{statement}

@@ -1,12 +1,11 @@
 -- `marks_in`: the first i marks stand there. Assumes nothing.
 use Rattle.lookup_in_place.proofs.Parts.{all-there, mark-filled}
 use Rattle.flat_lookup.specs.FlatLookup.{lookupIn}
-use Rattle.lookup.proofs.Lists.{Mapping, map-one, map-all}
+use Rattle.lookup.proofs.Lists.{Mapping, map-all}
 use Rattle.lookup_candidates.specs.Candidates.{markOf}
-use mathlib.Core.List.{List}
 use native.Mathlib.Omega.{arith}
-use lib.ListN.{length-replicate, set}
-use mathlib.Core.Path.{refl, sym, ap, _∙_}
+use lib.ListN.{length-replicate}
+use mathlib.Core.Path.{refl, sym, _∙_}
 use Prim.Native.Nat.{ℕ, _-_}
 use borrow.Author.Needs.{needs}
 use Rattle.lookup_in_place.proofs.marks_in.Statement.{statement}

@@ -1,12 +1,10 @@
 -- `next_answer`: each answer from the tests that lead there. Assumes nothing.
 use Rattle.lookup_in_place.proofs.Steps.{room-in, marks-held, held-count, next-full-in, next-ask-in, next-wait-in}
 use Rattle.lookup.proofs.Steps.{next-bad, next-over}
-use Rattle.lookup.specs.Lookup.{refuses, gives, ends, mark}
-use Rattle.lookup.specs.declared.Answer.the-variants.{Wait, Ask}
-use Rattle.lookup_marks.specs.Marks.{flying}
+use Rattle.lookup.specs.Lookup.{refuses, ends}
 use Rattle.refusal.specs.declared.Refusal.the-variants.{OutOfForm}
 use native.Mathlib.Omega.{arith}
-use mathlib.Core.Path.{ap, refl, sym, _∙_}
+use mathlib.Core.Path.{ap, refl, _∙_}
 use Rattle.flat_lookup.specs.FlatLookup.{lookupIn}
 use Rattle.lookup_in_place.specs.InPlace.{outcomeOf}
 use borrow.Author.Needs.{needs}

@@ -7,7 +7,7 @@ use borrow.Author.Needs.{needs}
 use Rattle.flat_lookup.specs.FlatLookup.{lookupIn}
 use native.Mathlib.Omega.{arith}
 use lib.ListN.{take, drop}
-use mathlib.Core.Path.{_≡_, refl}
+use mathlib.Core.Path.{_≡_}
 use Prim.Native.Nat.{_≤_, _-_, _+_}
 use Rattle.lookup_in_place.proofs.rank.Statement.{statement}
 use Rattle.lookup_in_place.proofs.rank.Tie as tie

@@ -4,12 +4,12 @@ use Rattle.lookup_in_place.proofs.Whole.{tidied-by}
 use borrow.Author.Needs.{needs}
 use Rattle.lookup_in_place.proofs.tidy.Statement.{statement}
 use Rattle.lookup_in_place.proofs.tidy.Tie as tie
-use Rattle.flat_lookup.proofs.number.Reads as number-reads
+use Rattle.flat_lookup.proofs.turned_in.Reads as turned-in-reads
 use Rattle.lookup_in_place.proofs.flag.Reads as flag-reads
 use Rattle.octets.proofs.copy.Reads as copy-reads
 
-number-requires : tie.Need-number-requires
-number-requires c κs = search needs
+turned-in-requires : tie.Need-turned-in-requires
+turned-in-requires c κs = search needs
 
 flag-requires : tie.Need-flag-requires
 flag-requires c κs = search needs
@@ -24,9 +24,9 @@ same-length : tie.Need-same-length
 same-length c = search needs
 
 returns : tie.Need-returns
-returns c = tidied-by (c .before .before .before .before .before .before .before .before .before .args .m .now) _ _ _ (c .before .before .before .before .before .before .before .before .before .pre) (λ i. omega (arith, c .before .before .before .before .before .before .before .before .slice-known .given i)) (c .before .before .before .before .before .before .number .ensures .0) (c .before .before .before .before .before .flag .ensures) (c .before .before .copy .ensures)
+returns c = tidied-by (c .before .before .before .before .before .before .before .before .before .args .m .now) _ _ _ (c .before .before .before .before .before .before .before .before .before .pre) (λ i. omega (arith, c .before .before .before .before .before .before .before .before .slice-known .given i)) (c .before .before .before .before .before .before .turned-in .ensures) (c .before .before .before .before .before .flag .ensures) (c .before .before .copy .ensures)
 
 pub tidy-spec : {M : Type 1} → statement M
 tidy-spec =
     tie.close
-    (tie.spec number-requires flag-requires slice-aggregate-copy copy-requires same-length returns)
+    (tie.spec turned-in-requires flag-requires slice-aggregate-copy copy-requires same-length returns)

@@ -1,6 +1,5 @@
 -- `well_made_at`: test by test. Assumes nothing.
 use Rattle.lookup_in_place.proofs.Parts.{made-mark-of, made-empty-of, made-len-of}
-use Rattle.lookup_candidates.proofs.Candidates.{made-mark, made-empty, made-len}
 use Rattle.flat_lookup.specs.FlatLookup.{candidateAt}
 use borrow.Author.Needs.{needs}
 use Rattle.lookup_in_place.proofs.well_made_at.Statement.{statement}
