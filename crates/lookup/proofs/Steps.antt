@@ -35,10 +35,6 @@ marks-part l ms e = ap (take (l .count)) e ∙ map-take markOf (l .count) (l .ca
 pub marks-count : (l : Lookup) (ms : List ℕ) → ms ≡ map markOf (l .candidates) → length (l .candidates) ≡ 256 → l .count ≤ 256 → l .count ≡ length (take (l .count) ms)
 marks-count l ms e hl h = sym (length-take-le (l .count) ms (omega (arith, ap length e, length-map (l .candidates) markOf)))
 
--- a lookup in form has its candidates in the array
-pub room-of : (l : Lookup) (b : Bool) → b ≡ inForm l → not b ≡ false → l .count ≤ 256
-room-of l b e h = formed l (sym e ∙ not-false b h) .fits
-
 -- ---- the answer of a lookup that is over
 abbrev pub stepOf : Lookup → Ranks → Answer → Step
 stepOf l f a = record { lookup = l; found = f; answer = a }
@@ -205,9 +201,6 @@ within l own ours id =
 
 pub found-within : (l : Lookup) (own ours id : List ℕ) (w : Whom) (i : ℕ) → w ≡ whomOf l own ours id → w ≡ At i → (i < l .count) × (l .count ≤ room)
 found-within l own ours id w i e q = subst (Within l) (sym e ∙ q) (within l own ours id)
-
-pub marked-room : (l k : Lookup) (i m : ℕ) → k ≡ mark i m l → l .count ≤ room → k .count ≤ room
-marked-room l k i m e h = subst (λ (x : Lookup). x .count ≤ room) (sym e) h
 
 -- ---- failure
 module _ (l : Lookup) (own ours id : List ℕ) (w : Whom) (ew : w ≡ whomOf l own ours id) (s : Step) where

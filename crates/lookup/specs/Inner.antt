@@ -1,8 +1,7 @@
 -- What the proofs of the inner functions need beside specs/Lookup.antt.
-use Prim.Native.Nat.{ℕ, _+_}
-use mathlib.Core.Bool.{Bool, cond, not}
+use Prim.Native.Nat.{ℕ}
+use mathlib.Core.Bool.{Bool, not}
 use mathlib.Core.List.{List}
-use lib.Dec.{ltb}
 use Rattle.place.specs.Place.{nearerTo}
 use Rattle.lookup.specs.Lists.{firstIn}
 use Rattle.lookup_candidates.specs.declared.Candidate.{Candidate}
@@ -14,7 +13,3 @@ beyond t p d = not (nearerTo t (d .place) p)
 -- how many are nearer, up to the first that isn't
 abbrev pub rankOf : List ℕ → List ℕ → List Candidate → ℕ
 rankOf t p cs = firstIn (beyond t p) cs
-
--- the same of one more, d of rank j, where r is that of those before it
-unfoldable pub rankOn : List ℕ → List ℕ → ℕ → ℕ → Candidate → ℕ
-rankOn t p r j d = cond (ltb r j) r (cond (nearerTo t (d .place) p) (j + 1) j)

@@ -1,11 +1,11 @@
 -- Laws of candidates: each test in turn, and who comes in. Assumes nothing.
 use Prim.Native.Nat.{ℕ, _≤_, _<_}
 use mathlib.Core.Path.{_≡_, refl, sym, ap, _∙_}
-use mathlib.Core.Bool.{Bool, true, false, not, _&&_}
+use mathlib.Core.Bool.{Bool, true, false, not}
 use mathlib.Core.List.{List, [], _∷_}
 use lib.Dec.{leb, eqb}
 use lib.ListN.{length, replicate}
-use borrow.Author.Tests.{le-leb, lt-leb, leb-true, not-true, not-false, eq-eqb, ne-eqb}
+use borrow.Author.Tests.{le-leb, lt-leb, leb-true, not-false, eq-eqb, ne-eqb}
 use Rattle.octets.specs.Search.{allOf}
 use Rattle.octets.proofs.Bools.{and-on, and-off, all-on, all-off, cond-yes, cond-no, and-r}
 use Rattle.lookup_marks.specs.Marks.{failed, idle, flying}

@@ -1,10 +1,8 @@
-// Candidates of a lookup, by value: who is one, where it lies, and how one comes in. Every public function takes any numbers and any bytes.
+// Candidates of a lookup, by value: how one comes in. Every public function takes any numbers and any bytes.
 ghost use mathlib.Core.Path.{_≡_};
-ghost use mathlib.Core.Bool.{_&&_, _||_};
-ghost use Prim.Native.Nat.{_<_, _≤_};
+ghost use Prim.Native.Nat.{_≤_};
 ghost use lib.ListN.{length};
-ghost use Rattle.place.specs.Place.{nearerTo};
-ghost use Rattle.lookup_candidates.specs.Candidates.{arrivalOf, wellMade, idFits, flies, fresh, liesAt, nobody, contactAt};
+ghost use Rattle.lookup_candidates.specs.Candidates.{arrivalOf, idFits, fresh, nobody, contactAt};
 
 // The most bytes of a peer id.
 pub const ID_MOST: usize = 64;
@@ -17,31 +15,6 @@ pub struct Candidate {
     pub len: u8,
 }
 
-// Whether a candidate has a mark and an id of 1 to 64 bytes.
-pub fn well_made(c: Candidate) -> bool
-    ensures { λ r. ⌜ r ≡ wellMade c ⌝ }
-{
-    if c.mark > lookup_marks::FAILED {
-        return false;
-    }
-    if c.len < 1 {
-        return false;
-    }
-    c.len as usize <= ID_MOST
-}
-
-// Whether c may stand right after d.
-pub fn follows(target: [u8; 32], d: Candidate, c: Candidate) -> bool
-    ensures { λ r. ⌜ r ≡ (wellMade c && nearerTo target (d .place) (c .place)) ⌝ }
-{
-    if !well_made(c) {
-        return false;
-    }
-    let near = d.place;
-    let far = c.place;
-    place::nearer(&target, &near, &far)
-}
-
 // Whether a peer id has 1 to 64 bytes.
 pub fn id_fits(id: &[u8]) -> bool
     ensures { λ r. ⌜ r ≡ idFits (now (id .entry)) ⌝ }
@@ -50,42 +23,6 @@ pub fn id_fits(id: &[u8]) -> bool
         return false;
     }
     id.len() <= ID_MOST
-}
-
-// Whether the candidate lies at this place.
-pub fn lies_at(c: Candidate, place: [u8; 32]) -> bool
-    ensures { λ r. ⌜ r ≡ liesAt place c ⌝ }
-{
-    let own = c.place;
-    octets::same_bytes(&own, &place)
-}
-
-// Whether the candidate is nearer to the target than this place.
-pub fn is_nearer(target: [u8; 32], c: Candidate, place: [u8; 32]) -> bool
-    ensures { λ r. ⌜ r ≡ nearerTo target (c .place) place ⌝ }
-{
-    let own = c.place;
-    place::nearer(&target, &own, &place)
-}
-
-// Whether the candidate lies at this place and is in flight.
-pub fn flies_at(c: Candidate, place: [u8; 32]) -> bool
-    ensures { λ r. ⌜ r ≡ flies place c ⌝ }
-{
-    if c.mark != lookup_marks::IN_FLIGHT {
-        return false;
-    }
-    lies_at(c, place)
-}
-
-// Whether some candidate up to d lies at this place, where `before` says it of those before d.
-pub fn known_by(before: bool, d: Candidate, place: [u8; 32]) -> bool
-    ensures { λ r. ⌜ r ≡ (before || liesAt place d) ⌝ }
-{
-    if before {
-        return true;
-    }
-    lies_at(d, place)
 }
 
 // A candidate as it comes in: idle.

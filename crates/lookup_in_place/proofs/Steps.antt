@@ -146,9 +146,6 @@ next-left l =
     asked-left i h = record { is = sym (cond-yes (ltb i room) (mark i flying l) l (lt-ltb i room h)) }
 
 module _ (m m′ : List ℕ) (a : Answer) (ea : a ≡ nextOf (lookupIn m) .answer) where
-  pub next-refused : (b : Bool) → b ≡ isRefused a → b ≡ true → m ≡ stepMemory m (nextOf (lookupIn m))
-  next-refused b e h = sym (cond-yes (isRefused (nextOf (lookupIn m) .answer)) m _ (ap isRefused (sym ea) ∙ sym e ∙ h))
-
   module _ (b : Bool) (e : b ≡ isRefused a) (h : b ≡ false) (i : ℕ) (ei : i ≡ askedOf a) where
     kept : sets m 0 (lookupBytes (cond (ltb i room) (mark i flying (lookupIn m)) (lookupIn m))) ≡ stepMemory m (nextOf (lookupIn m))
     kept =

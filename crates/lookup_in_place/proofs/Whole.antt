@@ -163,6 +163,3 @@ tidied-over l m m′ m″ h b e =
 
 pub becomes-nothing : (m : List ℕ) → Becomes (lookupIn m) m m
 becomes-nothing m = record { holds = refl; long = refl; past = refl }
-
-pub becomes-both : (l k : Lookup) (m m′ m″ : List ℕ) → Becomes l m m′ → Becomes k m′ m″ → Becomes k m m″
-becomes-both l k m m′ m″ a b = record { holds = b .holds; long = b .long ∙ a .long; past = b .past ∙ a .past }
