@@ -5,7 +5,7 @@ use mathlib.Core.List.{List, [], _∷_, _++_, append-assoc, append-nil}
 use native.Mathlib.Numerals.{add-one}
 use native.Mathlib.Omega.{arith}
 use lib.ListN.{length, take, set, replicate, length-append}
-use lib.Seq.{take-all}
+use lib.Seq.{length-sets, take-all}
 use borrow.Author.Tests.{ne-eqb}
 use Rattle.octets.specs.Search.{lastOf}
 use Rattle.octets.proofs.Stores.{sets-append}
@@ -31,6 +31,10 @@ bounds-length : (l : List Span) → length (bounds l) ≡ 2 * length l
 unfolding bounds
 bounds-length [] = refl
 bounds-length (p ∷ l) = let e = bounds-length l in omega arith
+
+pub places-length : (l : List Span) → length (placesOf l) ≡ 16
+unfolding placesOf
+places-length l = length-sets (replicate 16 0) 0 (bounds (take mostPlaces l))
 
 -- what follows eight is left out
 take-more : (k : ℕ) (l m : List Span) → k ≤ length l → take k (l ++ m) ≡ take k l

@@ -57,13 +57,13 @@ loop-less-2 : tie.Need-loop-less-2 Inv-loop μ-loop
 loop-less-2 c = bytes-nearer _ _ _ _ _ _ _ (c .before .before .before .before .before .before .before .loop .inv) _ (c .before .before .before .before .before .before .read-field .ensures) _ _ (c .before .before .before .before .number .given .1)
 
 loop-again-2 : tie.Need-loop-again-2 Inv-loop μ-loop
-loop-again-2 c = walk-first _ _ _ _ _ _ _ (c .before .before .before .before .before .before .before .loop .inv) _ (c .before .before .before .before .before .before .read-field .ensures) _ _ (c .before .before .before .before .number .given .1) (c .before .if2 .taken) (c .if3 .taken)
+loop-again-2 c = walk-first _ _ _ _ _ _ _ (c .before .before .before .before .before .before .before .loop .inv) _ (c .before .before .before .before .before .before .read-field .ensures) _ _ (c .before .before .before .before .number .given .1) (c .before .if2 .taken) (omega (arith, c .if3 .taken))
 
 loop-less-3 : tie.Need-loop-less-3 Inv-loop μ-loop
 loop-less-3 c = bytes-nearer _ _ _ _ _ _ _ (c .before .before .before .before .before .before .before .loop .inv) _ (c .before .before .before .before .before .before .read-field .ensures) _ _ (c .before .before .before .before .number .given .1)
 
 loop-again-3 : tie.Need-loop-again-3 Inv-loop μ-loop
-loop-again-3 c = walk-more _ _ _ _ _ _ _ (c .before .before .before .before .before .before .before .loop .inv) _ (c .before .before .before .before .before .before .read-field .ensures) _ _ (c .before .before .before .before .number .given .1) (c .before .if2 .taken) (c .if3 .left)
+loop-again-3 c = walk-more _ _ _ _ _ _ _ (c .before .before .before .before .before .before .before .loop .inv) _ (c .before .before .before .before .before .before .read-field .ensures) _ _ (c .before .before .before .before .number .given .1) (c .before .if2 .taken) (omega (arith, c .if3 .left))
 
 loop-less-4 : tie.Need-loop-less-4 Inv-loop μ-loop
 loop-less-4 c = bytes-nearer _ _ _ _ _ _ _ (c .before .before .before .before .before .before .loop .inv) _ (c .before .before .before .before .before .read-field .ensures) _ _ (c .before .before .before .number .given .1)
