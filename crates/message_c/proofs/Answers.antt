@@ -2,7 +2,7 @@
 use Prim.Native.Nat.{ℕ, zero, suc, _+_, _≤_}
 use mathlib.Core.Path.{_≡_, sym, ap, _∙_}
 use mathlib.Core.List.{List, [], _∷_}
-use mathlib.Core.Bool.{Bool, true, cond}
+use mathlib.Core.Bool.{Bool, cond}
 use native.Mathlib.Omega.{arith}
 use lib.ListN.{length, getD, drop, drop-of-length-le}
 use lib.Seq.{drop-cons}
@@ -14,10 +14,10 @@ use Rattle.message.specs.View.{addressesAt}
 use Rattle.message.specs.declared.Fields.{Fields}
 use Rattle.message.specs.declared.Reading.{Reading}
 use Rattle.message.specs.declared.Reading.the-variants.{Whole, Refused}
-use Rattle.peer_walk.specs.PeerWalk.{placesOf, walkedOf}
+use Rattle.peer_walk.specs.PeerWalk.{placesOf, walkedOf, toldAt}
 use Rattle.peer_walk.specs.declared.Walked.{Walked}
 use Rattle.peer_walk.proofs.Walking.{places-length}
-use Rattle.message_c.specs.Codes.{peerNumbers, isFound, endsAfter, readCode, numbersAfter}
+use Rattle.message_c.specs.Codes.{isFound, endsAfter, readCode, numbersAfter}
 
 -- a search that another function made
 pub found-there : (old new : List ℕ) (r : Bool) (f g : Found) → f ≡ g → (r ≡ isFound f) × (new ≡ endsAfter old f) → (r ≡ isFound g) × (new ≡ endsAfter old g)
@@ -51,6 +51,6 @@ listed-rest zero i l e = let h : length l ≤ i = omega arith in sym (drop-of-le
 listed-rest (suc k) i l e = rw (listed-rest k (suc i) l (omega arith)) (sym (drop-cons l i 0 (omega arith)))
 
 pub peer-told : (s : List ℕ) (p : Span) (w : Walked) → w ≡ walkedOf s p
-    → (w .id .at ∷ w .id .end ∷ w .connection ∷ w .count ∷ listed 16 0 (w .places)) ≡ peerNumbers s p
+    → (w .id .at ∷ w .id .end ∷ w .connection ∷ w .count ∷ listed 16 0 (w .places)) ≡ toldAt s p
 unfolding walkedOf
 peer-told s p w e = rw (e, listed-rest 16 0 (placesOf (addressesAt s p)) (sym (places-length (addressesAt s p))))

@@ -2,7 +2,6 @@
 use Prim.Native.Nat.{ℕ}
 use mathlib.Core.List.{List, [], _∷_}
 use mathlib.Core.Bool.{Bool, true, false, cond}
-use lib.ListN.{length}
 use Rattle.refusal.specs.Refusal.{numberOf}
 use Rattle.wire.specs.declared.Span.{Span}
 use Rattle.wire.specs.declared.Found.{Found}
@@ -10,8 +9,6 @@ use Rattle.wire.specs.declared.Found.the-variants.{At, Nothing}
 use Rattle.message.specs.declared.Fields.{Fields}
 use Rattle.message.specs.declared.Reading.{Reading}
 use Rattle.message.specs.declared.Reading.the-variants.{Whole, Refused}
-use Rattle.message.specs.View.{idAt, addressesAt, connectionAt}
-use Rattle.peer_walk.specs.PeerWalk.{placesOf}
 use Rattle.writer.specs.declared.Written.{Written}
 use Rattle.writer.specs.declared.Written.the-variants.{Done, Refused as wRefused}
 
@@ -21,10 +18,6 @@ spanOf at end = record { at = at; end = end }
 
 abbrev pub endsOf : Span → List ℕ
 endsOf p = p .at ∷ p .end ∷ []
-
--- a peer: where its id is, its connection, how many addresses it has, and where the first eight are
-abbrev pub peerNumbers : List ℕ → Span → List ℕ
-peerNumbers s p = idAt s p .at ∷ idAt s p .end ∷ connectionAt s p ∷ length (addressesAt s p) ∷ placesOf (addressesAt s p)
 
 -- whether something was found, and the two ends that are stored; where nothing is found they stay
 abbrev pub isFound : Found → Bool

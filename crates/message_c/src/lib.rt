@@ -9,8 +9,9 @@ ghost use mathlib.Core.Bool.{cond};
 ghost use lib.ListN.{take};
 ghost use Rattle.wire.specs.Wire.{firstOf, fieldsAt, spans};
 ghost use Rattle.message.specs.View.{readingOf};
+ghost use Rattle.peer_walk.specs.PeerWalk.{toldAt};
 ghost use Rattle.writer.specs.Writer.{messageWith, answerOf, outAfter};
-ghost use Rattle.message_c.specs.Codes.{spanOf, peerNumbers, isFound, endsAfter, readCode, numbersAfter, writeCode};
+ghost use Rattle.message_c.specs.Codes.{spanOf, isFound, endsAfter, readCode, numbersAfter, writeCode};
 
 fn flag(b: bool) -> usize
     ensures { λ r. ⌜ r ≡ cond b 1 0 ⌝ }
@@ -97,7 +98,7 @@ pub extern "C" fn starterbell_message_peer(
     end: usize,
     out: &mut [usize; 20],
 )
-    ensures { λ r. ⌜ now (out .exit) ≡ peerNumbers (now (body .entry)) (spanOf at end) ⌝ }
+    ensures { λ r. ⌜ now (out .exit) ≡ toldAt (now (body .entry)) (spanOf at end) ⌝ }
 {
     let w = peer_walk::walk(body, Span { at, end });
     let q = w.places;

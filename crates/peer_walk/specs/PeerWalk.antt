@@ -30,3 +30,7 @@ walkedOf s p =
       count = length (addressesAt s p);
       places = placesOf (addressesAt s p);
     }
+
+-- the same as twenty numbers, for programs that take no structs
+abbrev pub toldAt : List ℕ → Span → List ℕ
+toldAt s p = idAt s p .at ∷ idAt s p .end ∷ connectionAt s p ∷ length (addressesAt s p) ∷ placesOf (addressesAt s p)
