@@ -16,7 +16,7 @@ use Rattle.message.specs.declared.Reading.{Reading}
 use Rattle.message.specs.declared.Reading.the-variants.{Whole, Refused}
 use Rattle.peer_walk.specs.PeerWalk.{placesOf, walkedOf, toldAt}
 use Rattle.peer_walk.specs.declared.Walked.{Walked}
-use Rattle.peer_walk.proofs.Walking.{places-length}
+use Rattle.peer_walk.proofs.Places.{places-length}
 use Rattle.message_c.specs.Codes.{isFound, endsAfter, readCode, numbersAfter}
 
 -- a search that another function made

@@ -1,14 +1,11 @@
 -- The one pass over a peer's fields comes to what the definitions say. Assumes nothing.
-use Prim.Native.Nat.{ℕ, zero, suc, _+_, _-_, _*_, _≤_, _<_}
+use Prim.Native.Nat.{ℕ, _+_, _-_, _*_, _≤_, _<_}
 use mathlib.Core.Path.{_≡_, refl, _∙_}
 use mathlib.Core.List.{List, [], _∷_, _++_, append-assoc, append-nil}
-use native.Mathlib.Numerals.{add-one}
 use native.Mathlib.Omega.{arith}
 use lib.ListN.{length, take, set, replicate, length-append}
-use lib.Seq.{length-sets, take-all}
 use borrow.Author.Tests.{ne-eqb}
 use Rattle.octets.specs.Search.{lastOf}
-use Rattle.octets.proofs.Stores.{sets-append}
 use Rattle.wire.specs.Wire.{fieldAt, nextOf, fieldsAt, fieldsIn, numbers, spanIf, spans, nowhere}
 use Rattle.wire.specs.declared.Span.{Span}
 use Rattle.wire.specs.declared.Field.{Field}
@@ -19,42 +16,7 @@ use Rattle.wire.proofs.Scan.{at-done, at-broken, at-on}
 use Rattle.message.specs.View.{idAt, addressesAt, connectionAt}
 use Rattle.peer_walk.specs.PeerWalk.{mostPlaces, bounds, placesOf, walkedOf}
 use Rattle.peer_walk.specs.Inner.{foundOf, walkedFrom}
-
--- ---- an array of places, filled from its front
-
-bounds-append : (l m : List Span) → bounds (l ++ m) ≡ bounds l ++ bounds m
-unfolding bounds
-bounds-append [] m = refl
-bounds-append (p ∷ l) m = rw (bounds-append l m)
-
-bounds-length : (l : List Span) → length (bounds l) ≡ 2 * length l
-unfolding bounds
-bounds-length [] = refl
-bounds-length (p ∷ l) = let e = bounds-length l in omega arith
-
-pub places-length : (l : List Span) → length (placesOf l) ≡ 16
-unfolding placesOf
-places-length l = length-sets (replicate 16 0) 0 (bounds (take mostPlaces l))
-
--- what follows eight is left out
-take-more : (k : ℕ) (l m : List Span) → k ≤ length l → take k (l ++ m) ≡ take k l
-take-more zero l m h = refl
-take-more (suc k) [] m h = absurd (omega arith)
-take-more (suc k) (p ∷ l) m h = rw (take-more k l m (omega arith))
-
-module _ (l : List Span) (p : Span) (n : ℕ) (e : n ≡ length l) (places : List ℕ) (q : places ≡ placesOf l) where
-  pub place-first : n < mostPlaces → set (set places (2 * n) (p .at)) (2 * n + 1) (p .end) ≡ placesOf (l ++ (p ∷ []))
-  unfolding placesOf bounds
-  place-first h =
-      let short : take mostPlaces l ≡ l = take-all mostPlaces l (omega arith) in
-      let long : take mostPlaces (l ++ (p ∷ [])) ≡ l ++ (p ∷ []) = take-all mostPlaces (l ++ (p ∷ [])) (omega (arith, length-append l (p ∷ []))) in
-      let z : 0 + length (bounds l) ≡ 2 * n = omega (arith, bounds-length l) in
-      let y : 2 * n + 1 ≡ suc (2 * n) = add-one (2 * n) in
-      rw (long, bounds-append l (p ∷ []), sets-append (replicate 16 0) 0 (bounds l) (bounds (p ∷ [])), z, y, q, short)
-
-  pub place-more : mostPlaces ≤ n → places ≡ placesOf (l ++ (p ∷ []))
-  unfolding placesOf
-  place-more h = q ∙ rw (take-more mostPlaces l (p ∷ []) (omega arith))
+use Rattle.peer_walk.proofs.Places.{place-first, place-more}
 
 -- ---- what has been read so far, and where the walk goes on
 pub record Walking (s : List ℕ) (from : ℕ) (places : List ℕ) (id : Span) (connection count at : ℕ) : Type 0 where
