@@ -6,8 +6,10 @@ ghost use Rattle.peer_walk.specs.Inner.{foundOf, walkedFrom};
 use wire::Field;
 use wire::Span;
 
-// How many addresses are told at once.
+// How many addresses are told at once, and in how many numbers: where each starts and where it ends.
 pub const FIRST: usize = 8;
+
+pub const PLACES: usize = 16;
 
 // The numbers of the fields.
 const ID: u64 = 1;
@@ -21,10 +23,10 @@ pub struct Walked {
     pub id: Span,
     pub connection: u64,
     pub count: usize,
-    pub places: [usize; 16],
+    pub places: [usize; PLACES],
 }
 
-// The front of a slice, up to a place.
+// For message, which keeps its own to itself: the front of a slice, up to a place.
 fn front(s: &[u8], end: usize) -> &[u8]
     ensures { λ r. ⌜ now r ≡ take end (now (s .entry)) ⌝ }
 {
@@ -35,7 +37,7 @@ fn front(s: &[u8], end: usize) -> &[u8]
 }
 
 // What was read of a peer. A connection above 3 reads as 0.
-fn found(id: Span, connection: u64, count: usize, places: [usize; 16]) -> Walked
+fn found(id: Span, connection: u64, count: usize, places: [usize; PLACES]) -> Walked
     ensures { λ r. ⌜ r ≡ foundOf id connection count places ⌝ }
 {
     if connection <= message::MOST_CONNECTION {
@@ -58,7 +60,7 @@ fn found(id: Span, connection: u64, count: usize, places: [usize; 16]) -> Walked
 fn walk_fields(s: &[u8], from: usize) -> Walked
     ensures { λ r. ⌜ r ≡ walkedFrom (now (s .entry)) from ⌝ }
 {
-    let mut places = [0usize; 16];
+    let mut places = [0usize; PLACES];
     let mut id = Span { at: 0, end: 0 };
     let mut connection: u64 = 0;
     let mut count: usize = 0;
