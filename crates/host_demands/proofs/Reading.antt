@@ -105,7 +105,7 @@ later-least : (a b : ℕ) → a ≤ laterOf a b
 unfolding laterOf
 later-least a b = cond-ind (λ (x : ℕ). a ≤ x) (ltb a b) b a (λ e. omega (arith, ltb-true a b e)) (λ e. omega arith)
 
--- stores from the start on: as many as there is room for
+-- for octets: stores from the start on, as many as there is room for
 sets-front : (out l : List ℕ) → sets out 0 l ≡ take (length out) l ++ drop (length l) out
 sets-front out l = ⊎-elim cut-off whole (either (ltb (length out) (length l)))
   where
