@@ -54,12 +54,17 @@ extern "C" {
 #define STARTERBELL_NEAREST_OUT 21
 #define STARTERBELL_FIND_OUT 2
 #define STARTERBELL_VIEW 8
-#define STARTERBELL_PEER_OUT 5
+#define STARTERBELL_PEER_OUT 22
 #define STARTERBELL_PEER_ADDRESS_OUT 2
 #define STARTERBELL_WRITE_OUT 1
 #define STARTERBELL_RECEIVE_OUT 12
 #define STARTERBELL_LOOKUP_OUT 22
 #define STARTERBELL_OUT_MOST 22
+
+/* Of the numbers of a peer: which says how many addresses it has, the first of those that say where they are, and of how many these tell. */
+#define STARTERBELL_PEER_COUNT 5
+#define STARTERBELL_PEER_PLACES 6
+#define STARTERBELL_PEER_FIRST 8
 
 /* ---- What a host may read in lent memory */
 
@@ -237,11 +242,14 @@ uint32_t starterbell_find(const uint8_t *records, size_t records_length, const u
 uint32_t starterbell_read(const uint8_t *body, size_t body_length, uint64_t *out, size_t out_length);
 
 /* The next entry, from a position on, of a message's closerPeers (list 0) or of its providerPeers (any other list). From 0, and then from each entry's end, these
-   are all of them. PEER_AT, and to `out` go where the entry starts and ends, where its id starts and ends, and its connection, 0 to 3; or PEER_NOTHING. */
+   are all of them. PEER_AT, and to `out` go where the entry starts and ends, where its id starts and ends, its connection, 0 to 3, how many addresses it has, and
+   where the first STARTERBELL_PEER_FIRST of these start and end, one after another, with zeros after the last: the address k from
+   STARTERBELL_PEER_PLACES + 2 * k on. A shorter `out` gets what fits. Or PEER_NOTHING. */
 uint32_t starterbell_peer(const uint8_t *body, size_t body_length, uint32_t list, size_t from, uint64_t *out, size_t out_length);
 
 /* The next address, from a position on, of the peer whose entry starts and ends there. From 0, and then from each address's end, these are all of them.
-   PEER_AT, and where the address starts and ends goes to `out`; or PEER_NOTHING. */
+   Where a peer has more than STARTERBELL_PEER_FIRST, those that starterbell_peer doesn't tell follow from the end of the last that it tells. PEER_AT, and where the
+   address starts and ends goes to `out`; or PEER_NOTHING. */
 uint32_t starterbell_peer_address(const uint8_t *body, size_t body_length, size_t start, size_t end, size_t from, uint64_t *out, size_t out_length);
 
 /* Writes a message with its length prefix at the start of `message`: its type, its key, its record if `held` says that it has one, and its two lists of peers.

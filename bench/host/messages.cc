@@ -15,9 +15,8 @@ extern "C" {
 uint8_t starterbell_message_read(const uint8_t *body, size_t length, size_t out[8]);
 bool starterbell_message_closer_peer(const uint8_t *body, size_t length, size_t from, size_t out[2]);
 bool starterbell_message_provider_peer(const uint8_t *body, size_t length, size_t from, size_t out[2]);
-void starterbell_message_peer_id(const uint8_t *body, size_t length, size_t at, size_t end, size_t out[2]);
+void starterbell_message_peer(const uint8_t *body, size_t length, size_t at, size_t end, size_t out[20]);
 bool starterbell_message_peer_address(const uint8_t *body, size_t length, size_t at, size_t end, size_t from, size_t out[2]);
-uint64_t starterbell_message_peer_connection(const uint8_t *body, size_t length, size_t at, size_t end);
 }
 
 using std::string;
@@ -35,15 +34,20 @@ static uint64_t text(uint64_t sum, const string &s) { return part(sum, reinterpr
 
 /* ---- ours */
 
+/* How many addresses of a peer one call tells. */
+static const size_t FIRST = 8;
+
 typedef bool (*Walk)(const uint8_t *, size_t, size_t, size_t[2]);
 
 static uint64_t ours_peers(const uint8_t *s, size_t n, uint64_t sum, Walk next) {
-    size_t peer[2], p[2];
+    size_t peer[2], m[20], p[2];
     for (size_t from = 0; next(s, n, from, peer); from = peer[1]) {
-        starterbell_message_peer_id(s, n, peer[0], peer[1], p);
-        sum = part(sum, s + p[0], p[1] - p[0]);
-        for (size_t at = peer[0]; starterbell_message_peer_address(s, n, peer[0], peer[1], at, p); at = p[1]) sum = part(sum, s + p[0], p[1] - p[0]);
-        sum = number(sum, starterbell_message_peer_connection(s, n, peer[0], peer[1]));
+        starterbell_message_peer(s, n, peer[0], peer[1], m);
+        sum = part(sum, s + m[0], m[1] - m[0]);
+        for (size_t k = 0; k < m[3] && k < FIRST; k++) sum = part(sum, s + m[4 + 2 * k], m[5 + 2 * k] - m[4 + 2 * k]);
+        if (m[3] > FIRST)
+            for (size_t at = m[19]; starterbell_message_peer_address(s, n, peer[0], peer[1], at, p); at = p[1]) sum = part(sum, s + p[0], p[1] - p[0]);
+        sum = number(sum, m[2]);
     }
     return sum;
 }
@@ -126,24 +130,38 @@ static Span plain_last(const uint8_t *s, size_t n, size_t at, uint64_t number) {
     return last;
 }
 
-static uint64_t plain_number(const uint8_t *s, size_t n, size_t at, uint64_t number) {
-    uint64_t last = 0;
+struct PlainPeer {
+    Span id, places[FIRST];
+    uint64_t connection = 0;
+    size_t count = 0;
+};
+
+static PlainPeer plain_peer(const uint8_t *s, size_t n, size_t at) {
+    PlainPeer w;
     for (;;) {
         Field f = plain_field(s, n, at);
-        if (f.kind == Field::END || f.kind == Field::BAD) return last;
-        if (f.kind == Field::NUMBER && f.number == number) last = f.value;
+        if (f.kind == Field::END || f.kind == Field::BAD) break;
+        if (f.kind == Field::BYTES && f.number == 1) w.id = f.part;
+        if (f.kind == Field::BYTES && f.number == 2) {
+            if (w.count < FIRST) w.places[w.count] = f.part;
+            w.count++;
+        }
+        if (f.kind == Field::NUMBER && f.number == 3) w.connection = f.value;
         at = f.next;
     }
+    if (w.connection > 3) w.connection = 0;
+    return w;
 }
 
 static uint64_t plain_peers(const uint8_t *s, size_t n, uint64_t sum, uint64_t number_of_list) {
     Span peer, p;
     for (size_t from = 0; plain_next(s, n, from, number_of_list, peer); from = peer.end) {
-        p = plain_last(s, peer.end, peer.at, 1);
-        sum = part(sum, s + p.at, p.end - p.at);
-        for (size_t at = peer.at; plain_next(s, peer.end, at, 2, p); at = p.end) sum = part(sum, s + p.at, p.end - p.at);
-        uint64_t connection = plain_number(s, peer.end, peer.at, 3);
-        sum = number(sum, connection > 3 ? 0 : connection);
+        PlainPeer w = plain_peer(s, peer.end, peer.at);
+        sum = part(sum, s + w.id.at, w.id.end - w.id.at);
+        for (size_t k = 0; k < w.count && k < FIRST; k++) sum = part(sum, s + w.places[k].at, w.places[k].end - w.places[k].at);
+        if (w.count > FIRST)
+            for (size_t at = w.places[FIRST - 1].end; plain_next(s, peer.end, at, 2, p); at = p.end) sum = part(sum, s + p.at, p.end - p.at);
+        sum = number(sum, w.connection);
     }
     return sum;
 }

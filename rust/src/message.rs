@@ -130,6 +130,9 @@ impl<'a> Message<'a> {
     }
 }
 
+/// How many numbers [`raw::peer`] tells of a peer: the last sixteen are the ends of its first eight addresses.
+const TOLD: usize = 22;
+
 /// The peers of a message, one after another.
 #[derive(Clone, Debug)]
 pub struct Entries<'a> {
@@ -142,14 +145,12 @@ impl<'a> Iterator for Entries<'a> {
     type Item = Entry<'a>;
 
     fn next(&mut self) -> Option<Entry<'a>> {
-        let mut out = [0; 5];
-        if raw::peer(self.body, self.list, self.from, &mut out) != 64 {
+        let mut told = [0; TOLD];
+        if raw::peer(self.body, self.list, self.from, &mut told) != 64 {
             return None;
         }
-        let whole = span(&out);
-        self.from = whole.end;
-        let connection = ConnectionType::ALL[out[4] as usize];
-        Some(Entry { body: self.body, whole, id: span(&out[2..]), connection })
+        self.from = span(&told).end;
+        Some(Entry { body: self.body, told })
     }
 }
 
@@ -157,46 +158,58 @@ impl<'a> Iterator for Entries<'a> {
 #[derive(Clone, Debug)]
 pub struct Entry<'a> {
     body: &'a [u8],
-    whole: Range<usize>,
-    id: Range<usize>,
-    connection: ConnectionType,
+    told: [u64; TOLD],
 }
 
 impl<'a> Entry<'a> {
     /// Its id. Whoever sent the message chose it: it may have any length.
     pub fn id(&self) -> &'a [u8] {
-        &self.body[self.id.clone()]
+        &self.body[span(&self.told[2..])]
     }
 
     /// What the sender says of its connection to this peer.
     pub fn connection(&self) -> ConnectionType {
-        self.connection
+        ConnectionType::ALL[self.told[4] as usize]
     }
 
     /// Its addresses: as many, and as long, as the sender chose.
     pub fn addresses(&self) -> Addresses<'a> {
-        Addresses { body: self.body, whole: self.whole.clone(), from: self.whole.start }
+        Addresses { entry: self.clone(), given: 0, from: 0 }
     }
 }
 
 /// The addresses of a peer that a message names, one after another.
 #[derive(Clone, Debug)]
 pub struct Addresses<'a> {
-    body: &'a [u8],
-    whole: Range<usize>,
+    entry: Entry<'a>,
+    given: usize,
+    /// Where the last one ended: those that were not told with the peer are looked for from there on.
     from: usize,
+}
+
+impl Addresses<'_> {
+    /// Where the address after those that were given is.
+    fn place(&self) -> Option<Range<usize>> {
+        let told = &self.entry.told;
+        if self.given >= told[5] as usize {
+            return None;
+        }
+        if let Some(ends) = told[6..].chunks_exact(2).nth(self.given) {
+            return Some(span(ends));
+        }
+        let (whole, mut out) = (span(told), [0; 2]);
+        (raw::peer_address(self.entry.body, whole.start, whole.end, self.from, &mut out) == 64).then(|| span(&out))
+    }
 }
 
 impl<'a> Iterator for Addresses<'a> {
     type Item = &'a [u8];
 
     fn next(&mut self) -> Option<&'a [u8]> {
-        let mut out = [0; 2];
-        if raw::peer_address(self.body, self.whole.start, self.whole.end, self.from, &mut out) != 64 {
-            return None;
-        }
-        self.from = span(&out).end;
-        Some(&self.body[span(&out)])
+        let place = self.place()?;
+        self.given += 1;
+        self.from = place.end;
+        Some(&self.entry.body[place])
     }
 }
 

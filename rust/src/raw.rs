@@ -99,7 +99,8 @@ exported! {
     fn read = starterbell_read(body: bytes, out: numbers_mut);
 
     /// The next peer of a message from a position on, of closerPeers where `list` is 0, else of providerPeers. 64, or 65 where there is none. `out`: where it
-    /// starts and ends, where its id starts and ends, its connection.
+    /// starts and ends; where its id starts and ends; its connection; how many addresses it has; where the first eight of those start and end, one after
+    /// another, with zeros after the last.
     fn peer = starterbell_peer(body: bytes, list: u32, from: usize, out: numbers_mut);
 
     /// The next address of the peer at `start` to `end` from a position on. 64, or 65 where there is none. `out`: where it starts and ends.

@@ -94,6 +94,35 @@ fn the_senders_own_lengths_are_read() {
     assert!(entry.addresses().eq((0..6).map(|n| [n])));
 }
 
+/// A field of bytes, with its length in two bytes.
+fn field(tag: u8, content: &[u8]) -> Vec<u8> {
+    [&[tag, (content.len() % 128 + 128) as u8, (content.len() / 128) as u8][..], content].concat()
+}
+
+#[test]
+fn any_number_of_addresses_is_read() {
+    // lengths 0, 1, 2 .. so that no two are alike; the id and the connection stand among them
+    let address = |n: usize| vec![n as u8; n];
+    let counts = [0, 1, 7, 8, 9, 20];
+    let peer = |count: usize| {
+        let (early, late): (Vec<_>, Vec<_>) = (0..count).partition(|n| *n < 8);
+        let written = |part: Vec<usize>| part.into_iter().flat_map(|n| field(18, &address(n))).collect::<Vec<_>>();
+        [field(10, b"first"), written(early), field(10, &[count as u8]), vec![24, 2], written(late)].concat()
+    };
+    for (tag, list) in [(66, 0), (74, 1)] {
+        let bytes = [vec![8, 4], counts.iter().flat_map(|count| field(tag, &peer(*count))).collect()].concat();
+        let message = Message::read(&bytes).expect("well formed");
+        let entries: Vec<_> = [message.closer_peers(), message.provider_peers()][list].clone().collect();
+        assert_eq!(entries.len(), counts.len());
+        for (entry, count) in entries.into_iter().zip(counts) {
+            assert_eq!((entry.id(), entry.connection()), (&[count as u8][..], ConnectionType::CanConnect));
+            assert!(entry.addresses().eq((0..count).map(address)), "{count} addresses");
+            let mut walk = entry.clone().addresses();
+            assert_eq!((walk.by_ref().count(), walk.next()), (count, None), "and no more after the last");
+        }
+    }
+}
+
 #[test]
 fn a_record_in_several_fields_is_read_as_one() {
     let first = [26, 3, 10, 1, b'A'];

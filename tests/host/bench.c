@@ -402,13 +402,16 @@ static void remember(const uint8_t *id, size_t length, const uint8_t *address) {
     book[books++].where = address[0] - '0';
 }
 
-/* Every peer that a reply names, with its first address. */
+/* Every peer that a reply names, with its first address. It has no more addresses than one call tells. */
 static void remember_peers(const uint8_t *body, size_t length) {
     uint64_t peer[STARTERBELL_PEER_OUT], address[STARTERBELL_PEER_ADDRESS_OUT];
+    const uint64_t *places = peer + STARTERBELL_PEER_PLACES;
     size_t from = 0;
     while (starterbell_peer(body, length, 0, from, peer, STARTERBELL_PEER_OUT) == STARTERBELL_PEER_AT) {
-        if (starterbell_peer_address(body, length, (size_t)peer[0], (size_t)peer[1], 0, address, STARTERBELL_PEER_ADDRESS_OUT) == STARTERBELL_PEER_AT)
-            remember(body + peer[2], (size_t)(peer[3] - peer[2]), body + address[0]);
+        size_t count = (size_t)peer[STARTERBELL_PEER_COUNT], told = count < STARTERBELL_PEER_FIRST ? count : STARTERBELL_PEER_FIRST;
+        if (told > 0) remember(body + peer[2], (size_t)(peer[3] - peer[2]), body + places[0]);
+        expect("an address that was not told", starterbell_peer_address(body, length, (size_t)peer[0], (size_t)peer[1], told > 0 ? (size_t)places[2 * told - 1] : 0, address,
+            STARTERBELL_PEER_ADDRESS_OUT), STARTERBELL_PEER_NOTHING);
         from = (size_t)peer[1];
     }
     expect("a list of providers, which nobody sends", starterbell_peer(body, length, 1, 0, peer, STARTERBELL_PEER_OUT), STARTERBELL_PEER_NOTHING);

@@ -18,9 +18,8 @@ extern "C" {
 uint8_t starterbell_message_read(const uint8_t *body, size_t length, size_t out[8]);
 bool starterbell_message_closer_peer(const uint8_t *body, size_t length, size_t from, size_t out[2]);
 bool starterbell_message_provider_peer(const uint8_t *body, size_t length, size_t from, size_t out[2]);
-void starterbell_message_peer_id(const uint8_t *body, size_t length, size_t at, size_t end, size_t out[2]);
+void starterbell_message_peer(const uint8_t *body, size_t length, size_t at, size_t end, size_t out[20]);
 bool starterbell_message_peer_address(const uint8_t *body, size_t length, size_t at, size_t end, size_t from, size_t out[2]);
-uint64_t starterbell_message_peer_connection(const uint8_t *body, size_t length, size_t at, size_t end);
 size_t starterbell_message_write(uint8_t *out, size_t room, uint64_t kind, const uint8_t *key, size_t key_length, bool held,
     const uint8_t *record_key, size_t record_key_length, const uint8_t *value, size_t value_length, const uint8_t *closer, size_t closer_length,
     const uint8_t *providers, size_t providers_length);
@@ -93,6 +92,9 @@ static void fail(const string &what, const string &body) {
 
 /* ---- ours */
 
+/* How many addresses of a peer one call tells. */
+static const size_t FIRST = 8;
+
 static const uint8_t *bytes_of(const string &s) { return reinterpret_cast<const uint8_t *>(s.data()); }
 
 static string part(const string &body, const size_t ends[2]) {
@@ -100,16 +102,30 @@ static string part(const string &body, const size_t ends[2]) {
     return body.substr(ends[0], ends[1] - ends[0]);
 }
 
+/* The addresses of a peer from a position on, one by one. */
+static vector<string> ours_addresses(const string &body, const size_t peer[2], size_t from) {
+    vector<string> addrs;
+    size_t ends[2];
+    for (; starterbell_message_peer_address(bytes_of(body), body.size(), peer[0], peer[1], from, ends); from = ends[1]) addrs.push_back(part(body, ends));
+    return addrs;
+}
+
+/* One call tells the first eight addresses; those after them come one by one, and so do all, which have to be the same. */
 static PeerSaid ours_peer(const string &body, const size_t peer[2]) {
     PeerSaid p;
-    size_t ends[2], from = peer[0];
-    starterbell_message_peer_id(bytes_of(body), body.size(), peer[0], peer[1], ends);
-    p.id = part(body, ends);
-    while (starterbell_message_peer_address(bytes_of(body), body.size(), peer[0], peer[1], from, ends)) {
-        p.addrs.push_back(part(body, ends));
-        from = ends[1];
+    size_t out[20];
+    starterbell_message_peer(bytes_of(body), body.size(), peer[0], peer[1], out);
+    p.id = part(body, out);
+    p.connection = static_cast<int64_t>(out[2]);
+    for (size_t k = 0; k < FIRST; k++) {
+        const size_t *place = out + 4 + 2 * k;
+        if (k < out[3]) p.addrs.push_back(part(body, place));
+        else if (place[0] || place[1]) fail("ours tells an address after the last", body);
     }
-    p.connection = static_cast<int64_t>(starterbell_message_peer_connection(bytes_of(body), body.size(), peer[0], peer[1]));
+    if (out[3] > FIRST)
+        for (const string &a : ours_addresses(body, peer, out[19])) p.addrs.push_back(a);
+    if (p.addrs.size() != out[3]) fail("ours counts other addresses than there are", body);
+    if (p.addrs != ours_addresses(body, peer, peer[0])) fail("ours tells other addresses in one call than one by one", body);
     return p;
 }
 
@@ -412,7 +428,7 @@ static string any_text() {
 
 static void fill(dht::Peer *p) {
     if (!one_in(8)) p->set_id(any_bytes(any_length(64)));
-    for (uint64_t n = below(one_in(6) ? 7 : 3); n > 0; n--) p->add_addrs(any_bytes(any_length(one_in(8) ? 128 : 30)));
+    for (uint64_t n = below(one_in(6) ? 20 : 3); n > 0; n--) p->add_addrs(any_bytes(any_length(one_in(8) ? 128 : 30)));
     p->set_connection(static_cast<dht::Peer::Connection>(one_in(20) ? static_cast<int>(below(40)) - 20 : static_cast<int>(below(4))));
 }
 
@@ -521,7 +537,7 @@ static string wild_record() {
 
 static string wild_peer() {
     string s;
-    for (uint64_t n = below(6); n > 0; n--) switch (below(5)) {
+    for (uint64_t n = below(one_in(8) ? 40 : 6); n > 0; n--) switch (below(5)) {
         case 0: put_part(s, 1, any_bytes(below(40))); break;
         case 1:
         case 2: put_part(s, 2, any_bytes(below(30))); break;

@@ -215,8 +215,8 @@ pub extern "C" fn starterbell_read(body: &[u8], out: &mut [u64]) -> u32
 }
 
 // The next entry from a position on of a message's closerPeers, for list 0, or of its providerPeers, for any other number: from 0, and then from each end,
-// these are all of them. 64 where there is one: where it starts and ends, where its id starts and ends, and its connection go to out. 65 where there is none.
-// In C:
+// these are all of them. 64 where there is one: to out go where it starts and ends, where its id starts and ends, its connection, how many addresses it has,
+// and where the first eight of those start and end, one after another, with zeros after the last. 65 where there is none. In C:
 //
 //     uint32_t starterbell_peer(const uint8_t *body, size_t body_length, uint32_t list, size_t from, uint64_t *out, size_t out_length);
 #[no_mangle]

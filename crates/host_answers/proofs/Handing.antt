@@ -19,7 +19,8 @@ use lib.ListN.{take}
 use Rattle.wire.specs.declared.Found.{Found}
 use Rattle.wire.specs.declared.Found.the-variants.{At}
 use Rattle.wire.specs.Wire.{firstOf, fieldsAt, spans}
-use Rattle.message.specs.View.{idAt, connectionAt}
+use Rattle.peer_walk.specs.PeerWalk.{walkedOf}
+use Rattle.peer_walk.specs.declared.Walked.{Walked}
 use Rattle.host_numbers.specs.Numbers.{toldCode, unlessRefused}
 use Rattle.host_answers.specs.Answers.{nearestNumbers, entryFrom, laterOf, addressFrom, partNumber, peerNumbers}
 
@@ -50,12 +51,15 @@ module _ (s : List ℕ) (list from : ℕ) (f : Found) (b : Bool) (e : b ≡ says
   unfolding entryFrom
   closer-entry h w = w ∙ sym (cond-no (saysYes list) (firstOf (spans 9 (fieldsAt s from))) (firstOf (spans 8 (fieldsAt s from))) (sym e ∙ h))
 
-pub entry-written : (out new s : List ℕ) (f : Found) (p id : Span) (n : ℕ) → f ≡ At p → id ≡ idAt s p → n ≡ connectionAt s p
-    → new ≡ sets out 0 (p .at ∷ p .end ∷ id .at ∷ id .end ∷ n ∷ []) → (64 ≡ partNumber f) × (new ≡ peerNumbers out s f)
-entry-written out new s f p id n e h k w = (
+pub entry-written : (out one two s : List ℕ) (f : Found) (p : Span) (w : Walked) → f ≡ At p → w ≡ walkedOf s p
+    → one ≡ sets out 0 (p .at ∷ p .end ∷ w .id .at ∷ w .id .end ∷ w .connection ∷ w .count ∷ []) → two ≡ sets one 6 (w .places)
+    → (64 ≡ partNumber f) × (two ≡ peerNumbers out s f)
+unfolding walkedOf
+entry-written out one two s f p w e h a b = (
   sym (ap partNumber e),
-  w ∙ ap (λ (x : Span). sets out 0 (p .at ∷ p .end ∷ x .at ∷ x .end ∷ n ∷ [])) h
-      ∙ ap (λ (x : ℕ). sets out 0 (p .at ∷ p .end ∷ idAt s p .at ∷ idAt s p .end ∷ x ∷ [])) k
+  b ∙ ap (λ (x : List ℕ). sets x 6 (w .places)) a
+      ∙ sym (sets-append out 0 (p .at ∷ p .end ∷ w .id .at ∷ w .id .end ∷ w .connection ∷ w .count ∷ []) (w .places))
+      ∙ ap (λ (x : Walked). sets out 0 (p .at ∷ p .end ∷ x .id .at ∷ x .id .end ∷ x .connection ∷ x .count ∷ x .places)) h
       ∙ sym (ap (peerNumbers out s) e),
 )
 

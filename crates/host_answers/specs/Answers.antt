@@ -17,7 +17,7 @@ use Rattle.wire.specs.declared.Found.the-variants as part
 use Rattle.wire.specs.Wire.{firstOf, fieldsAt, spans}
 use Rattle.message.specs.declared.Reading.{Reading}
 use Rattle.message.specs.declared.Reading.the-variants as reading
-use Rattle.message.specs.View.{idAt, connectionAt}
+use Rattle.peer_walk.specs.PeerWalk.{toldAt}
 use Rattle.writer.specs.declared.Written.{Written}
 use Rattle.writer.specs.declared.Written.the-variants as written
 use Rattle.host_calls.specs.declared.Nearby.{Nearby}
@@ -78,9 +78,9 @@ abbrev pub partNumber : wire.Found → ℕ
 partNumber (part.At p) = 64
 partNumber part.Nothing = 65
 
--- where the entry is, where its id is, and its connection
+-- 22 numbers: where the entry is, where its id is, its connection, how many addresses it has, and where the first eight of them are
 abbrev pub peerNumbers : List ℕ → List ℕ → wire.Found → List ℕ
-peerNumbers out s (part.At p) = sets out 0 (p .at ∷ p .end ∷ idAt s p .at ∷ idAt s p .end ∷ connectionAt s p ∷ [])
+peerNumbers out s (part.At p) = sets out 0 (p .at ∷ p .end ∷ toldAt s p)
 peerNumbers out s part.Nothing = out
 
 -- where the address is

@@ -128,16 +128,24 @@ pub fn next_entry(body: &[u8], list: u32, from: usize) -> wire::Found
     message::closer_peer(body, from)
 }
 
-// 64, and where the entry and its id are and its connection go to out; 65 where there is none.
+// 64, and to out go where the entry and its id are, its connection, how many addresses it has and where the first eight are; 65 where there is none.
 pub fn peer_answer(body: &[u8], out: &mut [u64], f: wire::Found) -> u32
     ensures { λ r. ⌜ (r ≡ partNumber f) × (now (out .exit) ≡ peerNumbers (now (out .entry)) (now (body .entry)) f) ⌝ }
 {
     match f {
         wire::Found::At(p) => {
-            let id = message::peer_id(body, p);
-            let connection = message::peer_connection(body, p) as usize;
-            let numbers = [p.at, p.end, id.at, id.end, connection];
-            host_numbers::put_numbers(out, 0, &numbers);
+            let w = peer_walk::walk(body, p);
+            let first = [
+                p.at,
+                p.end,
+                w.id.at,
+                w.id.end,
+                w.connection as usize,
+                w.count,
+            ];
+            let places = w.places;
+            host_numbers::put_numbers(out, 0, &first);
+            host_numbers::put_numbers(out, first.len(), &places);
             64
         }
         wire::Found::Nothing => 65,

@@ -1,17 +1,18 @@
 -- What the calls on messages give is what the bytes say: specs/Messages.antt. Assumes nothing.
-use Prim.Native.Nat.{ℕ, _≤_, _<_}
+use Prim.Native.Nat.{ℕ, zero, suc, _+_, _*_, _≤_, _<_}
 use mathlib.Core.Path.{_≡_, refl, sym, ap, _∙_, subst}
+use mathlib.Core.Logic.{⊎-elim}
 use mathlib.Core.Bool.{Bool, true, false, cond, not}
 use mathlib.Core.List.{List, [], _∷_, _++_, map}
 use mathlib.Core.Option.{none, some}
 use native.Mathlib.Omega.{arith}
-use lib.ListN.{length, getD, take, drop, length-take}
-use lib.Seq.{sets, sets-eq}
+use lib.ListN.{length, getD, take, drop, length-take, length-map, take-append-drop, drop-of-length-le, List·getD-map}
+use lib.Seq.{sets, sets-eq, length-sets, take-all, length-take-le}
 use lib.Dec.{ltb}
 use borrow.Author.Tests.{lt-ltb, le-ltb, ltb-true, ltb-false, ne-eqb}
-use Rattle.octets.proofs.Bools.{cond-ind, cond-yes, cond-no, not-yes, not-no}
-use Rattle.octets.proofs.Stores.{drop-sets}
-use Rattle.wire.specs.Wire.{fields, fieldsAt, fieldsIn, spans, firstOf}
+use Rattle.octets.proofs.Bools.{either, cond-ind, cond-yes, cond-no, not-yes, not-no}
+use Rattle.octets.proofs.Stores.{sets-out, sets-append, drop-sets}
+use Rattle.wire.specs.Wire.{fields, fieldsAt, fieldsIn, spans, firstOf, nowhere}
 use Rattle.wire.specs.Items.{cut}
 use Rattle.wire.specs.declared.Span.{Span}
 use Rattle.wire.specs.declared.Found.{Found}
@@ -27,6 +28,8 @@ use Rattle.message.specs.declared.Reading.the-variants.{Whole, Refused}
 use Rattle.message.proofs.Claims.{claims}
 use Rattle.message.proofs.Meaning.{closer-meant, providers-meant}
 use Rattle.message.proofs.Views.{read-whole}
+use Rattle.peer_walk.specs.PeerWalk.{mostPlaces, placesOf, toldAt}
+use Rattle.peer_walk.proofs.Places.{places-length, place-at, place-none}
 use Rattle.pieces.specs.Writable.{writable}
 use Rattle.round_trip.proofs.Written.{written-is-read}
 use Rattle.writer.specs.declared.Written.{Written}
@@ -102,6 +105,28 @@ later-least : (a b : ℕ) → a ≤ laterOf a b
 unfolding laterOf
 later-least a b = cond-ind (λ (x : ℕ). a ≤ x) (ltb a b) b a (λ e. omega (arith, ltb-true a b e)) (λ e. omega arith)
 
+-- for octets: stores from the start on, as many as there is room for
+sets-front : (out l : List ℕ) → sets out 0 l ≡ take (length out) l ++ drop (length l) out
+sets-front out l = ⊎-elim cut-off whole (either (ltb (length out) (length l)))
+  where
+    whole : ltb (length out) (length l) ≡ false → sets out 0 l ≡ take (length out) l ++ drop (length l) out
+    whole t =
+        let h : length l ≤ length out = ltb-false (length out) (length l) t in
+        let z : 0 + length l ≡ length l = omega arith in
+        sets-eq l out 0 (omega (arith, h)) ∙ rw (z, take-all (length out) l h)
+
+    cut-off : ltb (length out) (length l) ≡ true → sets out 0 l ≡ take (length out) l ++ drop (length l) out
+    cut-off t =
+        let n : ℕ = length out in
+        let h : length out < length l = ltb-true (length out) (length l) t in
+        let k : length (take n l) ≡ n = length-take-le n l (omega (arith, h)) in
+        let a : sets out 0 l ≡ sets (sets out 0 (take n l)) (0 + length (take n l)) (drop n l) = ap (λ (x : List ℕ). sets out 0 x) (sym (take-append-drop n l)) ∙ sets-append out 0 (take n l) (drop n l) in
+        let b = sets-out (sets out 0 (take n l)) (0 + length (take n l)) (drop n l) (omega (arith, k, length-sets out 0 (take n l))) in
+        let u : length out ≤ 0 + length (take n l) = omega (arith, k) in
+        let v : length out ≤ length l = omega (arith, h) in
+        let d : drop (0 + length (take n l)) out ≡ drop (length l) out = drop-of-length-le out u ∙ sym (drop-of-length-le out v) in
+        a ∙ b ∙ sets-eq (take n l) out 0 (omega (arith, k)) ∙ rw d
+
 same-rest : (p : Span) (k l : List Span) → p ∷ k ≡ p ∷ l → k ≡ l
 same-rest p k l e = cc
 
@@ -126,16 +151,65 @@ module _ (s : List ℕ) where
       let z : laterOf start (p .end) ≡ p .end = later-end start (p .end) (omega (arith, i .starts, i .ordered, later-least start from)) in
       (p, address-given _ p (ap firstOf e) c, addresses-given start end l (p .end) (ap (λ (n : ℕ). spans 2 (fieldsAt (take end s) n)) z ∙ on))
 
+  -- from where the address k ends, those after it
+  later-given : (start end k : ℕ) (l : List Span) (from : ℕ) → start ≤ from → spans 2 (fieldsAt (take end s) from) ≡ l → k < length l
+      → Addresses s start end (getD l k nowhere .end) (drop (suc k) (map (cut s) l))
+  unfolding firstOf
+  later-given start end k [] from b e h = absurd (omega (arith, h))
+  later-given start end k (p ∷ l) from b e h =
+      let i = walk-inside (take end s) 2 from p (ap firstOf e) in
+      go k h (omega (arith, b, i .starts, i .ordered)) (same-rest p _ l (sym (walk-at (take end s) 2 from p (ap firstOf e)) ∙ e))
+      (λ k′. later-given start end k′ l (p .end))
+    where
+      go : (k : ℕ) → k < suc (length l) → start ≤ p .end → spans 2 (fieldsAt (take end s) (p .end)) ≡ l
+          → ((k′ : ℕ) → start ≤ p .end → spans 2 (fieldsAt (take end s) (p .end)) ≡ l → k′ < length l → Addresses s start end (getD l k′ nowhere .end) (drop (suc k′) (map (cut s) l)))
+          → Addresses s start end (getD (p ∷ l) k nowhere .end) (drop k (map (cut s) l))
+      go zero h b on ih = addresses-given start end l (p .end) (ap (λ (n : ℕ). spans 2 (fieldsAt (take end s) n)) (later-end start (p .end) b) ∙ on)
+      go (suc k) h b on ih = ih k b on (omega (arith, h))
+
+  module _ (p : Span) where
+    shows-address : Cuttable (length s) p → (k : ℕ) → k < mostPlaces → k < length (map (cut s) (addressesAt s p))
+        → IsPart s (getD (placesOf (addressesAt s p)) (2 * k) 0) (getD (placesOf (addressesAt s p)) (2 * k + 1) 0) (getD (map (cut s) (addressesAt s p)) k [])
+    shows-address c k h i =
+        let l : List Span = addressesAt s p in
+        let j : k < length l = omega (arith, i, length-map l (cut s)) in
+        let w = place-at l k h j in
+        rw (w .0, w .1, List·getD-map (cut s) l k nowhere) (cut-is s (getD l k nowhere) (claims .walksInside s .addresses p c k j))
+
+    other-addresses : mostPlaces ≤ length (map (cut s) (addressesAt s p))
+        → Addresses s (p .at) (p .end) (getD (placesOf (addressesAt s p)) 15 0) (drop mostPlaces (map (cut s) (addressesAt s p)))
+    unfolding addressesAt fieldsIn
+    other-addresses h =
+        let l : List Span = addressesAt s p in
+        let j : 7 < length l = omega (arith, h, length-map l (cut s)) in
+        rw (place-at l 7 (omega arith) j .1) (later-given (p .at) (p .end) 7 l (p .at) (omega arith) refl j)
+
+    abbrev told : ℕ → List ℕ
+    told n = p .at ∷ p .end ∷ idAt s p .at ∷ idAt s p .end ∷ connectionAt s p ∷ n ∷ placesOf (addressesAt s p)
+
+    told-written : (out : List ℕ) → sets out 0 (p .at ∷ p .end ∷ toldAt s p) ≡ take (length out) (told (length (map (cut s) (addressesAt s p)))) ++ drop 22 out
+    told-written out =
+        let l : List Span = addressesAt s p in
+        let k : length (told (length l)) ≡ 22 = omega (arith, places-length l) in
+        sets-front out (told (length l))
+        ∙ ap (λ (n : ℕ). take (length out) (told (length l)) ++ drop n out) k
+        ∙ ap (λ (n : ℕ). take (length out) (told n) ++ drop 22 out) (sym (length-map l (cut s)))
+
   peer-given : (f : Found) (p : Span) → f ≡ At p → Cuttable (length s) p → PeerGiven s f p (peerMeant s p)
   unfolding peerMeant addressesAt fieldsIn
   peer-given f p e c =
       record {
         number = ap partNumber e;
         id = idAt s p;
-        numbers = λ out h. ap (peerNumbers out s) e ∙ sets-eq (p .at ∷ p .end ∷ idAt s p .at ∷ idAt s p .end ∷ connectionAt s p ∷ []) out 0 (omega (arith, h));
+        places = placesOf (addressesAt s p);
+        numbers = λ out. ap (peerNumbers out s) e ∙ told-written p out;
         inside = c;
         says = cut-is s (idAt s p) (claims .walksInside s .id p c);
+        sixteen = places-length (addressesAt s p);
+        shows = shows-address p c;
+        zeros = λ k h. place-none (addressesAt s p) k (omega (arith, h, length-map (addressesAt s p) (cut s)));
         addresses = λ from h. addresses-given (p .at) (p .end) (addressesAt s p) from (ap (λ (n : ℕ). spans 2 (fieldsAt (take (p .end) s) n)) (later-start (p .at) from h));
+        others = other-addresses p;
       }
 
   peers-given : (list f : ℕ) → ((from : ℕ) → entryFrom s list from ≡ firstOf (spans f (fieldsAt s from))) → (l : List Span) (from : ℕ) → spans f (fieldsAt s from) ≡ l

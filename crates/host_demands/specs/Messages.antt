@@ -1,11 +1,11 @@
 -- Demand 2 of messages, as C and Rust programs get them: what `starterbell_read`, `starterbell_peer`, `starterbell_peer_address` and `starterbell_write`
 -- return and leave, by the definitions that their contracts name. Proved in proofs/Reading.antt.
-use Prim.Native.Nat.{ℕ, _≤_, _<_}
+use Prim.Native.Nat.{ℕ, _+_, _*_, _≤_, _<_}
 use mathlib.Core.Path.{_≡_}
 use mathlib.Core.Bool.{true, false}
-use mathlib.Core.List.{List, [], _∷_}
+use mathlib.Core.List.{List, [], _∷_, _++_}
 use mathlib.Core.Option.{Option, none, some}
-use lib.ListN.{length, getD, drop}
+use lib.ListN.{length, getD, take, drop}
 use Rattle.octets.specs.Octets.{part}
 use Rattle.wire.specs.declared.Span.{Span}
 use Rattle.wire.specs.declared.Found.{Found}
@@ -15,6 +15,7 @@ use Rattle.message.specs.View.{readingOf}
 use Rattle.message.specs.Claims.{Cuttable}
 use Rattle.message.specs.declared.Fields.{Fields}
 use Rattle.message.specs.declared.Reading.the-variants.{Whole}
+use Rattle.peer_walk.specs.PeerWalk.{mostPlaces}
 use Rattle.pieces.specs.Writable.{writable}
 use Rattle.writer.specs.Writer.{answerOf, outAfter}
 use Rattle.host_numbers.specs.Numbers.{viewNumbers}
@@ -72,15 +73,22 @@ Addresses body start end from [] =
 Addresses body start end from (a ∷ l) = (p : Span) × AddressGiven body (addressFrom body start end from) p a × Addresses body start end (p .end) l
 
 -- ---- starterbell_peer
--- a call that finds f: 64, and out begins with where the entry is, where its id is, and its connection. The calls on its addresses, from 0 or its start,
--- give them all
+-- a call that finds f: 64, and out begins with 22 numbers, or as many of them as it has room for: where the entry is, where its id is, its connection, how many
+-- addresses it has, and sixteen places. The calls on its addresses, from 0 or its start, give them all
 pub record PeerGiven (body : List ℕ) (f : Found) (p : Span) (who : Peer) : Type 0 where
   pub number : partNumber f ≡ 64
   pub id : Span
-  pub numbers : (out : List ℕ) → 5 ≤ length out → peerNumbers out body f ≡ p .at ∷ p .end ∷ id .at ∷ id .end ∷ who .connection ∷ drop 5 out
+  pub places : List ℕ
+  pub numbers : (out : List ℕ) → peerNumbers out body f ≡ take (length out) (p .at ∷ p .end ∷ id .at ∷ id .end ∷ who .connection ∷ length (who .addrs) ∷ places) ++ drop 22 out
   pub inside : Cuttable (length body) p
   pub says : IsPart body (id .at) (id .end) (who .id)
+  -- the places show the first eight addresses: where each starts and where it ends, and zeros after the last
+  pub sixteen : length places ≡ 16
+  pub shows : (k : ℕ) → k < mostPlaces → k < length (who .addrs) → IsPart body (getD places (2 * k) 0) (getD places (2 * k + 1) 0) (getD (who .addrs) k [])
+  pub zeros : (k : ℕ) → 2 * length (who .addrs) ≤ k → getD places k 0 ≡ 0
   pub addresses : (from : ℕ) → from ≤ p .at → Addresses body (p .at) (p .end) from (who .addrs)
+  -- and where there are eight or more, the calls from where the eighth ends give the others
+  pub others : mostPlaces ≤ length (who .addrs) → Addresses body (p .at) (p .end) (getD places 15 0) (drop mostPlaces (who .addrs))
 
 -- the calls on a list from a position on, each from where the entry before it ends, give these peers, and then 65
 unfoldable pub Peers : List ℕ → ℕ → ℕ → List Peer → Type 0

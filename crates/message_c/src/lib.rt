@@ -8,15 +8,10 @@ ghost use mathlib.Core.Path.{_≡_};
 ghost use mathlib.Core.Bool.{cond};
 ghost use lib.ListN.{take};
 ghost use Rattle.wire.specs.Wire.{firstOf, fieldsAt, spans};
-ghost use Rattle.message.specs.View.{readingOf, idAt, connectionAt};
+ghost use Rattle.message.specs.View.{readingOf};
+ghost use Rattle.peer_walk.specs.PeerWalk.{toldAt};
 ghost use Rattle.writer.specs.Writer.{messageWith, answerOf, outAfter};
-ghost use Rattle.message_c.specs.Codes.{spanOf, endsOf, isFound, endsAfter, numbersOf, readCode, numbersAfter, writeCode};
-
-fn ends(p: Span) -> [usize; 2]
-    ensures { λ r. ⌜ r ≡ endsOf p ⌝ }
-{
-    [p.at, p.end]
-}
+ghost use Rattle.message_c.specs.Codes.{spanOf, isFound, endsAfter, readCode, numbersAfter, writeCode};
 
 fn flag(b: bool) -> usize
     ensures { λ r. ⌜ r ≡ cond b 1 0 ⌝ }
@@ -92,22 +87,46 @@ pub extern "C" fn starterbell_message_provider_peer(
     found(message::provider_peer(body, from), out)
 }
 
-// Where the id of the peer is whose bytes start at `at` and end at `end`. A C program declares it so:
+// The peer whose bytes start at `at` and end at `end`: where its id starts and ends, its connection, how many addresses it has, and where the first eight start
+// and end, with zeros after them. A C program declares it so:
 //
-//     void starterbell_message_peer_id(const uint8_t *body, size_t length, size_t at, size_t end, size_t out[2]);
+//     void starterbell_message_peer(const uint8_t *body, size_t length, size_t at, size_t end, size_t out[20]);
 #[no_mangle]
-pub extern "C" fn starterbell_message_peer_id(
+pub extern "C" fn starterbell_message_peer(
     body: &[u8],
     at: usize,
     end: usize,
-    out: &mut [usize; 2],
+    out: &mut [usize; 20],
 )
-    ensures { λ r. ⌜ now (out .exit) ≡ endsOf (idAt (now (body .entry)) (spanOf at end)) ⌝ }
+    ensures { λ r. ⌜ now (out .exit) ≡ toldAt (now (body .entry)) (spanOf at end) ⌝ }
 {
-    *out = ends(message::peer_id(body, Span { at, end }));
+    let w = peer_walk::walk(body, Span { at, end });
+    let q = w.places;
+    *out = [
+        w.id.at,
+        w.id.end,
+        w.connection as usize,
+        w.count,
+        q[0],
+        q[1],
+        q[2],
+        q[3],
+        q[4],
+        q[5],
+        q[6],
+        q[7],
+        q[8],
+        q[9],
+        q[10],
+        q[11],
+        q[12],
+        q[13],
+        q[14],
+        q[15],
+    ];
 }
 
-// The first address of that peer from a position on: from its start, and then from each end, these are all of them. A C program declares it so:
+// The first address of that peer from a position on: from its start, and then from each end, these are all of them. From the end of the eighth, these are the others. A C program declares it so:
 //
 //     bool starterbell_message_peer_address(const uint8_t *body, size_t length, size_t at, size_t end, size_t from, size_t out[2]);
 #[no_mangle]
@@ -121,16 +140,6 @@ pub extern "C" fn starterbell_message_peer_address(
     ensures { λ r. ⌜ (r ≡ isFound (firstOf (spans 2 (fieldsAt (take end (now (body .entry))) from)))) × (now (out .exit) ≡ endsAfter (now (out .entry)) (firstOf (spans 2 (fieldsAt (take end (now (body .entry))) from)))) ⌝ }
 {
     found(message::peer_address(body, Span { at, end }, from), out)
-}
-
-// The connection of that peer. A C program declares it so:
-//
-//     uint64_t starterbell_message_peer_connection(const uint8_t *body, size_t length, size_t at, size_t end);
-#[no_mangle]
-pub extern "C" fn starterbell_message_peer_connection(body: &[u8], at: usize, end: usize) -> u64
-    ensures { λ r. ⌜ r ≡ connectionAt (now (body .entry)) (spanOf at end) ⌝ }
-{
-    message::peer_connection(body, Span { at, end })
 }
 
 fn write_code(w: Written) -> usize

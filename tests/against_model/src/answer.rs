@@ -2,7 +2,7 @@
 
 use starterbell_model::contacts::{Seen, Settled};
 use starterbell_model::lookup::{Lookup, Mark, Next, Outcome as Over, Step as Progress};
-use starterbell_model::message::View;
+use starterbell_model::message::{PeerView, View};
 use starterbell_model::node::{Answer as Said, Received};
 use starterbell_model::steps::{Outcome, Step, World};
 use starterbell_model::wire::Span;
@@ -35,6 +35,14 @@ fn ends(span: &Span) -> [u64; 2] {
 pub fn view_numbers(view: &View) -> Vec<u64> {
     let (there, key, value) = view.record.map_or((0, Span::default(), Span::default()), |r| (1, r.key, r.value));
     [&[view.kind][..], &ends(&view.key), &[there], &ends(&key), &ends(&value)].concat()
+}
+
+/// A peer as 22 numbers: of its addresses how many there are, and the ends of the first eight, with zeros after those that there are.
+fn peer_numbers(peer: &PeerView) -> Vec<u64> {
+    let mut numbers = [&ends(&peer.entry)[..], &ends(&peer.id), &[peer.connection, peer.addresses.len() as u64]].concat();
+    numbers.extend(peer.addresses.iter().take(8).flat_map(ends));
+    numbers.resize(22, 0);
+    numbers
 }
 
 /// A number before twenty others, with zeros after those that there are.
@@ -129,7 +137,7 @@ pub fn answer_of(outcome: &Outcome, step: &Step, world: &World) -> Answer {
         Outcome::Step(progress) => of_step(progress, lookup_of(step, world)),
         Outcome::Next(next) => of_next(next, lookup_of(step, world)),
         Outcome::Read(Ok(view)) => Answer { code: 64, numbers: view_numbers(view) },
-        Outcome::Peer(Some((entry, id, connection))) => Answer { code: 64, numbers: [&ends(entry)[..], &ends(id), &[*connection]].concat() },
+        Outcome::Peer(Some(peer)) => Answer { code: 64, numbers: peer_numbers(peer) },
         Outcome::Address(Some(address)) => Answer { code: 64, numbers: ends(address).to_vec() },
         Outcome::Written(Ok(length)) => gives(64, &[*length]),
         Outcome::Done => unreachable!("no call"),

@@ -402,6 +402,12 @@ impl Script {
         m.closer.truncate(rng.below(25));
         m.providers = gen::message(rng).providers;
         m.closer.extend(gen::message(rng).closer);
+        if rng.one_in(3) {
+            // around the eight that one call tells, which a box that keeps to document 01 never sends
+            let addresses = (0..rng.between(7, 20)).map(|_| rng.size(0, 20)).collect::<Vec<_>>();
+            let addresses = addresses.into_iter().map(|n| rng.bytes(n)).collect();
+            m.closer.insert(rng.below(m.closer.len() + 1), message::Peer { addresses, ..message::Peer::default() });
+        }
         let loose = gen::loose_body(rng, &m);
         if rng.one_in(4) {
             gen::damaged_body(rng, &loose)

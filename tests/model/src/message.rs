@@ -82,11 +82,10 @@ pub fn record_view(body: &[u8], occurrences: &[Span]) -> Option<RecordView> {
     Some(RecordView { key: last_span(&inside, 1), value: last_span(&inside, 2) })
 }
 
-/// "Connection above 3 reads as 0."
-fn peer_view(body: &[u8], entry: Span) -> Option<PeerView> {
-    let inside = fields(body, entry)?;
-    let connection = last_number(&inside, 3);
-    Some(PeerView { entry, id: last_span(&inside, 1), addresses: spans(&inside, 2), connection: if connection > 3 { 0 } else { connection } })
+/// A peer by the fields inside its entry. "Connection above 3 reads as 0."
+fn peer_view(entry: Span, inside: &[Field]) -> PeerView {
+    let connection = last_number(inside, 3);
+    PeerView { entry, id: last_span(inside, 1), addresses: spans(inside, 2), connection: if connection > 3 { 0 } else { connection } }
 }
 
 /// A body with everything in it, by position; none where it isn't well formed. The type isn't judged.
@@ -98,7 +97,7 @@ struct Parsed {
 
 fn parse(body: &[u8]) -> Option<Parsed> {
     let outer = fields(body, Span { at: 0, len: body.len() })?;
-    let all_peers = |number| spans(&outer, number).into_iter().map(|entry| peer_view(body, entry)).collect::<Option<Vec<_>>>();
+    let all_peers = |number| spans(&outer, number).into_iter().map(|entry| Some(peer_view(entry, &fields(body, entry)?))).collect::<Option<Vec<_>>>();
     let occurrences = spans(&outer, RECORD);
     let merged = record_view(body, &occurrences)?;
     Some(Parsed {
@@ -134,13 +133,11 @@ pub fn provider_peers(body: &[u8]) -> Vec<PeerView> {
     judged(body).map(|p| p.providers).unwrap_or_default()
 }
 
-/// A step of a walk over the peers of a list: the first entry from a position on, its id and its connection. A walk from 0 that goes on from each
-/// entry's end meets what `closer_peers` or `provider_peers` gives. Nothing is judged: what stands after a field that isn't well formed isn't met.
-pub fn next_peer(body: &[u8], providers: bool, from: usize) -> Option<(Span, Span, u64)> {
+/// A step of a walk over the peers of a list: the first entry from a position on. A walk from 0 that goes on from each entry's end meets what
+/// `closer_peers` or `provider_peers` gives. Nothing is judged: what stands after a field that isn't well formed isn't met.
+pub fn next_peer(body: &[u8], providers: bool, from: usize) -> Option<PeerView> {
     let entry = spans(&fields_from(body, from, body.len()), if providers { 9 } else { 8 }).first().copied()?;
-    let inside = fields_from(body, entry.at, entry.end());
-    let connection = last_number(&inside, 3);
-    Some((entry, last_span(&inside, 1), if connection > 3 { 0 } else { connection }))
+    Some(peer_view(entry, &fields_from(body, entry.at, entry.end())))
 }
 
 /// A step of a walk over the addresses of the entry from `start` up to `end`: the first one from a position on that isn't before the start.

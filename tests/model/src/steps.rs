@@ -4,7 +4,7 @@
 use crate::contacts::{self, Newcomer, Seen, Settled};
 use crate::limits;
 use crate::lookup::{self, Lookup};
-use crate::message::{self, Message, View};
+use crate::message::{self, Message, PeerView, View};
 use crate::node::{self, Conn, Lent, Received, Side};
 use crate::peer::{Me, Mode};
 use crate::records::{self, Found};
@@ -154,7 +154,7 @@ pub enum Outcome {
     Next(lookup::Next),
     Read(Result<View, Refusal>),
     /// The entry, its id and its connection.
-    Peer(Option<(Span, Span, u64)>),
+    Peer(Option<PeerView>),
     Address(Option<Span>),
     Written(Result<usize, Refusal>),
     /// The host did something itself.

@@ -45,7 +45,7 @@ fn walks_meet_the_lists(body: &[u8]) {
     for (providers, list) in [(false, closer_peers(body)), (true, provider_peers(body))] {
         let mut from = 0;
         for peer in list {
-            assert_eq!(next_peer(body, providers, from), Some((peer.entry, peer.id, peer.connection)));
+            assert_eq!(next_peer(body, providers, from), Some(peer.clone()));
             from = peer.entry.end();
             let mut at = peer.entry.at;
             for address in peer.addresses {

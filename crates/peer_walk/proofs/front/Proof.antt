@@ -1,0 +1,19 @@
+-- `front`: the whole slice, or its first bytes.
+use lib.Seq.{take-all, length-take-le}
+use mathlib.Core.Path.{sym}
+use native.Mathlib.Omega.{arith}
+use borrow.Author.Needs.{needs}
+use Rattle.peer_walk.proofs.front.Statement.{statement}
+use Rattle.peer_walk.proofs.front.Tie as tie
+
+returns : tie.Need-returns
+returns c = sym (take-all _ _ (c .if1 .taken))
+
+slice-aggregate-result : tie.Need-slice-aggregate-result
+slice-aggregate-result c = sym (length-take-le _ _ (omega arith))
+
+returns-2 : tie.Need-returns-2
+returns-2 c = search needs
+
+pub front-spec : {M : Type 1} → statement M
+front-spec = tie.close (tie.spec returns slice-aggregate-result returns-2)

@@ -1,0 +1,2 @@
+pub mod PeerWalk
+pub mod Inner
