@@ -24,7 +24,8 @@ use Rattle.host_numbers.specs.Numbers.{toldCode, viewNumbers, viewIn}
 use Rattle.contact_calls.specs.Calls.{seenNumber, settleNumber, removeNumber}
 use Rattle.host_answers.specs.Answers.{seenNumbers, nearestNumbers, putNumber, findNumber, findNumbers}
 use Rattle.host_state.specs.State.{endingCode, answerNumber, answerLength, sightNumber, sightSlot, receivedNumbers, receivedMemory, nothingTaken}
-use Rattle.host_steps.specs.Steps.{stepNumber, stepNumbers, stepMemory, startedMemory}
+use Rattle.lookup_in_place.specs.InPlace.{stepMemory, startedMemory}
+use Rattle.host_steps.specs.Steps.{stepNumber, stepNumbers}
 use Rattle.host.specs.Host as host
 use Rattle.demands.specs.Box as box
 use Rattle.demands.specs.Box.{Box, Who, whoIn, Entry, Outcome, Result, Turn, Ask}
