@@ -1,6 +1,6 @@
 -- Laws of the steps: each answer, from the tests that lead there. Assumes nothing.
 use Prim.Native.Nat.{ℕ, _+_, _≤_, _<_}
-use mathlib.Core.Path.{_≡_, sym, ap, ap₂, _∙_, subst}
+use mathlib.Core.Path.{_≡_, refl, sym, ap, ap₂, _∙_, subst}
 use mathlib.Core.Bool.{Bool, true, false, not}
 use mathlib.Core.List.{List, _∷_, _++_, map}
 use native.Mathlib.Omega.{arith}
@@ -34,6 +34,11 @@ marks-part l ms e = ap (take (l .count)) e ∙ map-take markOf (l .count) (l .ca
 
 pub marks-count : (l : Lookup) (ms : List ℕ) → ms ≡ map markOf (l .candidates) → length (l .candidates) ≡ 256 → l .count ≤ 256 → l .count ≡ length (take (l .count) ms)
 marks-count l ms e hl h = sym (length-take-le (l .count) ms (omega (arith, ap length e, length-map (l .candidates) markOf)))
+
+-- ---- over or going: the lookup stays as it is
+pub settled-lookup : (l : Lookup) → settled l .lookup ≡ l
+unfolding settled
+settled-lookup l = cond-ind (λ (s : Step). s .lookup ≡ l) (isOver (marksOf l)) (ends l) (gives l Going) (λ e. refl) (λ e. refl)
 
 -- ---- the answer of a lookup that is over
 abbrev pub stepOf : Lookup → Ranks → Answer → Step

@@ -1,7 +1,7 @@
 -- A lookup whose arrays have their lengths and whose numbers fit is read back from the bytes that it is written to. What a start hands back is such a
 -- one. Assumes nothing.
 use Prim.Native.Nat.{ℕ, zero, suc, _-_, _≤_, _<_}
-use mathlib.Core.Path.{_≡_, refl, sym, _∙_, subst}
+use mathlib.Core.Path.{_≡_, sym, _∙_, subst}
 use mathlib.Core.Bool.{Bool, true, false, cond, not}
 use mathlib.Core.List.{List, [], _∷_, _++_, map}
 use native.Mathlib.Nat.{not-suc-le-zero}
@@ -17,11 +17,10 @@ use Rattle.contacts.specs.Table.{slot, place}
 use Rattle.contacts.specs.Contact.{entryId}
 use Rattle.contacts.specs.Near.{nearestSlots}
 use Rattle.contacts.specs.Form.{inForm as inFormTable}
-use Rattle.lookup_marks.specs.Marks.{isOver}
 use Rattle.lookup_candidates.specs.declared.Candidate.{Candidate}
-use Rattle.lookup.specs.Lookup.{room, idMost, keyMost, limitMost, nobody, contactAt, idFits, marksOf, gives, ends, settled, noLookup, firstOnes, begun, keyFits, limitFits, startOf}
+use Rattle.lookup.specs.Lookup.{room, idMost, keyMost, limitMost, nobody, contactAt, idFits, noLookup, firstOnes, begun, keyFits, limitFits, startOf}
 use Rattle.lookup.specs.Value.{Lookup, Step}
-use Rattle.lookup.specs.declared.Answer.the-variants.{Going}
+use Rattle.lookup.proofs.Steps.{settled-lookup}
 use Rattle.lookup.proofs.Starting.{nearest-few}
 use Rattle.flat_lookup.specs.FlatLookup.{placeSize, flatSize, lookupIn, lookupBytes}
 use Rattle.flat_lookup.specs.Promises.{SizedCandidate, Sized}
@@ -112,10 +111,6 @@ begun-storable t key limit k n =
       size = k;
       limit = n;
     }
-
-pub settled-lookup : (l : Lookup) → settled l .lookup ≡ l
-unfolding settled
-settled-lookup l = cond-ind (λ (s : Step). s .lookup ≡ l) (isOver (marksOf l)) (ends l) (gives l Going) (λ e. refl) (λ e. refl)
 
 pub start-storable : (t own ours key : List ℕ) (limit : ℕ) → Storable (startOf t own ours key limit .lookup)
 unfolding startOf

@@ -26,7 +26,8 @@ use Rattle.lookup_in_place.specs.declared.Outcome.{Outcome}
 use Rattle.lookup_in_place.specs.InPlace.{answers, outcomeOf, stepIn, startedMemory, startMemory}
 use Rattle.lookup_in_place.specs.Inner.{opened, membersOf}
 use Rattle.lookup_in_place.proofs.Steps.{short-step}
-use Rattle.lookup_in_place.proofs.ReadBack.{reads-back, first-few, begun-storable, settled-lookup}
+use Rattle.lookup.proofs.Steps.{settled-lookup}
+use Rattle.lookup_in_place.proofs.ReadBack.{reads-back, first-few, begun-storable}
 
 -- ---- contacts as candidates, nobody after them
 contact-in : (t is : List ℕ) (i : ℕ) → i < length is → getD (map (contactAt t) is) i nobody ≡ contactAt t (getD is i 0)

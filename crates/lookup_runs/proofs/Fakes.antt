@@ -35,7 +35,7 @@ use Rattle.lookup_runs.proofs.Sums.{sumOf, sum-cons, flyingOne, flights
 use Rattle.lookup_runs.proofs.Members.{In, here, there, in-any}
 use Rattle.lookup_runs.proofs.Marking.{marked-candidates, put-candidates}
 use Rattle.lookup_runs.proofs.Order.{dist, Beyond, Rising, rising}
-use Rattle.lookup_runs.proofs.Moves.{settled-lookup}
+use Rattle.lookup.proofs.Steps.{settled-lookup}
 use Rattle.lookup_runs.proofs.Sound.{Sound, sound-mark, taken, begun-candidates}
 use Rattle.lookup_runs.proofs.Asking.{idle-weigh}
 use Rattle.lookup_runs.proofs.Tracking.{none-idle}

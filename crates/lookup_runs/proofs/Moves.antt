@@ -21,6 +21,7 @@ use Rattle.lookup.specs.declared.Answer.{Answer}
 use Rattle.lookup.specs.declared.Answer.the-variants.{Refused, Complete, CutShort, Wait, Ask, Going}
 use Rattle.lookup.specs.declared.Whom.{Whom}
 use Rattle.lookup.specs.declared.Whom.the-variants.{Nobody, At}
+use Rattle.lookup.proofs.Steps.{settled-lookup}
 use Rattle.lookup.proofs.Form.{formed}
 use Rattle.lookup_runs.specs.Runs.{accepted, Call, goNext, goReply, goFail, step}
 use Rattle.lookup_runs.proofs.Marking.{asked-idle, flyer-flies}
@@ -67,10 +68,6 @@ count-le : (l : Lookup) → length (candidatesOf l) ≤ l .count
 count-le l = omega (arith, length-take (l .count) (l .candidates))
 
 -- ---- over or going: the lookup stays as it is
-pub settled-lookup : (l : Lookup) → settled l .lookup ≡ l
-unfolding settled
-settled-lookup l = cond-ind (λ (s : Step). s .lookup ≡ l) (isOver (marksOf l)) (ends l) (gives l Going) (λ e. refl) (λ e. refl)
-
 ends-quiet : (l : Lookup) → Quiet (ends l .answer)
 ends-quiet l = cond-ind Quiet (l .turned) (CutShort _) (Complete _) (λ e. tt) (λ e. tt)
 

@@ -19,7 +19,6 @@ use Rattle.contacts.specs.Table.{slotsOf, slot, used, place}
 use Rattle.contacts.specs.Form.{inForm as inFormTable}
 use Rattle.contacts.specs.Near.{far, nearestSlots}
 use Rattle.contact_table.proofs.Cuts.{slot-whole, place-size, bytes-place}
-use Rattle.contact_form.specs.Claims.{InForm}
 use Rattle.contact_form.proofs.FormFacts.{form-elim}
 use Rattle.contact_form.proofs.EntryFacts.{entry-id-most, form-entry}
 use Rattle.contacts.proofs.TwentyNearest.{nearest-are, nearest-strict}

@@ -28,7 +28,7 @@ use Rattle.lookup_runs.specs.Claims.{MeansOver, MeansComplete, MeansCutS
 use Rattle.lookup_runs.proofs.Sums.{sumOf, askedOne, flights-sum}
 use Rattle.lookup_runs.proofs.Members.{In, at-in, take-in, in-any, any-in}
 use Rattle.lookup_runs.proofs.Order.{rising, all-made}
-use Rattle.lookup_runs.proofs.Moves.{settled-lookup}
+use Rattle.lookup.proofs.Steps.{settled-lookup}
 use Rattle.lookup_runs.proofs.Sound.{Sound, sound-outcome, outcome-target, sound-start, Taken, taken, first-lie, begun-candidates}
 use Rattle.lookup_runs.proofs.Asking.{asked-once, sent-requests, Limited, all-limited, start-limited, start-unasked}
 use Rattle.lookup_runs.proofs.Tracking.{spentAt, Untouched, answered-marked, failed-marked, asked-marked, start-untouched}
