@@ -185,6 +185,23 @@ fn nearest_known(places: &[u8], n: usize, target: [u8; 32], other: usize) -> [us
     near
 }
 
+// ---- what stands in a lookup
+
+fn target_of(l: Lookup) -> [u8; 32] {
+    let bytes = l.bytes;
+    flat_lookup::target_in(&bytes)
+}
+
+fn count_of(l: Lookup) -> usize {
+    let bytes = l.bytes;
+    flat_lookup::count_in(&bytes)
+}
+
+fn turned_away(l: Lookup) -> bool {
+    let bytes = l.bytes;
+    flat_lookup::turned_in(&bytes)
+}
+
 // ---- what peers answer
 
 // How the peer of a number and sort behaves in a network.
@@ -275,9 +292,7 @@ fn behaved(l: Lookup, c: Candidate, network: u8, places: &[u8], n: usize) -> Loo
         let body = [8u8, 5];
         return hand_in(l, id, &body);
     }
-    let bytes = l.bytes;
-    let target = flat_lookup::target_in(&bytes);
-    let body = reply_of(places, n, target, k, b == CHATTY);
+    let body = reply_of(places, n, target_of(l), k, b == CHATTY);
     hand_in(l, id, &body)
 }
 
@@ -430,8 +445,7 @@ fn report(l: Lookup, near: [usize; 20]) {
     say(b", requests ");
     say_number(sent_of(a));
     say(b", candidates ");
-    let bytes = l.bytes;
-    say_number(flat_lookup::count_in(&bytes));
+    say_number(count_of(l));
     say(b"\n");
 }
 
@@ -444,9 +458,7 @@ fn look_up(places: &[u8], n: usize, key: u8, network: u8) {
     let l = run_on(s.lookup, network, places, n);
     say_number(n);
     say(b" peers: ");
-    let bytes = l.bytes;
-    let target = flat_lookup::target_in(&bytes);
-    report(l, nearest_known(places, n, target, NOBODY));
+    report(l, nearest_known(places, n, target_of(l), NOBODY));
 }
 
 // ---- document 01: "256 candidates: a 257th marks."
@@ -486,10 +498,9 @@ fn fill_up(l: Lookup, n: usize) -> Lookup
 }
 
 fn say_filled(l: Lookup) {
-    let bytes = l.bytes;
     say(b"candidates ");
-    say_number(flat_lookup::count_in(&bytes));
-    if flat_lookup::turned_in(&bytes) {
+    say_number(count_of(l));
+    if turned_away(l) {
         say(b", someone turned away\n");
         return;
     }

@@ -1,17 +1,10 @@
 -- `turned` is safe and ends. Assumes nothing.
 use Prim.Native.Nat.{_≤_, _<_, _-_, _+_}
-use mathlib.Core.Path.{_≡_}
-use lib.ListN.{length, length-map}
+use lib.ListN.{length}
 use native.Mathlib.Omega.{arith}
 use borrow.Author.Needs.{needs}
 use Rattle.lookup_c.proofs.turned.Statement.{statement}
 use Rattle.lookup_c.proofs.turned.Tie as tie
-use Rattle.lookup_c.proofs.turned.Reads as reads
-use Rattle.lookup_c.proofs.turned.Lts as lts
-use Rattle.lookup_c.proofs.following.Reads as following-reads
-use Rattle.lookup_c.proofs.message_at.Reads as message-at-reads
-use Rattle.lookup_c.proofs.stepped.Reads as stepped-reads
-use Rattle.std.proofs.num.wrapping_add_usize.Reads as wrapping-add-usize-reads
 
 abbrev Inv-loop : tie.InvT-loop
 Inv-loop l own ours bodies view turns n sum₀ at₀ i₀ sum at i = i ≤ turns
@@ -27,6 +20,12 @@ message-at-requires c κs = search needs
 
 stepped-requires : tie.Need-stepped-requires Inv-loop μ-loop
 stepped-requires c κs = search needs
+
+slice-aggregate-count-in : tie.Need-slice-aggregate-count-in Inv-loop μ-loop
+slice-aggregate-count-in c = search needs
+
+count-in-requires : tie.Need-count-in-requires Inv-loop μ-loop
+count-in-requires c κs = search needs
 
 wrapping-add-usize-requires : tie.Need-wrapping-add-usize-requires Inv-loop μ-loop
 wrapping-add-usize-requires c κs = search needs
@@ -55,6 +54,8 @@ turned-spec =
     loop-holds
     message-at-requires
     stepped-requires
+    slice-aggregate-count-in
+    count-in-requires
     wrapping-add-usize-requires
     following-requires
     add-i
