@@ -20,7 +20,7 @@ use Rattle.lookup_in_place.specs.InPlace.{outcomeOf, stepIn, stepMemory, nextIn
 use Rattle.lookup_in_place.proofs.ReadBack.{shaped-sized, start-storable, start-reads}
 use Rattle.lookup_value.specs.declared.Lookup.{Lookup}
 use Rattle.lookup_value.specs.declared.Step.{Step}
-use Rattle.lookup_value.specs.Value.{lookupOf, Gives, Begins}
+use Rattle.lookup_value.specs.Value.{lookupOf, Gives, Starts}
 use Rattle.lookup_value.proofs.ReadBack.{step-reads}
 
 abbrev given : Outcome → List ℕ → Step
@@ -69,9 +69,9 @@ all-over z b n k =
     let e : length z ≤ 0 + length b = omega arith in
     sets-eq b z 0 (omega arith) ∙ ap (λ (x : List ℕ). b ++ x) (drop-of-length-le z e) ∙ append-nil b
 
-pub start-begins : (z : List ℕ) → length z ≡ flatSize → (o : Outcome) (m t own ours key : List ℕ) (limit : ℕ)
-    → (o ≡ outcomeOf (startIn z t own ours key limit)) × (m ≡ startMemory z (startOf t own ours key limit)) → Begins (startOf t own ours key limit) (given o m)
-start-begins z n o m t own ours key limit (eo, em) =
+pub start-gives : (z : List ℕ) → length z ≡ flatSize → (o : Outcome) (m t own ours key : List ℕ) (limit : ℕ)
+    → (o ≡ outcomeOf (startIn z t own ours key limit)) × (m ≡ startMemory z (startOf t own ours key limit)) → Starts (startOf t own ours key limit) (given o m)
+start-gives z n o m t own ours key limit (eo, em) =
     let s : lookup.Step = startOf t own ours key limit in
     let said : o ≡ outcomeOf s = eo ∙ ap outcomeOf (there z s n) in
     let left : m ≡ startedMemory z s = em ∙ cond-no (ltb (length z) flatSize) z (startedMemory z s) (le-ltb (length z) flatSize (omega arith)) in

@@ -20,6 +20,6 @@ pub record Gives (l : Lookup) (s : lookup.Step) (r : Step) : Type 0 where
   pub bytes : r .lookup .bytes ≡ stepMemory (l .bytes) s
 
 -- the same of a start, which comes from no value
-pub record Begins (s : lookup.Step) (r : Step) : Type 0 where
+pub record Starts (s : lookup.Step) (r : Step) : Type 0 where
   pub means : stepOf r ≡ s
   pub bytes : r .lookup .bytes ≡ lookupBytes (s .lookup)

@@ -1,7 +1,7 @@
 // A lookup by value: each step takes it in and hands the next one back. The value is the bytes that a lookup is kept as, and a step is that of
 // lookup_in_place on a copy of them. Every function takes any numbers and any bytes.
 ghost use Rattle.lookup.specs.Lookup.{startOf, nextOf, replyOf, failureOf};
-ghost use Rattle.lookup_value.specs.Value.{lookupOf, Begins, Gives};
+ghost use Rattle.lookup_value.specs.Value.{lookupOf, Starts, Gives};
 use lookup::Answer;
 use lookup_marks::Ranks;
 use message::Fields;
@@ -20,7 +20,7 @@ pub struct Step {
 impl Lookup {
     // A lookup of a key starts from the table of contacts. The box's own id and place come with it.
     pub fn start(table: &[u8], own: &[u8], ours: [u8; 32], key: &[u8], limit: usize) -> Step
-        ensures { λ r. ⌜ Begins (startOf (now (table .entry)) (now (own .entry)) ours (now (key .entry)) limit) r ⌝ }
+        ensures { λ r. ⌜ Starts (startOf (now (table .entry)) (now (own .entry)) ours (now (key .entry)) limit) r ⌝ }
     {
         let mut bytes = [0u8; flat_lookup::SIZE];
         let o = lookup_in_place::start(&mut bytes, table, own, ours, key, limit);
