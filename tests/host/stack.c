@@ -4,6 +4,7 @@
 #define _DEFAULT_SOURCE
 #include "starterbell.h"
 
+#include <limits.h>
 #include <pthread.h>
 #include <signal.h>
 #include <stdio.h>
@@ -295,9 +296,11 @@ static void *on_stack(void *unused) {
 static void measure(const char *name, void (*call)(void)) {
     pthread_attr_t attributes;
     pthread_t thread;
+    /* a thread's stack may have to have more bytes than are measured with: its lowest then lie where nothing may touch them */
+    size_t least = (size_t)PTHREAD_STACK_MIN, lent = stack_size < least ? least : stack_size;
     running = name;
     to_call = call;
-    if (pthread_attr_init(&attributes) != 0 || pthread_attr_setstack(&attributes, stack, stack_size) != 0
+    if (pthread_attr_init(&attributes) != 0 || pthread_attr_setstack(&attributes, stack + stack_size - lent, lent) != 0
         || pthread_create(&thread, &attributes, on_stack, NULL) != 0 || pthread_join(thread, NULL) != 0) {
         printf("stack: no thread with a stack of %zu bytes\n", stack_size);
         exit(2);
