@@ -29,8 +29,7 @@ use Rattle.records.specs.Store.{inForm as recordsForm, slotsOf, slotWith, heldA
 use Rattle.records_history.proofs.Stays.{never-0}
 use Rattle.lookup.specs.declared.Answer.{Answer as LookupAnswer}
 use Rattle.lookup.specs.declared.Answer.the-variants as lookupAnswer
-use Rattle.lookup.specs.Value.{Step}
-use Rattle.lookup.specs.Value.{Lookup}
+use Rattle.lookup.specs.Value.{Lookup, Step}
 use Rattle.lookup.specs.Lookup.{keyFits as lookupKeyFits, limitFits, idFits, marksOf, settled, begun, startOf}
 use Rattle.lookup_marks.specs.Marks.{isOver}
 use Rattle.lookup_runs.proofs.Refusals.{refusals}

@@ -95,8 +95,8 @@ lookupIn s =
 abbrev pub candidateAt : List ℕ → ℕ → Candidate
 candidateAt s i = getD (lookupIn s .candidates) i nobody
 
--- ---- writing: a limit or a length of the key that doesn't fit is cut to its lowest byte, the count to its lowest two. A candidate's numbers and
--- the elements of the arrays are bytes by their types.
+-- ---- writing: a limit or a length of the key that doesn't fit is cut to its lowest byte, the count to its lowest two. The other numbers of a lookup are
+-- bytes where it is one that bytes stand for, and where a step gives it.
 unfoldable pub candidateBytes : Candidate → List ℕ
 candidateBytes c = c .mark ∷ c .len ∷ (padded idMost (c .id) ++ padded placeSize (c .place))
 

@@ -10,7 +10,7 @@ use Rattle.lookup_candidates.specs.declared.Candidate.{Candidate}
 use Rattle.lookup.specs.Value.{Lookup}
 use Rattle.flat_lookup.specs.FlatLookup.{placeSize, flatSize, lookupIn, lookupBytes}
 
--- the arrays have their lengths: each value of the code's types has them
+-- the arrays have their lengths: those of each lookup that bytes stand for have, and of what each step gives of it
 pub record SizedCandidate (c : Candidate) : Type 0 where
   pub idLong : length (c .id) ≡ idMost
   pub placeLong : length (c .place) ≡ placeSize

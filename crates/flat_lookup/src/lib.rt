@@ -109,7 +109,7 @@ pub fn turned_in(bytes: &[u8]) -> bool
     number(bytes, TURNED_AT) > 0
 }
 
-// The candidate of a rank, nobody where there is no such rank.
+// The candidate of a rank, nobody from 256 on.
 pub fn candidate_at(bytes: &[u8], rank: usize) -> Candidate
     ensures { λ r. ⌜ r ≡ candidateAt (now (bytes .entry)) rank ⌝ }
 {

@@ -1,4 +1,4 @@
--- What the proofs of the inner functions need beside specs/Lookup.antt.
+-- What proofs of the code that takes the steps need beside specs/Lookup.antt.
 use Prim.Native.Nat.{ℕ}
 use mathlib.Core.Bool.{Bool, not}
 use mathlib.Core.List.{List}

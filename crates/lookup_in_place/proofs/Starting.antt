@@ -98,27 +98,27 @@ begins m m′ t key target kept limit near h k l et en ek e =
     (w, ap lookupIn w ∙ reads-back m (begun t key limit) h (begun-storable t key limit k l))
 
 -- ---- what a start says and leaves
-abbrev pub Starts : Step → List ℕ → List ℕ → Outcome → Type 0
-Starts s m m′ o = (o ≡ outcomeOf (stepIn m s)) × (m′ ≡ startMemory m s)
+abbrev pub Left : Step → List ℕ → List ℕ → Outcome → Type 0
+Left s m m′ o = (o ≡ outcomeOf (stepIn m s)) × (m′ ≡ startMemory m s)
 
-pub start-short : (m : List ℕ) (s : Step) (o : Outcome) → length m < flatSize → o ≡ answers (Refused OutOfForm) → Starts s m m o
+pub start-short : (m : List ℕ) (s : Step) (o : Outcome) → length m < flatSize → o ≡ answers (Refused OutOfForm) → Left s m m o
 start-short m s o h e =
     (short-step m s o h e .0, sym (cond-yes (ltb (length m) flatSize) m (startedMemory m s) (lt-ltb (length m) flatSize h)))
 
-start-long : (m m′ : List ℕ) (s : Step) (o : Outcome) → flatSize ≤ length m → o ≡ outcomeOf s → m′ ≡ startedMemory m s → Starts s m m′ o
+start-long : (m m′ : List ℕ) (s : Step) (o : Outcome) → flatSize ≤ length m → o ≡ outcomeOf s → m′ ≡ startedMemory m s → Left s m m′ o
 start-long m m′ s o h e q =
     let no = le-ltb (length m) flatSize h in
     (e ∙ ap outcomeOf (sym (cond-no (ltb (length m) flatSize) (refuses (lookupIn m) OutOfForm) s no)), q ∙ sym (cond-no (ltb (length m) flatSize) m (startedMemory m s) no))
 
 pub start-refused : (m m′ : List ℕ) (s : Step) (r : Refusal) (o : Outcome) → flatSize ≤ length m → refuses noLookup r ≡ s
-    → (o ≡ answers (Refused r)) × (m′ ≡ sets m 0 (lookupBytes noLookup)) → Starts s m m′ o
-start-refused m m′ s r o h e q = subst (λ (x : Step). Starts x m m′ o) e (start-long m m′ (refuses noLookup r) o h (q .0) (q .1))
+    → (o ≡ answers (Refused r)) × (m′ ≡ sets m 0 (lookupBytes noLookup)) → Left s m m′ o
+start-refused m m′ s r o h e q = subst (λ (x : Step). Left x m m′ o) e (start-long m m′ (refuses noLookup r) o h (q .0) (q .1))
 
 pub start-settled : (m m′ t key : List ℕ) (limit : ℕ) (s : Step) (o : Outcome) → flatSize ≤ length m → settled (begun t key limit) ≡ s
-    → (m′ ≡ sets m 0 (lookupBytes (begun t key limit))) × (lookupIn m′ ≡ begun t key limit) → o ≡ outcomeOf (settled (lookupIn m′)) → Starts s m m′ o
+    → (m′ ≡ sets m 0 (lookupBytes (begun t key limit))) × (lookupIn m′ ≡ begun t key limit) → o ≡ outcomeOf (settled (lookupIn m′)) → Left s m m′ o
 start-settled m m′ t key limit s o h e w q =
     let l : Lookup = begun t key limit in
-    subst (λ (x : Step). Starts x m m′ o) e
+    subst (λ (x : Step). Left x m m′ o) e
     (start-long m m′ (settled l) o h (q ∙ ap (λ (x : Lookup). outcomeOf (settled x)) (w .1)) (w .0 ∙ ap (λ (x : Lookup). sets m 0 (lookupBytes x)) (sym (settled-lookup l))))
 
 -- `settle` may be asked about it

@@ -126,7 +126,8 @@ pub extern "C" fn starterbell_message_peer(
     ];
 }
 
-// The first address of that peer from a position on: from its start, and then from each end, these are all of them. From the end of the eighth, these are the others. A C program declares it so:
+// The first address of that peer from a position on: from its start, and then from each end, these are all of them. From the end of the eighth,
+// these are the others. A C program declares it so:
 //
 //     bool starterbell_message_peer_address(const uint8_t *body, size_t length, size_t at, size_t end, size_t from, size_t out[2]);
 #[no_mangle]

@@ -153,7 +153,7 @@ pub enum Outcome {
     Step(lookup::Step),
     Next(lookup::Next),
     Read(Result<View, Refusal>),
-    /// The entry, its id and its connection.
+    /// The entry, its id, its connection and its addresses.
     Peer(Option<PeerView>),
     Address(Option<Span>),
     Written(Result<usize, Refusal>),
