@@ -77,12 +77,16 @@ def rust(*crates):
 
 
 def measure(cases, ways, once, rounds):
-    """Nanoseconds by case and implementation, one figure to a round. A case is a benchmark, its case and its bytes; once runs one and gives a time and an answer."""
+    """Nanoseconds by case and implementation, one figure to a round. A case is a benchmark, its case and its bytes; once runs one and gives a time and an answer,
+    or nothing where the implementation has no such case."""
     times, answers = {}, {}
     for turn in range(rounds):
         for case in cases:
             for way in ways:
-                ns, answer = once(way, case[0], case[1])
+                got = once(way, case[0], case[1])
+                if got is None:
+                    continue
+                ns, answer = got
                 times.setdefault((case, way), []).append(float(ns))
                 if answers.setdefault(case, answer) != answer:
                     note('%s answers otherwise than the others in %s of %s' % (way, case[1], case[0]))
@@ -91,17 +95,16 @@ def measure(cases, ways, once, rounds):
 
 
 def report(cases, ways, times, rounds):
+    there = [(case, way) for case in cases for way in ways if (case, way) in times]
     print('%s on %s, %d rounds; ratios are the other\'s time to ours' % (NAME, platform.machine(), rounds))
     print('%-10s %-18s %-34s %14s %14s %10s' % ('', '', '', 'median', 'least', 'to ours'))
-    for case in cases:
-        for way in ways:
-            all_of = times[case, way]
-            ratio = min(all_of) / min(times[case, OURS])
-            print('%-10s %-18s %-34s %11.0f ns %11.0f ns %9.2fx' % (case[0], case[1], way, statistics.median(all_of), min(all_of), ratio))
-    for case in cases:
-        for way in ways:
-            all_of = times[case, way]
-            print('\t'.join(['result', NAME, case[0], case[1], way, '%.1f' % statistics.median(all_of), '%.1f' % min(all_of), str(case[2]), str(rounds)]))
+    for case, way in there:
+        all_of = times[case, way]
+        ratio = min(all_of) / min(times[case, OURS])
+        print('%-10s %-18s %-34s %11.0f ns %11.0f ns %9.2fx' % (case[0], case[1], way, statistics.median(all_of), min(all_of), ratio))
+    for case, way in there:
+        all_of = times[case, way]
+        print('\t'.join(['result', NAME, case[0], case[1], way, '%.1f' % statistics.median(all_of), '%.1f' % min(all_of), str(case[2]), str(rounds)]))
 
 
 def rounds_asked(doc):

@@ -1,14 +1,57 @@
-// lookup ours|plain step|hash CANDIDATES MILLISECONDS: does the operation on a lookup with so many candidates for that time, and writes the
-// nanoseconds of one and what came out. `plain` has the same steps in ordinary Rust: a vector of candidates changed in place, slices, bounds
-// tested, nothing done for speed.
+// lookup ours|value|plain step|hash CANDIDATES MILLISECONDS: does the operation on a lookup with so many candidates for that time, and writes the
+// nanoseconds of one and what came out. `ours` has the exported calls, which change lent bytes in place; `value` has lookups by value, which run
+// inside lookup_c; `plain` has the same steps in ordinary Rust: a vector of candidates changed in place, slices, bounds tested, nothing done for
+// speed.
 
 const MESSAGE: usize = 1042;
 const NAMED: usize = 20;
 
 // ---- ours
 
+// include/starterbell.h says what these are.
+const BOX: usize = 616;
+const LOOKUP: usize = 25256;
+const CANDIDATES_AT: usize = 168;
+const CANDIDATE: usize = 98;
+const ID_LENGTH_AT: usize = 1;
+const ID_AT: usize = 2;
+const DONE: u32 = 64;
+const GOING: u32 = 64;
+const ASK: u32 = 66;
+const LIMIT: usize = 3;
+
 unsafe extern "C" {
     fn starterbell_sha256(source: *const u8, length: usize, out: *mut u8);
+    fn starterbell_start(me: *mut u8, me_length: usize, id: *const u8, id_length: usize, addresses: *const u8, addresses_length: usize) -> u32;
+    fn starterbell_read(body: *const u8, body_length: usize, out: *mut u64, out_length: usize) -> u32;
+    fn starterbell_lookup_start(
+        me: *const u8,
+        me_length: usize,
+        memory: *mut u8,
+        memory_length: usize,
+        contacts: *const u8,
+        contacts_length: usize,
+        key: *const u8,
+        key_length: usize,
+        limit: usize,
+        out: *mut u64,
+        out_length: usize,
+    ) -> u32;
+    fn starterbell_lookup_next(memory: *mut u8, memory_length: usize, out: *mut u64, out_length: usize) -> u32;
+    fn starterbell_lookup_reply(
+        me: *const u8,
+        me_length: usize,
+        memory: *mut u8,
+        memory_length: usize,
+        id: *const u8,
+        id_length: usize,
+        body: *const u8,
+        body_length: usize,
+        view: *const u64,
+        view_length: usize,
+        out: *mut u64,
+        out_length: usize,
+    ) -> u32;
     fn starterbell_lookup_turns(
         table: *const u8,
         table_length: usize,
@@ -30,7 +73,76 @@ fn ours_hash(id: &[u8]) -> [u8; 32] {
     out
 }
 
+struct Ours {
+    me: [u8; BOX],
+    view: [u64; 8],
+    out: [u64; 22],
+}
+
+impl Ours {
+    fn step(&mut self, lookup: &mut [u8], body: &[u8]) {
+        let (me, view, out) = (&self.me, &self.view, &mut self.out);
+        let asked = unsafe { starterbell_lookup_next(lookup.as_mut_ptr(), lookup.len(), out.as_mut_ptr(), out.len()) };
+        assert_eq!(asked, ASK);
+        let at = CANDIDATES_AT + out[0] as usize * CANDIDATE;
+        let n = lookup[at + ID_LENGTH_AT] as usize;
+        let mut id = [0; 64];
+        id.copy_from_slice(&lookup[at + ID_AT..at + ID_AT + 64]);
+        let went = unsafe {
+            starterbell_lookup_reply(
+                me.as_ptr(),
+                me.len(),
+                lookup.as_mut_ptr(),
+                lookup.len(),
+                id.as_ptr(),
+                n,
+                body.as_ptr(),
+                body.len(),
+                view.as_ptr(),
+                view.len(),
+                out.as_mut_ptr(),
+                out.len(),
+            )
+        };
+        assert_eq!(went, GOING);
+    }
+}
+
 fn ours_turns(c: &Case, turns: usize) -> usize {
+    let mut o = Ours { me: [0; BOX], view: [0; 8], out: [0; 22] };
+    let mut l = vec![0; LOOKUP];
+    unsafe {
+        assert_eq!(starterbell_start(o.me.as_mut_ptr(), BOX, c.own.as_ptr(), c.own.len(), c.own.as_ptr(), 0), DONE);
+        assert_eq!(starterbell_read(c.bodies.as_ptr(), MESSAGE, o.view.as_mut_ptr(), o.view.len()), DONE);
+        let went = starterbell_lookup_start(
+            o.me.as_ptr(),
+            BOX,
+            l.as_mut_ptr(),
+            LOOKUP,
+            c.table.as_ptr(),
+            c.table.len(),
+            c.key.as_ptr(),
+            c.key.len(),
+            LIMIT,
+            o.out.as_mut_ptr(),
+            o.out.len(),
+        );
+        assert_eq!(went, GOING);
+    }
+    for body in c.before.chunks_exact(MESSAGE) {
+        o.step(&mut l, body);
+    }
+    let mut k = l.clone();
+    let mut sum = 0;
+    for body in c.bodies.chunks_exact(MESSAGE).cycle().take(turns) {
+        k.copy_from_slice(&l);
+        o.step(&mut k, body);
+        sum += k[0] as usize + k[1] as usize * 256;
+    }
+    sum
+}
+
+fn value_turns(c: &Case, turns: usize) -> usize {
     unsafe {
         starterbell_lookup_turns(
             c.table.as_ptr(),
@@ -332,7 +444,7 @@ impl Lookup {
 
 fn plain_turns(c: &Case, turns: usize) -> usize {
     let ours = plain_hash(&c.own);
-    let mut l = Lookup { candidates: vec![candidate(&c.first)], size: c.key.len(), target: plain_hash(&c.key), limit: 3, turned: false };
+    let mut l = Lookup { candidates: vec![candidate(&c.first)], size: c.key.len(), target: plain_hash(&c.key), limit: LIMIT, turned: false };
     let view = read(&c.bodies[..MESSAGE]).unwrap();
     for body in c.before.chunks_exact(MESSAGE) {
         l.step(&ours, body, &view);
@@ -453,6 +565,7 @@ fn main() {
     let wanted: f64 = words[4].parse::<f64>().unwrap() * 1e6;
     let mut act: Box<dyn FnMut(usize) -> usize> = match (words[1].as_str(), words[2].as_str()) {
         ("ours", "step") => Box::new(|n| ours_turns(&c, n)),
+        ("value", "step") => Box::new(|n| value_turns(&c, n)),
         ("plain", "step") => Box::new(|n| plain_turns(&c, n)),
         ("ours", "hash") => Box::new(|n| hashes(ours_hash, &c, n)),
         ("plain", "hash") => Box::new(|n| hashes(plain_hash, &c, n)),
