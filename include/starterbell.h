@@ -40,9 +40,11 @@ extern "C" {
 #define STARTERBELL_CONNECTION 640
 #define STARTERBELL_LOOKUP 25256
 
-/* Bytes of a contact's slot and of a record's, and the most slots that are looked at. A part of a slot at the end isn't touched. */
+/* Bytes of a contact's slot and of a record's, and the most slots that are looked at. A part of a slot at the end isn't touched. Byte
+ * STARTERBELL_CONTACT_DOUBT_AT of a contact's slot is 1 where it is doubtful, else 0. */
 #define STARTERBELL_CONTACT_SLOT 616
 #define STARTERBELL_CONTACT_SLOTS_MOST 5120
+#define STARTERBELL_CONTACT_DOUBT_AT 1
 #define STARTERBELL_RECORD_SLOT 2184
 #define STARTERBELL_RECORD_SLOTS_MOST 256
 
@@ -124,7 +126,7 @@ enum starterbell_refusal {
     STARTERBELL_REFUSAL_BUCKET_FULL = 13,
     /* bucket has room, every contact slot is used */
     STARTERBELL_REFUSAL_NO_CONTACT_SLOT = 14,
-    /* settle or remove no longer fits the table */
+    /* settle, remove or doubt no longer fits the table */
     STARTERBELL_REFUSAL_NO_LONGER_FITS = 15,
     /* peer isn't in flight in this lookup */
     STARTERBELL_REFUSAL_NOT_IN_FLIGHT = 16,
@@ -220,7 +222,10 @@ uint32_t starterbell_settle(const uint8_t *me, size_t me_length, uint8_t *contac
 /* Takes a contact out. DONE, or 0, 12 or 15. */
 uint32_t starterbell_remove(const uint8_t *me, size_t me_length, uint8_t *contacts, size_t contacts_length, const uint8_t *id, size_t id_length);
 
-/* The contacts nearest to a key. DONE, or 0, 8 or 12. How many there are, up to 20, and twenty slots go to `out`, nearest first, with zeros after the last. */
+/* Marks a contact as doubtful: the nearest contacts pass over it until it is seen or answers a probe. DONE, or 0, 12 or 15. */
+uint32_t starterbell_doubt(const uint8_t *me, size_t me_length, uint8_t *contacts, size_t contacts_length, const uint8_t *id, size_t id_length);
+
+/* Of the contacts that aren't doubtful, those nearest to a key. DONE, or 0, 8 or 12. How many there are, up to 20, and twenty slots go to `out`, nearest first, with zeros after the last. */
 uint32_t starterbell_nearest(const uint8_t *me, size_t me_length, const uint8_t *contacts, size_t contacts_length, const uint8_t *key, size_t key_length,
     uint64_t *out, size_t out_length);
 
@@ -270,7 +275,7 @@ uint32_t starterbell_write(uint8_t *message, size_t message_length, uint64_t kin
    peers were found; and twenty ranks of those, nearest first, with zeros after the last. Peers are found once the lookup is over. CUT_SHORT is over too: there was
    no room for someone that was heard of. */
 
-/* Starts a lookup in `memory` from the contacts, with up to `limit` requests at a time, 1 to 10. GOING, or COMPLETE where nobody is to be asked. Or 0, 8, 12 or 20,
+/* Starts a lookup in `memory` from the contacts that aren't doubtful, with up to `limit` requests at a time, 1 to 10. GOING, or COMPLETE where nobody is to be asked. Or 0, 8, 12 or 20,
    and then `memory` has an empty lookup for which every later call gives 0, unless `me` or `memory` is short. */
 uint32_t starterbell_lookup_start(const uint8_t *me, size_t me_length, uint8_t *memory, size_t memory_length,
     const uint8_t *contacts, size_t contacts_length, const uint8_t *key, size_t key_length, size_t limit, uint64_t *out, size_t out_length);

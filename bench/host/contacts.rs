@@ -77,7 +77,7 @@ fn bucket(place: &[u8], ours: &[u8]) -> usize {
 }
 
 fn fields_fit(s: &[u8]) -> bool {
-    s[0] <= 20 && s[1] == 0 && (1..=64).contains(&s[2]) && s[3] <= 4 && s[4..4 + s[3] as usize].iter().all(|n| (1..=128).contains(n))
+    s[0] <= 20 && s[1] <= 1 && (1..=64).contains(&s[2]) && s[3] <= 4 && s[4..4 + s[3] as usize].iter().all(|n| (1..=128).contains(n))
 }
 
 fn plain_in_form(table: &[u8], ours: &[u8; 32]) -> bool {
@@ -131,7 +131,7 @@ fn plain_nearest(table: &[u8], target: &[u8; 32], out: &mut [usize; 20]) -> usiz
     let mut n = 0;
     *out = [0; 20];
     for k in 0..slots(table) {
-        if table[k * SLOT] == 0 {
+        if table[k * SLOT] == 0 || table[k * SLOT + 1] != 0 {
             continue;
         }
         let nearer = |other: usize| distance_order(place(table, k), place(table, other), target) == Ordering::Less;

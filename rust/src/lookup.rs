@@ -85,7 +85,7 @@ fn candidate(state: &[u8], rank: usize) -> &[u8] {
 }
 
 impl Lookup {
-    /// Starts a lookup from a box's contacts, for a key of 1 to 128 bytes, with 1 to 10 peers asked at a time.
+    /// Starts a lookup from a box's contacts that aren't doubtful, for a key of 1 to 128 bytes, with 1 to 10 peers asked at a time. With no such contact it is over at once.
     pub fn start(node: &Node, key: &[u8], limit: usize) -> Result<Lookup, Refusal> {
         let mut lookup = Lookup { state: vec![0; raw::LOOKUP].into(), numbers: [0; 22], over: false };
         let returned = raw::lookup_start(node.me(), &mut lookup.state, node.table(), key, limit, &mut lookup.numbers);

@@ -153,7 +153,12 @@ impl Node {
         answer(raw::remove(&self.me, &mut self.contacts, id)).map(|_| ())
     }
 
-    /// The contacts nearest to a key of 1 to 128 bytes, nearest first: all, or twenty.
+    /// Marks a contact as doubtful, until it is seen or answers a probe. Refused where it is none.
+    pub fn doubt(&mut self, id: &[u8]) -> Result<(), Refusal> {
+        answer(raw::doubt(&self.me, &mut self.contacts, id)).map(|_| ())
+    }
+
+    /// Of the contacts that aren't doubtful, those nearest to a key of 1 to 128 bytes, nearest first: all, or twenty.
     pub fn nearest(&self, key: &[u8]) -> Result<Vec<Contact<'_>>, Refusal> {
         let mut out = [0; 21];
         answer(raw::nearest(&self.me, &self.contacts, key, &mut out))?;

@@ -79,6 +79,11 @@ impl<'a> Contact<'a> {
         (0..usize::from(slot[3])).map(move |k| &slot[104 + k * 128..][..usize::from(slot[4 + k])])
     }
 
+    /// Whether a contact is marked as doubtful ([`Node::doubt`](crate::Node::doubt)). A connection's peer and the box itself never are.
+    pub fn is_doubtful(self) -> bool {
+        self.0[1] != 0
+    }
+
     /// A contact's rank in its bucket: 0 for the head, which was seen longest ago.
     pub fn rank(self) -> u8 {
         self.0[0].saturating_sub(1)

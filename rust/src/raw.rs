@@ -85,7 +85,10 @@ exported! {
     /// Takes a contact out. 64.
     fn remove = starterbell_remove(me: bytes, contacts: bytes_mut, id: bytes);
 
-    /// The contacts nearest to a key. 64. `out`: how many, and twenty slots.
+    /// Marks a contact as doubtful. 64.
+    fn doubt = starterbell_doubt(me: bytes, contacts: bytes_mut, id: bytes);
+
+    /// Of the contacts that aren't doubtful, those nearest to a key. 64. `out`: how many, and twenty slots.
     fn nearest = starterbell_nearest(me: bytes, contacts: bytes, key: bytes, out: numbers_mut);
 
     /// Puts a record into the store. 64.

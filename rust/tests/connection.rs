@@ -108,6 +108,36 @@ fn a_sender_is_seen_if_it_is_a_server() {
     assert!(matches!(full.receive(&mut server, &ping).seen, Some(Err(Refusal::NoContactSlot))), "which refuses nothing");
 }
 
+/// The entries of the reply to a request by a server: ids and first addresses.
+fn closer(node: &mut Node, id: &[u8], request: &Draft) -> Vec<(Vec<u8>, Vec<u8>)> {
+    let mut connection = node.accept(Peer::server(id, &[b"/open"])).expect("a good id");
+    let mut entries = Vec::new();
+    let told = node.feed(&mut connection, &request.to_vec().expect("short"), |_, received| {
+        if let Event::Reply(reply) = received.event {
+            let message = Message::read(&reply[2..]).expect("a reply");
+            entries = message.closer_peers().map(|peer| (peer.id().to_vec(), peer.addresses().next().expect("an address").to_vec())).collect();
+        }
+    });
+    assert_eq!(told, Ok(()));
+    entries
+}
+
+#[test]
+fn a_doubtful_requester_is_the_last_entry_and_doubtful_no_more() {
+    let mut node = bench();
+    let ask = Draft::find_node(b"p\x07");
+    node.doubt(b"p\x07").expect("a contact");
+    for request in [&ask, &Draft::get_value(b"p\x07")] {
+        let other = closer(&mut node, b"somebody", request);
+        assert!(other.len() == 20 && other.iter().all(|(id, _)| id != b"p\x07"), "nobody else is sent there");
+    }
+    let own = closer(&mut node, b"p\x07", &ask);
+    let entry = (b"p\x07".to_vec(), b"/open".to_vec());
+    assert_eq!((own.len(), &own[20]), (21, &entry), "the extra entry");
+    let again = closer(&mut node, b"p\x07", &ask);
+    assert_eq!((again.len(), &again[0]), (20, &entry), "it was seen");
+}
+
 #[test]
 fn opens_only_to_peers() {
     let node = bench();

@@ -37,6 +37,15 @@ fn nobody_to_ask() {
 }
 
 #[test]
+fn asks_nobody_who_is_doubtful() {
+    let mut node = bench(2);
+    node.doubt(b"p\0").expect("a contact");
+    assert_eq!(ask(&mut Lookup::start(&node, b"p\0", 3).expect("a good key")), [b"p\x01"]);
+    node.doubt(b"p\x01").expect("a contact");
+    assert!(Lookup::start(&node, b"key", 3).expect("a good key").is_over(), "with nobody left to ask");
+}
+
+#[test]
 fn refused_starts() {
     let node = bench(1);
     assert_eq!(Lookup::start(&node, b"", 3).err(), Some(Refusal::BreaksRules));

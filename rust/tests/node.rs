@@ -83,6 +83,48 @@ fn a_full_bucket_names_its_head() {
 }
 
 #[test]
+fn passes_over_the_doubtful() {
+    let mut node = bench();
+    for n in 0..25u8 {
+        node.seen(Peer::server(&[b'p', n], &[])).expect("room");
+    }
+    let ids = |node: &Node| node.nearest(b"p").expect("a good key").iter().map(|contact| contact.id().to_vec()).collect::<Vec<_>>();
+    let before = ids(&node);
+    for id in &before[..8] {
+        assert_eq!((node.doubt(id), node.doubt(id)), (Ok(()), Ok(())), "twice is fine");
+    }
+    let after = ids(&node);
+    assert_eq!((before.len(), after.len()), (20, 17), "of 25 contacts with the 8 nearest doubtful");
+    assert_eq!(after[..12], before[8..]);
+    assert_eq!(node.contacts().filter(|contact| contact.is_doubtful()).count(), 8);
+    assert_eq!(node.doubt(b"nobody"), Err(Refusal::NoLongerFits));
+    assert_eq!(node.doubt(b"bench"), Err(Refusal::BadPeer));
+    assert!(matches!(node.seen(Peer::server(&before[0], &[])), Ok(Seen::Moved(contact)) if !contact.is_doubtful()));
+    assert_eq!(ids(&node)[0], before[0], "given again");
+}
+
+#[test]
+fn a_doubtful_head_is_probed_like_any_other() {
+    let mut node = bench();
+    let ids: Vec<_> = far_ids(&node).take(21).collect();
+    for id in &ids[..20] {
+        node.seen(Peer::server(id, &[])).expect("room");
+    }
+    node.doubt(&ids[0]).expect("a contact");
+    let newcomer = Peer::server(&ids[20], &[]);
+    assert!(matches!(node.seen(newcomer), Ok(Seen::Probe(head)) if head.id() == ids[0] && head.is_doubtful()));
+    let client = Peer::client(&ids[20], &[]);
+    assert_eq!(node.settle(&ids[0], client, Probed::Answered), Err(Refusal::Client));
+    assert_eq!(node.settle(&ids[1], newcomer, Probed::Answered), Err(Refusal::NoLongerFits));
+    assert_eq!(node.nearest(&ids[0]).expect("a good key").len(), 19, "a refused settle leaves the mark");
+    assert_eq!(node.settle(&ids[0], newcomer, Probed::Answered), Ok(Settled::Kept));
+    assert!(node.nearest(&ids[0]).is_ok_and(|near| near.len() == 20 && near[0].id() == ids[0] && near[0].rank() == 19), "it answered");
+    node.doubt(&ids[1]).expect("a contact");
+    assert_eq!(node.settle(&ids[1], newcomer, Probed::Silent), Ok(Settled::Swapped));
+    assert_eq!(node.contacts().filter(|contact| contact.is_doubtful()).count(), 0, "who comes in for it isn't doubtful");
+}
+
+#[test]
 fn nearest_first() {
     let mut node = bench();
     for n in 0..30u8 {

@@ -50,7 +50,7 @@ fn declares_what_the_header_declares() {
         })
         .collect();
     assert_eq!(source, header);
-    assert_eq!(source.len(), 18);
+    assert_eq!(source.len(), 19);
 }
 
 #[test]

@@ -332,6 +332,37 @@ static void play_bucket(void) {
         STARTERBELL_REFUSAL_NO_LONGER_FITS);
 }
 
+static uint32_t doubt(const char *id) {
+    return starterbell_doubt(box.me, sizeof box.me, box.contacts, sizeof box.contacts, (const uint8_t *)id, strlen(id));
+}
+
+/* How many contacts a query gives. */
+static uint64_t near(const char *key) {
+    uint64_t out[STARTERBELL_NEAREST_OUT];
+    expect("nearest", starterbell_nearest(box.me, sizeof box.me, box.contacts, sizeof box.contacts, (const uint8_t *)key, strlen(key), out, STARTERBELL_NEAREST_OUT),
+        STARTERBELL_DONE);
+    return out[0];
+}
+
+/* "The host can mark a held contact as doubtful; being seen .. clears the mark." */
+static void play_doubt(void) {
+    uint64_t out[STARTERBELL_SEEN_OUT];
+    start(&box, "our box", "here");
+    expect("doubt of nobody", doubt("peer"), STARTERBELL_REFUSAL_NO_LONGER_FITS);
+    expect("seen", seen(&box, "peer", "there", out), STARTERBELL_SEEN_JOINED);
+    expect("seen", seen(&box, "other", "there", out), STARTERBELL_SEEN_JOINED);
+    expect("doubt of ourselves", doubt("our box"), STARTERBELL_REFUSAL_BAD_PEER);
+    expect("the contacts near peer", near("peer"), 2);
+    expect("doubt", doubt("peer"), STARTERBELL_DONE);
+    expect("doubt again", doubt("peer"), STARTERBELL_DONE);
+    expect("the mark", box.contacts[STARTERBELL_CONTACT_DOUBT_AT], 1);
+    expect("the other's", box.contacts[STARTERBELL_CONTACT_SLOT + STARTERBELL_CONTACT_DOUBT_AT], 0);
+    expect("the contacts near peer, which is doubtful", near("peer"), 1);
+    expect("seen", seen(&box, "peer", "there", out), STARTERBELL_SEEN_MOVED);
+    expect("the mark of one that was seen", box.contacts[STARTERBELL_CONTACT_DOUBT_AT], 0);
+    expect("the contacts near peer, which was seen", near("peer"), 2);
+}
+
 /* A FIND_NODE for AB to a box that has one contact, from a server, which then is a contact too. */
 static void play_sighting(void) {
     static const uint8_t request[] = {0x06, 0x08, 0x04, 0x12, 0x02, 0x41, 0x42};
@@ -535,6 +566,7 @@ int main(void) {
     play_leap();
     play_held_leap();
     play_bucket();
+    play_doubt();
     play_sighting();
     play_lookup();
     /* "256 candidates: a 257th marks" */

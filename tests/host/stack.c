@@ -173,6 +173,7 @@ static void settle(void) {
     code = starterbell_settle(LENT(me), LENT(contacts), head, head_length, newcomer, newcomer_length, 0, LENT(addresses), 0);
 }
 static void remove_(void) { code = starterbell_remove(LENT(me), LENT(contacts), newcomer, newcomer_length); }
+static void doubt(void) { code = starterbell_doubt(LENT(me), LENT(contacts), newcomer, newcomer_length); }
 static void nearest(void) { code = starterbell_nearest(LENT(me), LENT(contacts), KEY, OUT); }
 
 /* Contacts that calls made, since the places of those of make_contacts are of no id. */
@@ -250,6 +251,7 @@ static const struct {
     {"starterbell_seen, joined", for_joining, seen, STARTERBELL_SEEN_JOINED},
     {"starterbell_seen, moved", nothing, seen, STARTERBELL_SEEN_MOVED},
     {"starterbell_settle", for_settle, settle, STARTERBELL_SETTLE_SWAPPED},
+    {"starterbell_doubt", nothing, doubt, STARTERBELL_DONE},
     {"starterbell_remove", nothing, remove_, STARTERBELL_DONE},
 };
 

@@ -1,7 +1,7 @@
 -- The claims, each by its law. Assumes nothing.
 use Prim.Native.Nat.{ℕ, _<_, _≤_}
 use mathlib.Core.Path.{_≡_, refl, sym, ap, _∙_, subst}
-use mathlib.Core.Logic.{⊎-elim}
+use mathlib.Core.Logic.{_⊎_, ⊎-elim}
 use mathlib.Core.Bool.{Bool, true, false, not, cond}
 use mathlib.Core.List.{List}
 use native.Mathlib.Omega.{arith}
@@ -14,6 +14,7 @@ use Rattle.place.specs.Place.{placeOf, bucketOf}
 use Rattle.refusal.specs.declared.Refusal.the-variants.{NoLongerFits, Client}
 use Rattle.contacts.specs.Table.{slotsOf, slot, used}
 use Rattle.contacts.specs.Form.{inForm}
+use Rattle.contacts.specs.Claims.{GivesFirst}
 use Rattle.peer.specs.declared.Peer.{Peer}
 use Rattle.peer.specs.Addresses.{keptOf}
 use Rattle.peer.specs.Peers.{badPeer, peerOf, idIn, addressesIn}
@@ -22,7 +23,7 @@ use Rattle.sightings.specs.declared.Sighting.{Sighting}
 use Rattle.sightings.specs.declared.Sighting.the-variants as sighting
 use Rattle.sightings.specs.Order.{heldAt, freeAt, tailOf}
 use Rattle.sightings.specs.Sightings.{held, newcomer, sightingOf, seenTable, fits, removedTable}
-use Rattle.sightings_kept.specs.Promises.{Fair, SameContact, HeldSeen, NewSeen, Freed, HeadKept, HeadGone, StillFits, holds}
+use Rattle.sightings_kept.specs.Promises.{Fair, SameContact, AtTail, HeldSeen, NewSeen, Freed, HeadKept, HeadGone, StillFits, holds}
 use Rattle.sightings_kept.proofs.Theorems.{held-never-refused, no-slot-changes-nothing, seen-new}
 use Rattle.sightings_kept.proofs.Holds.{full-refused, one-left, none-left, fits-still, still-fits, still-fails}
 use Rattle.sightings_kept.proofs.Claims.{claims as kept}
@@ -34,6 +35,7 @@ use Rattle.contact_calls.specs.declared.RemoveOutcome.{RemoveOutcome}
 use Rattle.contact_calls.specs.declared.RemoveOutcome.the-variants as remove
 use Rattle.contact_calls.specs.Calls.{outcomeOf, seenCall, afterSeen, seenCallTable, settleCall, afterSettle, settleCallTable, removeCall, afterRemove, removeCallTable, seenNumber, settleNumber, removeNumber}
 use Rattle.contact_calls.specs.Claims.{Admits, Neither13Nor14, SeenDoes, SettleDoes, RemoveDoes, Claims}
+use Rattle.contact_calls.proofs.Doubts.{doubt-told, doubt-leaves, doubt-does, doubt-form, seen-ignores, settle-ignores, marked-hidden}
 use Rattle.contact_calls.proofs.Outcomes.{seen-table, settle-table, remove-table}
 use Rattle.contact_calls.proofs.Theorems.{cleared-in-form, fair, seen-call-keeps, settle-call-keeps, removal-keeps}
 
@@ -363,6 +365,50 @@ used-again t ours id other client =
         subst (λ (x : List ℕ). seenNumber (seenCall x ours other client) ≡ 14 → ⊥) (remove-table t ours (placeOf id) h)
         (never-fourteen (removedTable t ours (placeOf id)) ours other client (kept t ours y .reused (placeOf id) (placeOf other) h))
 
+-- ---- a sighting beside a reply is a seen
+beside-seen : (t ours id addresses : List ℕ) → Admits t ours id
+    → (outcomeOf (sightingOf t ours (placeOf id)) ≡ seenCall t ours id false) × (seenTable t ours (peerOf id (placeOf id) addresses) ≡ seenCallTable t ours id false addresses)
+unfolding seenCall seenCallTable
+beside-seen t ours id addresses a =
+    let e : seenCall t ours id false ≡ outcomeOf (sightingOf t ours (placeOf id)) = cond-no (not (inForm t ours)) _ _ (ap not (a .form)) ∙ cond-no (badPeer ours id) _ _ (a .peer) in
+    (sym e, seen-table t ours p ∙ ap (λ (x : List ℕ). afterSeen t ours p (outcomeOf (sightingOf t ours x))) (place-is id (placeOf id) addresses) ∙ ap (afterSeen t ours p) (sym e))
+  where
+    p : Peer
+    p = peerOf id (placeOf id) addresses
+
+-- ---- who was seen, and who answered a probe, is given
+module _ (t ours : List ℕ) (l : length ours ≡ 32) (b : Bytes ours) where
+  -- what isn't refused was in form, and so is what it leaves
+  seen-in-form : (id : List ℕ) (client : Bool) (addresses : List ℕ) → (seenNumber (seenCall t ours id client) ≡ 0 → ⊥) → inForm (seenCallTable t ours id client addresses) ours ≡ true
+  seen-in-form id client addresses n = ⊎-elim (λ y. seen-call-keeps t ours l b y id client addresses) (λ f. absurd (n (seen-zero t ours id client f))) (either (inForm t ours))
+
+  settle-in-form : (head id : List ℕ) (client : Bool) (addresses : List ℕ) (answered : Bool) → (settleNumber (settleCall t ours head id client answered) ≡ 0 → ⊥)
+      → inForm (settleCallTable t ours head id client addresses answered) ours ≡ true
+  settle-in-form head id client addresses answered n =
+      ⊎-elim (λ y. settle-call-keeps t ours l b y head id client addresses answered) (λ f. absurd (n (settle-zero t ours head id client answered f))) (either (inForm t ours))
+
+  seen-given : (id : List ℕ) (client : Bool) (addresses : List ℕ) → Bytes (seenCallTable t ours id client addresses) → (i : ℕ)
+      → (seenCall t ours id client ≡ seen.Moved i) ⊎ (seenCall t ours id client ≡ seen.Joined i) → GivesFirst (seenCallTable t ours id client addresses) (placeOf id) i
+  seen-given id client addresses w i =
+      ⊎-elim (λ e. at (seen.Moved i) e (λ z. omega arith) (does (seen.Moved i) e .tail)) (λ e. at (seen.Joined i) e (λ z. omega arith) (does (seen.Joined i) e .tail))
+    where
+      does : (o : SeenOutcome) → seenCall t ours id client ≡ o → SeenDoes t ours id addresses o (seenCallTable t ours id client addresses)
+      does o e = subst (λ (o : SeenOutcome). SeenDoes t ours id addresses o (seenCallTable t ours id client addresses)) e (seen-does t ours l b id client addresses)
+
+      at : (o : SeenOutcome) → seenCall t ours id client ≡ o → (seenNumber o ≡ 0 → ⊥) → AtTail ours (placeOf id) i (seenCallTable t ours id client addresses)
+          → GivesFirst (seenCallTable t ours id client addresses) (placeOf id) i
+      at o e n a = kept (seenCallTable t ours id client addresses) ours (seen-in-form id client addresses (λ z. n (sym (ap seenNumber e) ∙ z))) .given w (placeOf id) i a
+
+  answerer-given : (head id : List ℕ) (client : Bool) (addresses : List ℕ) (answered : Bool) → Bytes (settleCallTable t ours head id client addresses answered)
+      → settleCall t ours head id client answered ≡ settle.Kept → GivesFirst (settleCallTable t ours head id client addresses answered) (placeOf head) (heldAt t (placeOf head))
+  answerer-given head id client addresses answered w e =
+      kept (settleCallTable t ours head id client addresses answered) ours (settle-in-form head id client addresses answered (λ z. kept-number (sym (ap settleNumber e) ∙ z))) .given w (placeOf head)
+      (heldAt t (placeOf head))
+      (subst (λ (o : SettleOutcome). SettleDoes t ours head id addresses o (settleCallTable t ours head id client addresses answered)) e (settle-does t ours l b head id client addresses answered) .tail)
+    where
+      kept-number : settleNumber settle.Kept ≡ 0 → ⊥
+      kept-number z = omega arith
+
 pub claims : Claims
 claims = record {
   seenTold = λ t ours id client. record {
@@ -389,18 +435,28 @@ claims = record {
     notHeld = remove-not-held t ours id;
     gone = remove-gone t ours id;
   };
+  doubtTold = doubt-told;
   heldNever = held-never;
   clientNever = client-never;
   seenRefused = seen-leaves;
   settleRefused = settle-leaves;
   removeRefused = remove-leaves;
+  doubtRefused = doubt-leaves;
   seenDoes = λ t ours id client addresses l b. seen-does t ours l b id client addresses;
   settleDoes = λ t ours head id client addresses answered l b. settle-does t ours l b head id client addresses answered;
   removeDoes = remove-does;
+  doubtDoes = doubt-does;
+  beside = beside-seen;
   unevicted = never-evicted;
   reused = used-again;
+  seenIgnores = seen-ignores;
+  settleIgnores = settle-ignores;
+  hidden = marked-hidden;
+  seenGiven = λ t ours id client addresses l b. seen-given t ours l b id client addresses;
+  answererGiven = λ t ours head id client addresses answered l b. answerer-given t ours l b head id client addresses answered;
   cleared = cleared-in-form;
   seenForm = seen-call-keeps;
   settleForm = settle-call-keeps;
   removeForm = removal-keeps;
+  doubtForm = doubt-form;
 }

@@ -1,3 +1,4 @@
 pub mod Outcomes
 pub mod Theorems
+pub mod Doubts
 pub mod Claims

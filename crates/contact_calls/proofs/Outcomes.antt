@@ -17,7 +17,9 @@ use Rattle.sightings.specs.declared.Settled.{Settled}
 use Rattle.sightings.specs.declared.Settled.the-variants as settled
 use Rattle.sightings.specs.declared.Removed.{Removed}
 use Rattle.sightings.specs.declared.Removed.the-variants as removed
-use Rattle.sightings.specs.Sightings.{held, sightingOf, afterSighting, seenTable, fits, settlementOf, afterSettling, settledTable, removalOf, afterRemoval, removedTable}
+use Rattle.sightings.specs.declared.Doubted.{Doubted}
+use Rattle.sightings.specs.declared.Doubted.the-variants as doubted
+use Rattle.sightings.specs.Sightings.{held, sightingOf, afterSighting, seenTable, fits, settlementOf, afterSettling, settledTable, removalOf, afterRemoval, removedTable, markingOf, afterMarking, markedTable}
 use Rattle.contact_calls.specs.declared.Judged.{Judged}
 use Rattle.contact_calls.specs.declared.SeenOutcome.{SeenOutcome}
 use Rattle.contact_calls.specs.declared.SeenOutcome.the-variants as seen
@@ -25,8 +27,10 @@ use Rattle.contact_calls.specs.declared.SettleOutcome.{SettleOutcome}
 use Rattle.contact_calls.specs.declared.SettleOutcome.the-variants as settle
 use Rattle.contact_calls.specs.declared.RemoveOutcome.{RemoveOutcome}
 use Rattle.contact_calls.specs.declared.RemoveOutcome.the-variants as remove
-use Rattle.contact_calls.specs.Calls.{outcomeOf, seenCall, afterSeen, seenCallTable, settleCall, afterSettle, settleCallTable, removeCall, afterRemove, removeCallTable}
-use Rattle.contact_calls.specs.Inner.{Judges, settledOutcome, clientOutcome, removedOutcome}
+use Rattle.contact_calls.specs.declared.DoubtOutcome.{DoubtOutcome}
+use Rattle.contact_calls.specs.declared.DoubtOutcome.the-variants as doubt
+use Rattle.contact_calls.specs.Calls.{outcomeOf, seenCall, afterSeen, seenCallTable, settleCall, afterSettle, settleCallTable, removeCall, afterRemove, removeCallTable, doubtCall, afterDoubt, doubtCallTable}
+use Rattle.contact_calls.specs.Inner.{Judges, settledOutcome, clientOutcome, removedOutcome, doubtedOutcome}
 
 -- ---- judging an id
 pub judge-short : (ours id none : List ℕ) → idFits id ≡ false → Judges ours id (record { place = none; bad = true })
@@ -54,6 +58,11 @@ unfolding afterRemoval afterRemove
 remove-after t o p removed.Gone = refl
 remove-after t o p removed.NotHeld = refl
 
+doubt-after : (t p : List ℕ) (s : Doubted) → afterMarking t p s ≡ afterDoubt t p (doubtedOutcome s)
+unfolding afterMarking afterDoubt
+doubt-after t p doubted.Marked = refl
+doubt-after t p doubted.NotHeld = refl
+
 -- the tables that the core leaves, by the host's answers
 pub seen-table : (t o : List ℕ) (p : Peer) → seenTable t o p ≡ afterSeen t o p (outcomeOf (sightingOf t o (p .place)))
 unfolding seenTable
@@ -70,6 +79,10 @@ pub remove-table : (t o p : List ℕ) → held t p ≡ true → removedTable t o
 unfolding removedTable removalOf
 remove-table t o p h =
     remove-after t o p (removalOf t p) ∙ ap (λ (s : Removed). afterRemove t o p (removedOutcome s)) (cond-yes (held t p) removed.Gone removed.NotHeld h)
+
+pub doubt-table : (t p : List ℕ) → held t p ≡ true → markedTable t p ≡ afterDoubt t p doubt.Marked
+unfolding markedTable markingOf
+doubt-table t p h = doubt-after t p (markingOf t p) ∙ ap (λ (s : Doubted). afterDoubt t p (doubtedOutcome s)) (cond-yes (held t p) doubted.Marked doubted.NotHeld h)
 
 -- ---- seen
 module _ (t ours id : List ℕ) (client : Bool) (addresses : List ℕ) where
@@ -207,5 +220,36 @@ module _ (t ours id : List ℕ) where
         ∙ ap (λ (x : List ℕ). afterRemove t ours x r) (J .place b))
       where
         answer : (h : Bool) → removedOutcome (cond h removed.Gone removed.NotHeld) ≡ cond (not h) (remove.Refused NoLongerFits) remove.Gone
+        answer true = refl
+        answer false = refl
+
+-- ---- doubt
+module _ (t ours id : List ℕ) where
+  abbrev pub DoubtAnswers : DoubtOutcome → List ℕ → Type 0
+  DoubtAnswers r u = (r ≡ doubtCall t ours id) × (u ≡ doubtCallTable t ours id)
+
+  doubt-with : (r : DoubtOutcome) (u : List ℕ) → r ≡ doubtCall t ours id → u ≡ afterDoubt t (placeOf id) r → DoubtAnswers r u
+  unfolding doubtCallTable
+  doubt-with r u e g = (e, g ∙ ap (afterDoubt t (placeOf id)) e)
+
+  pub doubt-form : inForm t ours ≡ false → DoubtAnswers (doubt.Refused OutOfForm) t
+  unfolding doubtCall afterDoubt
+  doubt-form f = doubt-with (doubt.Refused OutOfForm) t (sym (cond-yes (not (inForm t ours)) _ _ (ap not f))) refl
+
+  module _ (f : inForm t ours ≡ true) (j : Judged) (J : Judges ours id j) where
+    pub doubt-bad : j .bad ≡ true → DoubtAnswers (doubt.Refused BadPeer) t
+    unfolding doubtCall afterDoubt
+    doubt-bad b = doubt-with (doubt.Refused BadPeer) t (sym (cond-no (not (inForm t ours)) _ _ (ap not f) ∙ cond-yes (badPeer ours id) _ _ (sym (J .bad) ∙ b))) refl
+
+    pub doubt-taken : j .bad ≡ false → (s : Doubted) (r : DoubtOutcome) (u : List ℕ) → (s ≡ markingOf t (j .place)) × (u ≡ markedTable t (j .place)) → r ≡ doubtedOutcome s → DoubtAnswers r u
+    unfolding doubtCall markedTable markingOf
+    doubt-taken b s r u e er =
+        doubt-with r u
+        (er ∙ ap doubtedOutcome (e .0 ∙ ap (λ (x : List ℕ). cond (held t x) doubted.Marked doubted.NotHeld) (J .place b)) ∙ answer (held t (placeOf id))
+        ∙ sym (cond-no (not (inForm t ours)) _ _ (ap not f) ∙ cond-no (badPeer ours id) _ _ (sym (J .bad) ∙ b)))
+        (e .1 ∙ ap (afterMarking t (j .place)) (sym (e .0)) ∙ doubt-after t (j .place) s ∙ ap (afterDoubt t (j .place)) (sym er)
+        ∙ ap (λ (x : List ℕ). afterDoubt t x r) (J .place b))
+      where
+        answer : (h : Bool) → doubtedOutcome (cond h doubted.Marked doubted.NotHeld) ≡ cond (not h) (doubt.Refused NoLongerFits) doubt.Marked
         answer true = refl
         answer false = refl

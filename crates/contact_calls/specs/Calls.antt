@@ -1,4 +1,4 @@
--- Seen, settle and remove as a host calls them: document 01, 'Refusal numbers' and 'Distance and contacts'. Each is an answer, and what the
+-- Seen, settle and remove as a host calls them: document 01, 'Refusal numbers' and 'Distance and contacts'; doubt: document 02, x. Each is an answer, and what the
 -- answer does to the table: a refusal does nothing.
 use Prim.Native.Nat.{ℕ}
 use mathlib.Core.Bool.{Bool, not, cond}
@@ -11,7 +11,7 @@ use Rattle.peer.specs.declared.Peer.{Peer}
 use Rattle.peer.specs.Peers.{badPeer, peerOf}
 use Rattle.sightings.specs.declared.Sighting.{Sighting}
 use Rattle.sightings.specs.declared.Sighting.the-variants as sighting
-use Rattle.sightings.specs.Order.{heldAt, moveToTail, moveAndRenew, dropped, joinAt, join}
+use Rattle.sightings.specs.Order.{heldAt, moveToTail, moveAndRenew, dropped, joinAt, join, doubtAt}
 use Rattle.sightings.specs.Sightings.{held, sightingOf, fits}
 use Rattle.contact_calls.specs.declared.SeenOutcome.{SeenOutcome}
 use Rattle.contact_calls.specs.declared.SeenOutcome.the-variants as seen
@@ -19,6 +19,8 @@ use Rattle.contact_calls.specs.declared.SettleOutcome.{SettleOutcome}
 use Rattle.contact_calls.specs.declared.SettleOutcome.the-variants as settle
 use Rattle.contact_calls.specs.declared.RemoveOutcome.{RemoveOutcome}
 use Rattle.contact_calls.specs.declared.RemoveOutcome.the-variants as remove
+use Rattle.contact_calls.specs.declared.DoubtOutcome.{DoubtOutcome}
+use Rattle.contact_calls.specs.declared.DoubtOutcome.the-variants as doubt
 
 -- ---- seen: 0, 12, 18, then held, 13, 14 ("18 before 13 and 14, and a peer already held is never 13 or 14")
 abbrev pub outcomeOf : Sighting → SeenOutcome
@@ -73,6 +75,19 @@ afterRemove t ours p (remove.Refused r) = t
 unfoldable pub removeCallTable : List ℕ → List ℕ → List ℕ → List ℕ
 removeCallTable t ours id = afterRemove t ours (placeOf id) (removeCall t ours id)
 
+-- ---- doubt: 0, 12, 15 ("Marking one not held gives 15")
+unfoldable pub doubtCall : List ℕ → List ℕ → List ℕ → DoubtOutcome
+doubtCall t ours id =
+    cond (not (inForm t ours)) (doubt.Refused OutOfForm)
+    (cond (badPeer ours id) (doubt.Refused BadPeer) (cond (not (held t (placeOf id))) (doubt.Refused NoLongerFits) doubt.Marked))
+
+unfoldable pub afterDoubt : List ℕ → List ℕ → DoubtOutcome → List ℕ
+afterDoubt t p doubt.Marked = doubtAt t (heldAt t p)
+afterDoubt t p (doubt.Refused r) = t
+
+unfoldable pub doubtCallTable : List ℕ → List ℕ → List ℕ → List ℕ
+doubtCallTable t ours id = afterDoubt t (placeOf id) (doubtCall t ours id)
+
 -- ---- the number of each answer, which a host is told: a refusal's own, or one from 64 up
 -- 64 moved, 65 joined; a bucket that is full is a refusal, beside which its head is named
 abbrev pub seenNumber : SeenOutcome → ℕ
@@ -90,3 +105,7 @@ settleNumber (settle.Refused r) = numberOf r
 abbrev pub removeNumber : RemoveOutcome → ℕ
 removeNumber remove.Gone = 64
 removeNumber (remove.Refused r) = numberOf r
+
+abbrev pub doubtNumber : DoubtOutcome → ℕ
+doubtNumber doubt.Marked = 64
+doubtNumber (doubt.Refused r) = numberOf r

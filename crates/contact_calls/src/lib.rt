@@ -1,9 +1,10 @@
-// Seen, settle and remove as a host calls them: the table's form is tested, ids are judged, and what isn't taken is refused by number and
+// Seen, settle, remove and doubt as a host calls them: the table's form is tested, ids are judged, and what isn't taken is refused by number and
 // changes nothing. Every public function takes any bytes.
 ghost use mathlib.Core.Path.{_≡_};
-ghost use Rattle.contact_calls.specs.Calls.{outcomeOf, seenCall, seenCallTable, settleCall, settleCallTable, removeCall, removeCallTable};
-ghost use Rattle.contact_calls.specs.Inner.{Judges, settledOutcome, clientOutcome, removedOutcome};
+ghost use Rattle.contact_calls.specs.Calls.{outcomeOf, seenCall, seenCallTable, settleCall, settleCallTable, removeCall, removeCallTable, doubtCall, doubtCallTable};
+ghost use Rattle.contact_calls.specs.Inner.{Judges, settledOutcome, clientOutcome, removedOutcome, doubtedOutcome};
 use refusal::Refusal;
+use sightings::Doubted;
 use sightings::Removed;
 use sightings::Settled;
 use sightings::Sighting;
@@ -30,6 +31,12 @@ pub enum SettleOutcome {
 
 pub enum RemoveOutcome {
     Gone,
+    // refusals 0, 12 and 15
+    Refused(Refusal),
+}
+
+pub enum DoubtOutcome {
+    Marked,
     // refusals 0, 12 and 15
     Refused(Refusal),
 }
@@ -93,6 +100,15 @@ fn remove_outcome(s: Removed) -> RemoveOutcome
     match s {
         Removed::Gone => RemoveOutcome::Gone,
         Removed::NotHeld => RemoveOutcome::Refused(Refusal::NoLongerFits),
+    }
+}
+
+fn doubt_outcome(s: Doubted) -> DoubtOutcome
+    ensures { λ r. ⌜ r ≡ doubtedOutcome s ⌝ }
+{
+    match s {
+        Doubted::Marked => DoubtOutcome::Marked,
+        Doubted::NotHeld => DoubtOutcome::Refused(Refusal::NoLongerFits),
     }
 }
 
@@ -167,4 +183,20 @@ pub fn remove(table: &mut [u8], ours: &[u8], id: &[u8]) -> RemoveOutcome
     let place = judged.place;
     let s = sightings::remove(table, ours, &place);
     remove_outcome(s)
+}
+
+// A contact is marked as doubtful.
+pub fn doubt(table: &mut [u8], ours: &[u8], id: &[u8]) -> DoubtOutcome
+    ensures { λ r. ⌜ (r ≡ doubtCall (now (table .entry)) (now (ours .entry)) (now (id .entry))) × (now (table .exit) ≡ doubtCallTable (now (table .entry)) (now (ours .entry)) (now (id .entry))) ⌝ }
+{
+    if !contacts::in_form(table, ours) {
+        return DoubtOutcome::Refused(Refusal::OutOfForm);
+    }
+    let judged = judge(ours, id);
+    if judged.bad {
+        return DoubtOutcome::Refused(Refusal::BadPeer);
+    }
+    let place = judged.place;
+    let s = sightings::doubt(table, &place);
+    doubt_outcome(s)
 }

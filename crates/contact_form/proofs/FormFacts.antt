@@ -15,7 +15,7 @@ use Rattle.octets.proofs.Searching.{all-at, all-intro, some-at, some-intro}
 use Rattle.octets.proofs.Strings.{same-eq, same-yes}
 use Rattle.place.specs.Place.{bucketOf}
 use Rattle.place.proofs.Buckets.{bucket-self, bucket-lt}
-use Rattle.contact_table.specs.Table.{bucketSize, slotsOf, slot, mark, used, spare, idSize, addressCount, addressSize, place, longestId, longestAddress, addressRooms}
+use Rattle.contact_table.specs.Table.{bucketSize, slotsOf, slot, mark, used, doubt, idSize, addressCount, addressSize, place, longestId, longestAddress, addressRooms}
 use Rattle.contact_form.specs.Form.{buckets, rank, slotBucket, addressFits, fieldsFit, tied, justBelow, apart, leads, good, goodOrFree, inForm}
 use Rattle.contact_form.specs.Claims.{Fields, InForm}
 use Rattle.contact_table.proofs.Cuts.{slot-whole, place-size, bytes-place, used-mark}
@@ -43,7 +43,7 @@ module _ (s : List ℕ) where
       let h5 = all-rest _ _ h4 in
       record {
         ranked = leb-true (mark s) bucketSize (all-head _ _ h0);
-        spared = eqb-true (spare s) 0 (all-head _ _ h1);
+        doubted = leb-true (doubt s) 1 (all-head _ _ h1);
         idLeast = leb-true 1 (idSize s) (all-head _ _ h2);
         idMost = leb-true (idSize s) longestId (all-head _ _ h3);
         few = leb-true (addressCount s) addressRooms (all-head _ _ h4);
@@ -54,7 +54,7 @@ module _ (s : List ℕ) where
   unfolding fieldsFit
   fields-intro f =
       all-one-more _ _ (le-leb (mark s) bucketSize (f .ranked))
-      (all-one-more _ _ (eq-eqb (spare s) 0 (f .spared))
+      (all-one-more _ _ (le-leb (doubt s) 1 (f .doubted))
       (all-one-more _ _ (le-leb 1 (idSize s) (f .idLeast))
       (all-one-more _ _ (le-leb (idSize s) longestId (f .idMost))
       (all-one-more _ _ (le-leb (addressCount s) addressRooms (f .few))

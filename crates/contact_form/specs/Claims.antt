@@ -7,14 +7,14 @@ use lib.Dec.{eqb}
 use lib.ListN.{length}
 use Rattle.octets.specs.Octets.{Bytes}
 use Rattle.octets.specs.Search.{count}
-use Rattle.contact_table.specs.Table.{bucketSize, longestId, longestAddress, addressRooms, slotsOf, slot, mark, used, spare, idSize, addressCount, addressSize, place, id, addresses}
+use Rattle.contact_table.specs.Table.{bucketSize, longestId, longestAddress, addressRooms, slotsOf, slot, mark, used, doubt, idSize, addressCount, addressSize, place, id, addresses}
 use Rattle.contact_table.specs.Contact.{entryId, entryAddresses}
 use Rattle.contact_form.specs.Form.{buckets, rank, slotBucket, inForm}
 
 -- ---- the facts: of a used slot by itself
 pub record Fields (s : List ℕ) : Type 0 where
   pub ranked : mark s ≤ bucketSize
-  pub spared : spare s ≡ 0
+  pub doubted : doubt s ≤ 1
   pub idLeast : 1 ≤ idSize s
   pub idMost : idSize s ≤ longestId
   pub few : addressCount s ≤ addressRooms

@@ -7,7 +7,7 @@ use lib.Dec.{ltb, leb, eqb}
 use Rattle.octets.specs.Octets.{same}
 use Rattle.octets.specs.Search.{all, some, allOf}
 use Rattle.place.specs.Place.{bucketOf}
-use Rattle.contact_table.specs.Table.{bucketSize, longestId, longestAddress, addressRooms, slotsOf, slot, mark, used, spare, idSize, addressCount, addressSize, place}
+use Rattle.contact_table.specs.Table.{bucketSize, longestId, longestAddress, addressRooms, slotsOf, slot, mark, used, doubt, idSize, addressCount, addressSize, place}
 
 -- buckets 0 to 255
 abbrev pub buckets : ℕ
@@ -26,12 +26,12 @@ slotBucket s o = bucketOf (place s) o
 unfoldable pub addressFits : List ℕ → ℕ → Bool
 addressFits s k = leb 1 (addressSize s k) && leb (addressSize s k) longestAddress
 
--- "an id of 1 to 64 bytes and up to four addresses"; the rank is one of a bucket's twenty, and byte 1 is 0
+-- "an id of 1 to 64 bytes and up to four addresses"; the rank is one of a bucket's twenty, and the mark of doubt is 0 or 1
 unfoldable pub fieldsFit : List ℕ → Bool
 fieldsFit s =
     allOf
     (leb (mark s) bucketSize
-    ∷ eqb (spare s) 0
+    ∷ leb (doubt s) 1
     ∷ leb 1 (idSize s)
     ∷ leb (idSize s) longestId
     ∷ leb (addressCount s) addressRooms

@@ -75,7 +75,7 @@ fn fields_fit(s: &[u8]) -> bool
     if BUCKET < mark {
         return false;
     }
-    if s[1] != 0 {
+    if 1 < s[1] {
         return false;
     }
     let id = s[2] as usize;

@@ -14,7 +14,7 @@ use Rattle.octets.proofs.Bools.{and-i, and-off, and-fails, either, cond-yes, co
 use Rattle.place.specs.Place.{bucketOf}
 use Rattle.contact_table.proofs.Cuts.{mark-used}
 use Rattle.contacts.specs.Table.{slotsOf, slot, putSlot, mark, place}
-use Rattle.contact_order.specs.Order.{ofBucket, withMark, lowered, each, closeUp, leave}
+use Rattle.contact_order.specs.Order.{ofBucket, withMark, withDoubt, lowered, each, closeUp, leave}
 use Rattle.contact_order.proofs.Slots.{slot-long, length-put, slot-put, slot-other, put-self, put-set}
 use Rattle.contact_order.proofs.Tests.{of-make, of-far}
 
@@ -88,6 +88,10 @@ module _ (o : List ℕ) (b m : ℕ) (s : List ℕ) where
 pub put-mark : (t : List ℕ) (i m : ℕ) → i < slotsOf t → set t (i * 616) m ≡ putSlot t i (withMark m (slot t i))
 unfolding withMark
 put-mark t i m l = let e : i * 616 + 0 ≡ i * 616 = omega arith in sym (put-set t i 0 m l (omega arith) ∙ ap (λ (k : ℕ). set t k m) e)
+
+pub put-doubt : (t : List ℕ) (i d : ℕ) → i < slotsOf t → set t (i * 616 + 1) d ≡ putSlot t i (withDoubt d (slot t i))
+unfolding withDoubt
+put-doubt t i d l = sym (put-set t i 1 d l (omega arith))
 
 module _ (t : List ℕ) (i : ℕ) (l : i < slotsOf t) (o : List ℕ) (b m k : ℕ) (e : k ≡ mark (slot t i)) where
   pub lower-low : k ≤ m → t ≡ putSlot t i (lowered o b m (slot t i))

@@ -45,10 +45,14 @@ tailOf t ours b = largest (slotsOf t) (λ i. markIn ours b (slot t i))
 unfoldable pub held : List ℕ → List ℕ → Bool
 held t p = ltb (heldAt t p) (slotsOf t)
 
--- ---- the order closes up
+-- ---- a slot with another mark, and with another mark of doubt
 unfoldable pub withMark : ℕ → List ℕ → List ℕ
 withMark m s = set s 0 m
 
+unfoldable pub withDoubt : ℕ → List ℕ → List ℕ
+withDoubt d s = set s 1 d
+
+-- ---- the order closes up; "Bucket order, probes and room ignore the mark" of doubt, and who moves forward keeps it
 -- those of bucket b behind the mark m move one forward
 unfoldable pub lowered : List ℕ → ℕ → ℕ → List ℕ → List ℕ
 lowered ours b m s = cond (ltb m (mark s) && ofBucket ours b s) (withMark (mark s - 1) s) s

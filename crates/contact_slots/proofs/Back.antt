@@ -6,7 +6,7 @@ use native.Mathlib.Omega.{arith}
 use lib.ListN.{length, getD, take, length-append}
 use lib.Seq.{take-suc, take-length, drop-append-add}
 use Rattle.contacts.specs.Table.{slot}
-use Rattle.sightings.specs.Order.{contactBytes}
+use Rattle.sightings.specs.Order.{withDoubt, contactBytes}
 use Rattle.flat.specs.Flat.{field, peerBytes, peerIn}
 use Rattle.flat.specs.Promises.{Whole}
 use Rattle.flat.proofs.Writing.{length-peer}
@@ -17,19 +17,19 @@ use Rattle.contact_slots.specs.Slots.{slotBytes, contactIn, tableBytes, 
 use Rattle.contact_slots.specs.Promises.{AllWhole, ReadsBack}
 use Rattle.contact_slots.proofs.Rows.{slot-next, slot-front}
 
--- a slot has 616 bytes: as many as with any other first byte
+-- a slot has 616 bytes: as many as with any other first two
 pub length-slot : (c : Contact) → Whole (c .peer) → length (slotBytes c) ≡ 616
-unfolding slotBytes contactBytes
+unfolding slotBytes contactBytes withDoubt
 length-slot c w = length-peer (c .peer) w
 
--- a peer's first byte isn't looked at
-any-first : (m : ℕ) (p : Peer) → peerIn (contactBytes m p) ≡ peerIn (peerBytes p)
-unfolding peerIn field contactBytes
-any-first m p = refl
+-- a peer's first two bytes aren't looked at
+any-first : (m d : ℕ) (p : Peer) → peerIn (withDoubt d (contactBytes m p)) ≡ peerIn (peerBytes p)
+unfolding peerIn field contactBytes withDoubt
+any-first m d p = refl
 
 one-back : (c : Contact) → Whole (c .peer) → contactIn (slotBytes c) ≡ c
-unfolding contactIn slotBytes contactBytes
-one-back c w = ap (λ (p : Peer). record { peer = p; rank = c .rank }) (any-first (c .rank) (c .peer) ∙ ap peerIn (sym (append-nil (peerBytes (c .peer)))) ∙ reads-back .peer (c .peer) [] w)
+unfolding contactIn slotBytes contactBytes withDoubt
+one-back c w = ap (λ (p : Peer). record { peer = p; rank = c .rank; doubt = c .doubt }) (any-first (c .rank) (c .doubt) (c .peer) ∙ ap peerIn (sym (append-nil (peerBytes (c .peer)))) ∙ reads-back .peer (c .peer) [] w)
 
 pub size-back : (t : List Contact) → AllWhole t → length (tableBytes t) ≡ length t * 616
 unfolding tableBytes AllWhole

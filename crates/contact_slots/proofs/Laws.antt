@@ -12,7 +12,7 @@ use Rattle.octets.proofs.Bools.{cond-yes, cond-no}
 use Rattle.octets.proofs.Stores.{sets-out}
 use Rattle.peer.proofs.Runs.{sets-cons}
 use Rattle.contacts.specs.Table.{putSlot}
-use Rattle.sightings.specs.Order.{contactBytes}
+use Rattle.sightings.specs.Order.{withDoubt, contactBytes}
 use Rattle.peer.specs.declared.Peer.{Peer}
 use Rattle.flat.specs.Flat.{peerBytes, peerIn}
 use Rattle.contact_slots.specs.declared.Contact.{Contact}
@@ -35,6 +35,10 @@ set-before (y ∷ x) s a k r h = set-before x (set s k y) a (suc k) r (omega ari
 set-first : (x s : List ℕ) (a m r : ℕ) → set (sets s a (m ∷ x)) a r ≡ sets s a (r ∷ x)
 set-first x s a m r = set-before x (set s a m) a (suc a) r (omega arith) ∙ ap (λ (l : List ℕ). sets l (suc a) x) (set-set s a m r)
 
+-- the first two
+set-two : (x s : List ℕ) (a m n r d : ℕ) → sets (sets s a (m ∷ n ∷ x)) a (r ∷ d ∷ []) ≡ sets s a (r ∷ d ∷ x)
+set-two x s a m n r d = ap (λ (l : List ℕ). set l (suc a) d) (set-first (n ∷ x) s a m r) ∙ set-first x (set s a r) (suc a) n d
+
 -- ---- `put_contact`
 pub put-past : (s : List ℕ) (i : ℕ) (c : Contact) → length s / 616 < i → s ≡ putSlot s i (slotBytes c)
 unfolding putSlot
@@ -45,25 +49,25 @@ unfolding putSlot
 put-end s i c h = sym (sets-out s (i * 616) (slotBytes c) (omega arith))
 
 pub put-done : (s t : List ℕ) (i : ℕ) (c : Contact) → i * 616 ≤ length s → t ≡ sets (take (length s - i * 616) (drop (i * 616) s)) 0 (peerBytes (c .peer))
-    → set (take (i * 616) s ++ (t ++ drop (length s - i * 616) (drop (i * 616) s))) (i * 616) (c .rank) ≡ putSlot s i (slotBytes c)
-unfolding putSlot slotBytes contactBytes
-put-done s t i c h e =
+    → (u : List ℕ) → u ≡ sets (take (i * 616) s ++ (t ++ drop (length s - i * 616) (drop (i * 616) s))) (i * 616) (c .rank ∷ c .doubt ∷ []) → u ≡ putSlot s i (slotBytes c)
+unfolding putSlot slotBytes contactBytes withDoubt
+put-done s t i c h e u g =
     let b : List ℕ = drop (i * 616) s in
     let k : ℕ = length s - i * 616 in
     let l : length b ≤ k = omega (arith, length-drop (i * 616) s) in
     let whole : t ++ drop k b ≡ sets b 0 (peerBytes (c .peer)) =
     ap (λ (x : List ℕ). t ++ x) (drop-of-length-le b l) ∙ append-nil t ∙ e ∙ ap (λ (x : List ℕ). sets x 0 (peerBytes (c .peer))) (take-all k b l) in
-    ap (λ (x : List ℕ). set (take (i * 616) s ++ x) (i * 616) (c .rank)) whole
-    ∙ ap (λ (x : List ℕ). set x (i * 616) (c .rank)) (sets-rest (i * 616) s (peerBytes (c .peer)))
-    ∙ set-first (0 ∷ c .peer .size ∷ c .peer .count ∷ (c .peer .lens ++ (c .peer .place ++ (c .peer .id ++ c .peer .addrs)))) s (i * 616) 1 (c .rank)
+    g ∙ ap (λ (x : List ℕ). sets (take (i * 616) s ++ x) (i * 616) (c .rank ∷ c .doubt ∷ [])) whole
+    ∙ ap (λ (x : List ℕ). sets x (i * 616) (c .rank ∷ c .doubt ∷ [])) (sets-rest (i * 616) s (peerBytes (c .peer)))
+    ∙ set-two (c .peer .size ∷ c .peer .count ∷ (c .peer .lens ++ (c .peer .place ++ (c .peer .id ++ c .peer .addrs)))) s (i * 616) 1 0 (c .rank) (c .doubt)
 
 -- ---- `contact_in`
-pub none-first : (s : List ℕ) → length s ≤ 0 → 0 ≡ getD s 0 0
-none-first s h = sym (List·getD-eq-default s 0 h)
+pub none-byte : (s : List ℕ) (k : ℕ) → length s ≤ k → 0 ≡ getD s k 0
+none-byte s k h = sym (List·getD-eq-default s 0 h)
 
-pub in-done : (s x : List ℕ) (p : Peer) (m : ℕ) → x ≡ s → p ≡ peerIn x → m ≡ getD x 0 0 → _≡_ {A = Contact} (record { peer = p; rank = m }) (contactIn s)
+pub in-done : (s x : List ℕ) (p : Peer) (m d : ℕ) → x ≡ s → p ≡ peerIn x → m ≡ getD x 0 0 → d ≡ getD x 1 0 → _≡_ {A = Contact} (record { peer = p; rank = m; doubt = d }) (contactIn s)
 unfolding contactIn
-in-done s x p m e g h = rw (g, h, e)
+in-done s x p m d e g h k = rw (g, h, k, e)
 
 -- ---- the room's test
 pub enough-fits : (n : ℕ) (room : List ℕ) → enough n room ≡ true → n * 616 ≤ length room

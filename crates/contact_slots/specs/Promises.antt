@@ -7,7 +7,7 @@ use lib.ListN.{length}
 use Rattle.contacts.specs.Table.{slotSize}
 use Rattle.peer.specs.declared.Peer.{Peer}
 use Rattle.flat.specs.Promises.{Whole}
-use Rattle.host_calls.specs.Hosts.{seenAfter, settleAfter, removeAfter}
+use Rattle.host_calls.specs.Hosts.{seenAfter, settleAfter, removeAfter, doubtAfter}
 use Rattle.contact_slots.specs.declared.Contact.{Contact}
 use Rattle.contact_slots.specs.Slots.{slotBytes, contactIn, tableBytes, contactsIn}
 
@@ -30,3 +30,5 @@ pub record InStep : Type 0 where
       → tableBytes (contactsIn (length t) (settleAfter me (tableBytes t) head id client addresses answered)) ≡ settleAfter me (tableBytes t) head id client addresses answered
   pub remove : (me : Peer) (t : List Contact) (id : List ℕ) → AllWhole t
       → tableBytes (contactsIn (length t) (removeAfter me (tableBytes t) id)) ≡ removeAfter me (tableBytes t) id
+  pub doubt : (me : Peer) (t : List Contact) (id : List ℕ) → AllWhole t
+      → tableBytes (contactsIn (length t) (doubtAfter me (tableBytes t) id)) ≡ doubtAfter me (tableBytes t) id

@@ -6,7 +6,7 @@ use mathlib.Core.List.{List, [], _∷_, _++_}
 use lib.ListN.{length, getD, take, drop}
 use lib.Dec.{leb}
 use Rattle.contacts.specs.Table.{slotSize, slot}
-use Rattle.sightings.specs.Order.{contactBytes}
+use Rattle.sightings.specs.Order.{withDoubt, contactBytes}
 use Rattle.flat.specs.Flat.{peerIn}
 use Rattle.refusal.specs.declared.Refusal.the-variants.{OutOfForm}
 use Rattle.peer.specs.declared.Peer.{Peer}
@@ -16,17 +16,19 @@ use Rattle.contact_calls.specs.declared.SettleOutcome.{SettleOutcome}
 use Rattle.contact_calls.specs.declared.SettleOutcome.the-variants as settle
 use Rattle.contact_calls.specs.declared.RemoveOutcome.{RemoveOutcome}
 use Rattle.contact_calls.specs.declared.RemoveOutcome.the-variants as remove
-use Rattle.host_calls.specs.Hosts.{seenOf, settleOf, removeOf}
+use Rattle.contact_calls.specs.declared.DoubtOutcome.{DoubtOutcome}
+use Rattle.contact_calls.specs.declared.DoubtOutcome.the-variants as doubt
+use Rattle.host_calls.specs.Hosts.{seenOf, settleOf, removeOf, doubtOf}
 use Rattle.contact_slots.specs.declared.Contact.{Contact}
 
 -- ---- one contact
--- its rank in its bucket plus 1 is its slot's first byte, 0 where the slot is free
+-- its rank in its bucket plus 1 is its slot's first byte, 0 where the slot is free; the second says whether it is doubtful
 unfoldable pub slotBytes : Contact → List ℕ
-slotBytes c = contactBytes (c .rank) (c .peer)
+slotBytes c = withDoubt (c .doubt) (contactBytes (c .rank) (c .peer))
 
 -- the contact in a slot's bytes; what lies past their end reads as zeros
 unfoldable pub contactIn : List ℕ → Contact
-contactIn s = record { peer = peerIn s; rank = getD s 0 0 }
+contactIn s = record { peer = peerIn s; rank = getD s 0 0; doubt = getD s 1 0 }
 
 -- ---- a list of contacts: the table's slots, one after another
 unfoldable pub tableBytes : List Contact → List ℕ
@@ -64,3 +66,6 @@ settleIn me room n head id client answered = cond (enough n room) (settleOf me (
 
 unfoldable pub removeIn : Peer → List ℕ → ℕ → List ℕ → RemoveOutcome
 removeIn me room n id = cond (enough n room) (removeOf me (tableIn n room) id) (remove.Refused OutOfForm)
+
+unfoldable pub doubtIn : Peer → List ℕ → ℕ → List ℕ → DoubtOutcome
+doubtIn me room n id = cond (enough n room) (doubtOf me (tableIn n room) id) (doubt.Refused OutOfForm)

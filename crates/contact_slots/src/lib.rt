@@ -1,5 +1,6 @@
 // A contact as a struct, in the slot of a table of flat bytes, and the contact calls on a table that lies at the start of the room that a host
 // lends. Every function takes any numbers and any bytes; what lies past their end reads as zeros, and what would be written there is left out.
+use contact_calls::DoubtOutcome;
 use contact_calls::RemoveOutcome;
 use contact_calls::SeenOutcome;
 use contact_calls::SettleOutcome;
@@ -9,13 +10,14 @@ ghost use mathlib.Core.Path.{_≡_};
 ghost use mathlib.Core.Bool.{cond};
 ghost use lib.ListN.{length, getD};
 ghost use Rattle.contacts.specs.Table.{slotSize, slot, putSlot};
-ghost use Rattle.host_calls.specs.Hosts.{seenAfter, settleAfter, removeAfter};
-ghost use Rattle.contact_slots.specs.Slots.{slotBytes, contactIn, enough, tableIn, withTable, contactFrom, seenIn, settleIn, removeIn};
+ghost use Rattle.host_calls.specs.Hosts.{seenAfter, settleAfter, removeAfter, doubtAfter};
+ghost use Rattle.contact_slots.specs.Slots.{slotBytes, contactIn, enough, tableIn, withTable, contactFrom, seenIn, settleIn, removeIn, doubtIn};
 
-// A contact: rank 0 where its slot is free, else its rank in its bucket plus 1.
+// A contact: rank 0 where its slot is free, else its rank in its bucket plus 1; doubt 1 where it is doubtful, else 0.
 pub struct Contact {
     pub peer: Peer,
     pub rank: u8,
+    pub doubt: u8,
 }
 
 // The bytes of a slot.
@@ -23,12 +25,12 @@ pub const SLOT: usize = 616;
 
 // ---- one contact
 
-// The first byte of a slot, or 0 where there is none.
-fn first(s: &[u8]) -> u8
-    ensures { λ r. ⌜ r ≡ getD (now (s .entry)) 0 0 ⌝ }
+// Byte k of a slot, or 0 where there is none.
+fn byte(s: &[u8], k: usize) -> u8
+    ensures { λ r. ⌜ r ≡ getD (now (s .entry)) k 0 ⌝ }
 {
-    if 0 < s.len() {
-        return s[0];
+    if k < s.len() {
+        return s[k];
     }
     0
 }
@@ -39,8 +41,9 @@ pub fn contact_in(bytes: &[u8], i: usize) -> Contact
 {
     let s = contacts::slot_of(bytes, i);
     let peer = flat::peer_in(s);
-    let rank = first(s);
-    Contact { peer, rank }
+    let rank = byte(s, 0);
+    let doubt = byte(s, 1);
+    Contact { peer, rank, doubt }
 }
 
 // Writes a contact as slot i.
@@ -57,7 +60,8 @@ pub fn put_contact(bytes: &mut [u8], i: usize, c: Contact)
     }
     let p = c.peer;
     flat::put_peer(&mut bytes[at..], p);
-    bytes[at] = c.rank;
+    let marks = [c.rank, c.doubt];
+    octets::copy(bytes, at, &marks);
 }
 
 // ---- one of n contacts, where the room has n slots
@@ -98,6 +102,16 @@ pub fn remove_in(me: Peer, room: &mut [u8], n: usize, id: &[u8]) -> RemoveOutcom
     }
     let e = n * SLOT;
     host_calls::remove(me, &mut room[..e], id)
+}
+
+pub fn doubt_in(me: Peer, room: &mut [u8], n: usize, id: &[u8]) -> DoubtOutcome
+    ensures { λ r. ⌜ (r ≡ doubtIn me (now (room .entry)) n (now (id .entry))) × (now (room .exit) ≡ withTable n (now (room .entry)) (doubtAfter me (tableIn n (now (room .entry))) (now (id .entry)))) ⌝ }
+{
+    if !has_slots(room, n) {
+        return DoubtOutcome::Refused(Refusal::OutOfForm);
+    }
+    let e = n * SLOT;
+    host_calls::doubt(me, &mut room[..e], id)
 }
 
 pub fn seen_in(

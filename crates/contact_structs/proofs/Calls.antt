@@ -16,12 +16,14 @@ use Rattle.contact_calls.specs.declared.SettleOutcome.{SettleOutcome}
 use Rattle.contact_calls.specs.declared.SettleOutcome.the-variants as settle
 use Rattle.contact_calls.specs.declared.RemoveOutcome.{RemoveOutcome}
 use Rattle.contact_calls.specs.declared.RemoveOutcome.the-variants as remove
-use Rattle.host_calls.specs.Hosts.{seenOf, seenAfter, settleOf, settleAfter, removeOf, removeAfter}
+use Rattle.contact_calls.specs.declared.DoubtOutcome.{DoubtOutcome}
+use Rattle.contact_calls.specs.declared.DoubtOutcome.the-variants as doubt
+use Rattle.host_calls.specs.Hosts.{seenOf, seenAfter, settleOf, settleAfter, removeOf, removeAfter, doubtOf, doubtAfter}
 use Rattle.contact_slots.specs.declared.Contact.{Contact}
-use Rattle.contact_slots.specs.Slots.{tableBytes, contactsIn, enough, tableIn, withTable, seenIn, settleIn, removeIn}
+use Rattle.contact_slots.specs.Slots.{tableBytes, contactsIn, enough, tableIn, withTable, seenIn, settleIn, removeIn, doubtIn}
 use Rattle.contact_slots.proofs.Laws.{enough-fits, enough-same}
 use Rattle.contact_slots.proofs.Rows.{contacts-front}
-use Rattle.contact_structs.specs.Structs.{contactsAfter, roomAfter, seenOn, settleOn, removeOn}
+use Rattle.contact_structs.specs.Structs.{contactsAfter, roomAfter, seenOn, settleOn, removeOn, doubtOn}
 
 -- the room once the contacts are laid out, and once the core has changed their bytes by f
 module _ (t : List Contact) (room₀ room₁ : List ℕ) (size : length (tableBytes t) ≡ length t * 616) (l₁ : length room₁ ≡ length room₀) (e₁ : room₁ ≡ roomAfter t room₀ (tableBytes t)) where
@@ -99,6 +101,17 @@ module _ (me : Peer) (t : List Contact) (room₀ room₁ : List ℕ) (size : len
   remove-done id room₂ u a l₂ e g =
       let f : List ℕ → List ℕ = λ s. removeAfter me s id in (
         e .0 ∙ said t room₀ room₁ size l₁ e₁ (λ s. removeOf me s id) (remove.Refused OutOfForm),
+        contacts-after t room₀ room₁ size l₁ e₁ f room₂ l₂ (e .1) u g,
+        room-after t room₀ room₁ size l₁ e₁ f room₂ l₂ (e .1),
+      )
+
+  pub doubt-done : (id : List ℕ) (room₂ : List ℕ) (u : List Contact) (a : DoubtOutcome) → length room₂ ≡ length room₁
+      → (a ≡ doubtIn me room₁ (length t) id) × (room₂ ≡ withTable (length t) room₁ (doubtAfter me (tableIn (length t) room₁) id)) → u ≡ contactsAfter t room₂ room₂
+      → (a ≡ doubtOn me t room₀ id) × (u ≡ contactsAfter t room₀ (doubtAfter me (tableBytes t) id)) × (room₂ ≡ roomAfter t room₀ (doubtAfter me (tableBytes t) id))
+  unfolding doubtIn doubtOn
+  doubt-done id room₂ u a l₂ e g =
+      let f : List ℕ → List ℕ = λ s. doubtAfter me s id in (
+        e .0 ∙ said t room₀ room₁ size l₁ e₁ (λ s. doubtOf me s id) (doubt.Refused OutOfForm),
         contacts-after t room₀ room₁ size l₁ e₁ f room₂ l₂ (e .1) u g,
         room-after t room₀ room₁ size l₁ e₁ f room₂ l₂ (e .1),
       )

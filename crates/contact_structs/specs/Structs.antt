@@ -1,4 +1,4 @@
--- Seen, settle and remove on contacts that sit in a list of structs lent by the host: document 01, 'Distance and contacts'. Each is host_calls' on the
+-- Seen, settle, remove and doubt on contacts that sit in a list of structs lent by the host: document 01, 'Distance and contacts', and document 02, x. Each is host_calls' on the
 -- bytes of the contacts, which are laid out in the room that the host lends beside them: 616 bytes for each, else refusal 0, and nothing changes.
 use Prim.Native.Nat.{ℕ}
 use mathlib.Core.Bool.{Bool, cond}
@@ -12,7 +12,9 @@ use Rattle.contact_calls.specs.declared.SettleOutcome.{SettleOutcome}
 use Rattle.contact_calls.specs.declared.SettleOutcome.the-variants as settle
 use Rattle.contact_calls.specs.declared.RemoveOutcome.{RemoveOutcome}
 use Rattle.contact_calls.specs.declared.RemoveOutcome.the-variants as remove
-use Rattle.host_calls.specs.Hosts.{seenOf, settleOf, removeOf}
+use Rattle.contact_calls.specs.declared.DoubtOutcome.{DoubtOutcome}
+use Rattle.contact_calls.specs.declared.DoubtOutcome.the-variants as doubt
+use Rattle.host_calls.specs.Hosts.{seenOf, settleOf, removeOf, doubtOf}
 use Rattle.contact_slots.specs.declared.Contact.{Contact}
 use Rattle.contact_slots.specs.Slots.{tableBytes, contactsIn, enough, withTable}
 
@@ -32,3 +34,6 @@ settleOn me t room head id client answered = cond (enough (length t) room) (sett
 
 unfoldable pub removeOn : Peer → List Contact → List ℕ → List ℕ → RemoveOutcome
 removeOn me t room id = cond (enough (length t) room) (removeOf me (tableBytes t) id) (remove.Refused OutOfForm)
+
+unfoldable pub doubtOn : Peer → List Contact → List ℕ → List ℕ → DoubtOutcome
+doubtOn me t room id = cond (enough (length t) room) (doubtOf me (tableBytes t) id) (doubt.Refused OutOfForm)

@@ -1,5 +1,6 @@
-// Seen, settle and remove on contacts that sit in a list of structs lent by the host, above the core on flat bytes. The host lends room for the
+// Seen, settle, remove and doubt on contacts that sit in a list of structs lent by the host, above the core on flat bytes. The host lends room for the
 // contacts' bytes too: 616 for each, else refusal 0. Every function takes any contacts and any bytes.
+use contact_calls::DoubtOutcome;
 use contact_calls::RemoveOutcome;
 use contact_calls::SeenOutcome;
 use contact_calls::SettleOutcome;
@@ -9,9 +10,9 @@ ghost use Prim.Native.Nat.{_*_};
 ghost use mathlib.Core.Path.{_≡_};
 ghost use lib.ListN.{length};
 ghost use Rattle.contacts.specs.Table.{slotSize};
-ghost use Rattle.host_calls.specs.Hosts.{seenAfter, settleAfter, removeAfter};
+ghost use Rattle.host_calls.specs.Hosts.{seenAfter, settleAfter, removeAfter, doubtAfter};
 ghost use Rattle.contact_slots.specs.Slots.{tableBytes};
-ghost use Rattle.contact_structs.specs.Structs.{contactsAfter, roomAfter, seenOn, settleOn, removeOn};
+ghost use Rattle.contact_structs.specs.Structs.{contactsAfter, roomAfter, seenOn, settleOn, removeOn, doubtOn};
 
 // Lays the contacts out in the room, as the table of their slots; a room that is too short stays as it is. It also says how many bytes they are.
 pub fn pack(t: &[Contact], room: &mut [u8])
@@ -83,6 +84,17 @@ pub fn remove(me: Peer, t: &mut [Contact], room: &mut [u8], id: &[u8]) -> Remove
     pack(t, room);
     let n = t.len();
     let r = contact_slots::remove_in(me, room, n, id);
+    unpack(t, room);
+    r
+}
+
+// Marks a contact as doubtful.
+pub fn doubt(me: Peer, t: &mut [Contact], room: &mut [u8], id: &[u8]) -> DoubtOutcome
+    ensures { λ r. ⌜ (r ≡ doubtOn me (now (t .entry)) (now (room .entry)) (now (id .entry))) × (now (t .exit) ≡ contactsAfter (now (t .entry)) (now (room .entry)) (doubtAfter me (tableBytes (now (t .entry))) (now (id .entry)))) × (now (room .exit) ≡ roomAfter (now (t .entry)) (now (room .entry)) (doubtAfter me (tableBytes (now (t .entry))) (now (id .entry)))) ⌝ }
+{
+    pack(t, room);
+    let n = t.len();
+    let r = contact_slots::doubt_in(me, room, n, id);
     unpack(t, room);
     r
 }

@@ -12,7 +12,7 @@ use borrow.Author.Tests.{eq-eqb, ne-eqb, eqb-false, not-true, ltb-true, ltb-fals
 use Rattle.octets.specs.Octets.{Bytes, part}
 use Rattle.octets.proofs.Bools.{either}
 use Rattle.octets.proofs.Parts.{part-part, part-at, part-size, bytes-part}
-use Rattle.contact_table.specs.Table.{slotsOf, slot, mark, used, idSize, addressSize, place, id, address, longestId, longestAddress}
+use Rattle.contact_table.specs.Table.{slotsOf, slot, mark, used, doubt, doubtful, idSize, addressSize, place, id, address, longestId, longestAddress}
 use Rattle.contact_table.specs.Contact.{entryId, entryAddress}
 
 -- ---- whole slots
@@ -65,6 +65,19 @@ mark-used s h = ap not (ne-eqb (mark s) 0 h)
 pub mark-free : (s : List ℕ) → mark s ≡ 0 → used s ≡ false
 unfolding used
 mark-free s h = ap not (eq-eqb (mark s) 0 h)
+
+-- ---- doubtful or not
+pub doubt-cut : (t : List ℕ) (i : ℕ) → getD t (i * 616 + 1) 0 ≡ doubt (slot t i)
+unfolding doubt slot
+doubt-cut t i = sym (part-at t (i * 616) (i * 616 + 616) 1 (omega arith))
+
+pub doubt-yes : (s : List ℕ) → (doubt s ≡ 0 → ⊥) → doubtful s ≡ true
+unfolding doubtful
+doubt-yes s h = ap not (ne-eqb (doubt s) 0 h)
+
+pub doubt-no : (s : List ℕ) → doubt s ≡ 0 → doubtful s ≡ false
+unfolding doubtful
+doubt-no s h = ap not (eq-eqb (doubt s) 0 h)
 
 -- ---- a slot that the table does not have whole
 pub slot-none : (t : List ℕ) (i n : ℕ) → length t / 616 < i → n ≡ length t → drop n t ≡ slot t i

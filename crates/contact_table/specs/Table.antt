@@ -2,7 +2,7 @@
 --
 --   bytes      what stands there
 --   0          its rank in its bucket plus 1; 0 where the slot is free
---   1          0
+--   1          1 where the contact is doubtful, else 0: document 02, x
 --   2          length of the id, 1 to 64
 --   3          number of addresses, 0 to 4
 --   4 to 7     their lengths, 1 to 128; 0 where there is none
@@ -55,8 +55,12 @@ mark s = getD s 0 0
 unfoldable pub used : List ℕ → Bool
 used s = not (eqb (mark s) 0)
 
-unfoldable pub spare : List ℕ → ℕ
-spare s = getD s 1 0
+-- "The host can mark a held contact as doubtful"
+unfoldable pub doubt : List ℕ → ℕ
+doubt s = getD s 1 0
+
+unfoldable pub doubtful : List ℕ → Bool
+doubtful s = not (eqb (doubt s) 0)
 
 unfoldable pub idSize : List ℕ → ℕ
 idSize s = getD s 2 0

@@ -2,7 +2,7 @@
 ghost use mathlib.Core.Path.{_≡_};
 ghost use Prim.Native.Nat.{_+_, _*_, _<_, _≤_, min};
 ghost use lib.ListN.{length, getD, take, drop};
-ghost use Rattle.contact_table.specs.Table.{slotSize, slotsOf, slot, mark, place};
+ghost use Rattle.contact_table.specs.Table.{slotSize, slotsOf, slot, mark, doubtful, place};
 ghost use Rattle.contact_table.specs.Contact.{entryId, entryAddress, entryCount};
 
 // Bytes of a slot, and the most slots of a table. specs/Table.antt has what stands where.
@@ -10,7 +10,9 @@ pub const SLOT: usize = 616;
 
 pub const MOST: usize = 5120;
 
-// Where the place, the id and the addresses of a slot begin, and the bytes of a place.
+// Where the mark of doubt stands in a slot, where its place, id and addresses begin, and the bytes of a place.
+pub const DOUBT_AT: usize = 1;
+
 pub const PLACE_AT: usize = 8;
 
 pub const ID_AT: usize = 40;
@@ -104,6 +106,13 @@ pub fn mark_of(table: &[u8], i: usize) -> usize
     ensures { λ r. ⌜ r ≡ mark (slot (now (table .entry)) i) ⌝ }
 {
     byte(slot_of(table, i), 0)
+}
+
+// Whether the contact in slot i is marked as doubtful.
+pub fn doubtful(table: &[u8], i: usize) -> bool
+    ensures { λ r. ⌜ r ≡ doubtful (slot (now (table .entry)) i) ⌝ }
+{
+    byte(slot_of(table, i), DOUBT_AT) != 0
 }
 
 pub fn place_of(table: &[u8], i: usize) -> &[u8]

@@ -8,11 +8,12 @@ use lib.ListN.{length, take, length-take}
 use Rattle.octets.proofs.Bools.{cond-ind}
 use Rattle.place.specs.Place.{isPlace}
 use Rattle.contact_form.proofs.FormFacts.{form-elim}
-use Rattle.contacts.specs.Table.{slotsOf}
+use Rattle.contacts.specs.Table.{slotsOf, slot}
 use Rattle.contacts.specs.Near.{nearestCount, sorted, nearestSlots, nearestOf}
 use Rattle.contacts.specs.Claims.{Claims}
 use Rattle.contacts.proofs.Sorting.{take-filled}
-use Rattle.contacts.proofs.TwentyNearest.{nearest-are, nearest-strict}
+use Rattle.contacts.proofs.Shown.{shown-yes}
+use Rattle.contacts.proofs.TwentyNearest.{nearest-are, nearest-strict, passed-over, own-first}
 
 at-most-twenty : (t x : List ℕ) → length (nearestSlots t x) ≤ 20
 unfolding nearestSlots
@@ -28,5 +29,7 @@ pub claims : Claims
 claims = record {
   nearest = nearest-are;
   strictly = λ t o x hx ht y. nearest-strict t o x hx ht (form-elim t o y);
+  passedOver = passed-over;
+  own = λ t o i ht y l u d. own-first t o i ht (form-elim t o y) l (shown-yes (slot t i) u d);
   told = as-told;
 }

@@ -1,3 +1,4 @@
+pub mod Shown
 pub mod Sorting
 pub mod TwentyNearest
 mod Pairs

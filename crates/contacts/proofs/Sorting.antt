@@ -13,8 +13,8 @@ use Rattle.contacts.specs.declared.Closest.{Closest}
 use lib.Dec.{ltb}
 use lib.ListN.{length, getD, take, drop, replicate, length-take, length-append, length-replicate, List·getD-append}
 use lib.Seq.{take-take, take-append-seam, take-at, length-take-le, getD-take}
-use Rattle.contacts.specs.Table.{slotsOf, slot, used, place}
-use Rattle.contacts.specs.Near.{nearestCount, far, insert, sortOnto, usedBelow, sorted, filled, nearestSlots, nearestOf}
+use Rattle.contacts.specs.Table.{slotsOf, slot, place}
+use Rattle.contacts.specs.Near.{nearestCount, far, shown, insert, sortOnto, shownBelow, sorted, filled, nearestSlots, nearestOf}
 use Rattle.contacts.specs.Inner.{kept, Held}
 
 module _ (d : ℕ → ℕ) (k : ℕ) where
@@ -128,26 +128,26 @@ sort-last d done [] k = refl
 sort-last d done (i ∷ l) k = sort-last d (insert d i done) l k
 
 -- one slot more: the step that the pass takes
-pub sorted-suc : (t x : List ℕ) (k : ℕ) → sorted t x (suc k) ≡ cond (used (slot t k)) (insert (far t x) k (sorted t x k)) (sorted t x k)
-unfolding sorted usedBelow
+pub sorted-suc : (t x : List ℕ) (k : ℕ) → sorted t x (suc k) ≡ cond (shown (slot t k)) (insert (far t x) k (sorted t x k)) (sorted t x k)
+unfolding sorted shownBelow
 sorted-suc t x k =
-    elim (used (slot t k)) as (λ b. sortOnto (far t x) [] (usedBelow t k ++ cond b (k ∷ []) []) ≡ cond b (insert (far t x) k (sortOnto (far t x) [] (usedBelow t k))) (sortOnto (far t x) [] (usedBelow t k)))
-    [ true ↦ sort-last (far t x) [] (usedBelow t k) k | false ↦ ap (sortOnto (far t x) []) (append-nil (usedBelow t k)) ]
+    elim (shown (slot t k)) as (λ b. sortOnto (far t x) [] (shownBelow t k ++ cond b (k ∷ []) []) ≡ cond b (insert (far t x) k (sortOnto (far t x) [] (shownBelow t k))) (sortOnto (far t x) [] (shownBelow t k)))
+    [ true ↦ sort-last (far t x) [] (shownBelow t k) k | false ↦ ap (sortOnto (far t x) []) (append-nil (shownBelow t k)) ]
 
 sorted-below : (t x : List ℕ) (k : ℕ) → All (λ z. z < k) (sorted t x k)
-unfolding sorted usedBelow sortOnto
+unfolding sorted shownBelow sortOnto
 sorted-below t x zero = none
 sorted-below t x (suc k) =
     let h : All (λ z. z < suc k) (sorted t x k) = all-map (λ z q. omega arith) (sorted-below t x k) in
-    rw (sorted-suc t x k) (elim (used (slot t k)) as (λ b. All (λ z. z < suc k) (cond b (insert (far t x) k (sorted t x k)) (sorted t x k)))
+    rw (sorted-suc t x k) (elim (shown (slot t k)) as (λ b. All (λ z. z < suc k) (cond b (insert (far t x) k (sorted t x k)) (sorted t x k)))
     [ true ↦ all-insert (far t x) k (omega arith) h | false ↦ h ])
 
 pub sorted-asc : (t x : List ℕ) (k : ℕ) → Asc (far t x) (sorted t x k)
-unfolding sorted usedBelow sortOnto
+unfolding sorted shownBelow sortOnto
 sorted-asc t x zero = empty
 sorted-asc t x (suc k) =
     let h = sorted-asc t x k in
-    rw (sorted-suc t x k) (elim (used (slot t k)) as (λ b. Asc (far t x) (cond b (insert (far t x) k (sorted t x k)) (sorted t x k)))
+    rw (sorted-suc t x k) (elim (shown (slot t k)) as (λ b. Asc (far t x) (cond b (insert (far t x) k (sorted t x k)) (sorted t x k)))
     [ true ↦ asc-insert k h | false ↦ h ])
 
 pub kept-below : (t x : List ℕ) (k j : ℕ) → j < length (kept t x k) → getD (kept t x k) j 0 < k
@@ -162,15 +162,15 @@ pub length-kept : (t x : List ℕ) (k : ℕ) → length (kept t x k) ≤ 20
 unfolding kept
 length-kept t x k = simp length-take (omega arith)
 
--- a used slot goes into what is kept, a free one does not
-pub kept-used : (t x : List ℕ) (k : ℕ) → used (slot t k) ≡ true → kept t x (k + 1) ≡ take 20 (insert (far t x) k (kept t x k))
+-- a slot that is shown goes into what is kept, any other does not
+pub kept-shown : (t x : List ℕ) (k : ℕ) → shown (slot t k) ≡ true → kept t x (k + 1) ≡ take 20 (insert (far t x) k (kept t x k))
 unfolding kept
-kept-used t x k e =
+kept-shown t x k e =
     rw (add-one, sorted-suc t x k) (ap (λ (b : Bool). take 20 (cond b (insert (far t x) k (sorted t x k)) (sorted t x k))) e ∙ sym (insert-take (far t x) k 20 (sorted t x k)))
 
-pub kept-free : (t x : List ℕ) (k : ℕ) → used (slot t k) ≡ false → kept t x (k + 1) ≡ kept t x k
+pub kept-hidden : (t x : List ℕ) (k : ℕ) → shown (slot t k) ≡ false → kept t x (k + 1) ≡ kept t x k
 unfolding kept
-kept-free t x k e = rw (add-one, sorted-suc t x k) (ap (λ (b : Bool). take 20 (cond b (insert (far t x) k (sorted t x k)) (sorted t x k))) e)
+kept-hidden t x k e = rw (add-one, sorted-suc t x k) (ap (λ (b : Bool). take 20 (cond b (insert (far t x) k (sorted t x k)) (sorted t x k))) e)
 
 -- ---- as an array of twenty
 fill-at : (m r k : ℕ) (l z : List ℕ) → r ≤ length l
@@ -234,11 +234,11 @@ module _ {t x at : List ℕ} {n k : ℕ} (h : Held t x at n k) where
   held-put r i e =
       ap (λ (l : List ℕ). take 20 (take r l ++ k ∷ drop r l)) (h .list)
       ∙ filled-put r k (kept t x k) (insert (far t x) k (kept t x k)) (omega (arith, h .count)) (rw held-take at e)
-      ∙ ap filled (sym (kept-used t x k (h .taken)))
+      ∙ ap filled (sym (kept-shown t x k (h .taken)))
 
   length-next : length (kept t x (k + 1)) ≡ min 20 (suc n)
   length-next =
-      ap length (kept-used t x k (h .taken)) ∙ length-take 20 (insert (far t x) k (kept t x k))
+      ap length (kept-shown t x k (h .taken)) ∙ length-take 20 (insert (far t x) k (kept t x k))
       ∙ ap (λ (m : ℕ). min 20 m) (length-insert (far t x) k (kept t x k) ∙ ap suc (sym (h .count)))
 
   pub held-more : n < 20 → n + 1 ≡ length (kept t x (k + 1))
@@ -254,7 +254,7 @@ module _ {t x at : List ℕ} {n k : ℕ} (h : Held t x at n k) where
       let f : far t x (getD (kept t x k) 19 0) ≤ far t x k = rw (held-at 19 (omega arith)) at (ltb-false (far t x k) (far t x (getD at 19 0)) e) in
       let g : insert (far t x) k (kept t x k) ≡ kept t x k ++ (k ∷ []) = insert-last k 19 (kept-asc t x k) (omega arith) f in
       h .list
-      ∙ ap filled (sym (kept-used t x k (h .taken) ∙ ap (λ (s : List ℕ). take 20 s) g ∙ take-at (kept t x k) (k ∷ []) 20 l))
+      ∙ ap filled (sym (kept-shown t x k (h .taken) ∙ ap (λ (s : List ℕ). take 20 s) g ∙ take-at (kept t x k) (k ∷ []) 20 l))
 
   pub halving : Halving t x at n k 0 n
   halving = record {

@@ -1,8 +1,8 @@
--- What the twenty nearest are: used slots of the table, none twice, nearest first, none nearer left out, and twenty or all. Assumes nothing.
+-- What the twenty nearest are: contacts of the table that aren't doubtful, none twice, nearest first, none nearer left out, and twenty or all. Assumes nothing.
 use Prim.Native.Nat.{ℕ, zero, suc, _+_, _<_, _≤_, min}
 use mathlib.Core.Path.{_≡_, refl, sym, ap, _∙_, subst}
 use mathlib.Core.Logic.{⊎-elim}
-use mathlib.Core.Bool.{true, false, cond}
+use mathlib.Core.Bool.{Bool, true, false, cond}
 use mathlib.Core.List.{List, [], _∷_}
 use native.Mathlib.Nat.{eq-or-lt-of-le, le-of-suc-le-suc, not-suc-le-zero}
 use native.Mathlib.Omega.{arith}
@@ -13,14 +13,15 @@ use borrow.Author.Tests.{ltb-true, ltb-false}
 use Rattle.octets.specs.Octets.{Bytes}
 use Rattle.octets.specs.Search.{count}
 use Rattle.octets.proofs.Bools.{either, not-both, cond-ind}
-use Rattle.place.specs.Place.{distance}
-use Rattle.place.proofs.Distance.{distance-inj}
-use Rattle.contacts.specs.Table.{slotsOf, slot, used, place}
-use Rattle.contacts.specs.Near.{nearestCount, far, insert, sortOnto, usedBelow, sorted, nearestSlots}
+use Rattle.place.specs.Place.{isPlace, distance}
+use Rattle.place.proofs.Distance.{distance-self, distance-zero, distance-inj}
+use Rattle.contacts.specs.Table.{slotsOf, slot, used, doubtful, place}
+use Rattle.contacts.specs.Near.{nearestCount, far, shown, insert, sortOnto, shownBelow, sorted, nearestSlots}
 use Rattle.contacts.specs.Inner.{kept}
 use Rattle.contact_table.proofs.Cuts.{slot-whole, place-size, bytes-place}
 use Rattle.contact_form.specs.Claims.{InForm}
-use Rattle.contacts.specs.Claims.{AreNearest}
+use Rattle.contacts.specs.Claims.{AreNearest, Gives, GivesFirst}
+use Rattle.contacts.proofs.Shown.{shown-used, shown-trusted}
 use Rattle.contacts.proofs.Sorting.{All, none, more, all-at, all-map, all-take, all-insert, asc-at, sorted-asc, sorted-suc, length-insert, nearest-kept}
 
 -- ---- an element of a list
@@ -69,43 +70,43 @@ once-at (next p o) (suc i) (suc j) hi hj e = ap suc (once-at o i j (omega arith)
 -- ---- the sorted slots below k
 module _ (t x : List ℕ) where
   abbrev Below : ℕ → ℕ → Type 0
-  Below k z = (z < k) × (used (slot t z) ≡ true)
+  Below k z = (z < k) × (shown (slot t z) ≡ true)
 
   -- one slot more
-  step : (P : List ℕ → Type 0) (k : ℕ) → (used (slot t k) ≡ true → P (insert (far t x) k (sorted t x k))) → (used (slot t k) ≡ false → P (sorted t x k)) → P (sorted t x (suc k))
-  step P k f g = rw (sorted-suc t x k) (cond-ind P (used (slot t k)) (insert (far t x) k (sorted t x k)) (sorted t x k) f g)
+  step : (P : List ℕ → Type 0) (k : ℕ) → (shown (slot t k) ≡ true → P (insert (far t x) k (sorted t x k))) → (shown (slot t k) ≡ false → P (sorted t x k)) → P (sorted t x (suc k))
+  step P k f g = rw (sorted-suc t x k) (cond-ind P (shown (slot t k)) (insert (far t x) k (sorted t x k)) (sorted t x k) f g)
 
   sorted-held : (k : ℕ) → All (Below k) (sorted t x k)
-  unfolding sorted usedBelow sortOnto
+  unfolding sorted shownBelow sortOnto
   sorted-held zero = none
   sorted-held (suc k) =
       let h : All (Below (suc k)) (sorted t x k) = all-map (λ z q. (omega (arith, q .0), q .1)) (sorted-held k) in
       step (All (Below (suc k))) k (λ u. all-insert (far t x) k (omega arith, u) h) (λ _. h)
 
   sorted-once : (k : ℕ) → Once (sorted t x k)
-  unfolding sorted usedBelow sortOnto
+  unfolding sorted shownBelow sortOnto
   sorted-once zero = empty
   sorted-once (suc k) = step Once k (λ u. once-insert (far t x) k (all-map (λ z q. off q) (sorted-held k)) (sorted-once k)) (λ _. sorted-once k)
     where
       off : {z : ℕ} → Below k z → z ≡ k → ⊥
       off q e = omega (arith, q .0)
 
-  sorted-all : (k z : ℕ) → z < k → used (slot t z) ≡ true → In z (sorted t x k)
+  sorted-all : (k z : ℕ) → z < k → shown (slot t z) ≡ true → In z (sorted t x k)
   sorted-all zero z l u = absurd (not-suc-le-zero l)
   sorted-all (suc k) z l u =
       step (In z) k
       (λ _. ⊎-elim (λ e. subst (λ (y : ℕ). In y (insert (far t x) k (sorted t x k))) (sym e) (in-new (far t x) k (sorted t x k))) (λ lt. in-old (far t x) k (sorted-all k z lt u)) (eq-or-lt-of-le (le-of-suc-le-suc l)))
-      (λ f. ⊎-elim (λ e. absurd (not-both (used (slot t k)) (subst (λ (y : ℕ). used (slot t y) ≡ true) e u) f)) (λ lt. sorted-all k z lt u) (eq-or-lt-of-le (le-of-suc-le-suc l)))
+      (λ f. ⊎-elim (λ e. absurd (not-both (shown (slot t k)) (subst (λ (y : ℕ). shown (slot t y) ≡ true) e u) f)) (λ lt. sorted-all k z lt u) (eq-or-lt-of-le (le-of-suc-le-suc l)))
 
-  length-sorted : (k : ℕ) → length (sorted t x k) ≡ count k (λ i. used (slot t i))
-  unfolding sorted usedBelow sortOnto count
+  length-sorted : (k : ℕ) → length (sorted t x k) ≡ count k (λ i. shown (slot t i))
+  unfolding sorted shownBelow sortOnto count
   length-sorted zero = refl
-  length-sorted (suc k) = step (λ l. length l ≡ count k (λ i. used (slot t i)) + cond (used (slot t k)) 1 0) k (λ u. yes (length-sorted k) u) (λ u. no (length-sorted k) u)
+  length-sorted (suc k) = step (λ l. length l ≡ count k (λ i. shown (slot t i)) + cond (shown (slot t k)) 1 0) k (λ u. yes (length-sorted k) u) (λ u. no (length-sorted k) u)
     where
-      yes : length (sorted t x k) ≡ count k (λ i. used (slot t i)) → used (slot t k) ≡ true → length (insert (far t x) k (sorted t x k)) ≡ count k (λ i. used (slot t i)) + cond (used (slot t k)) 1 0
+      yes : length (sorted t x k) ≡ count k (λ i. shown (slot t i)) → shown (slot t k) ≡ true → length (insert (far t x) k (sorted t x k)) ≡ count k (λ i. shown (slot t i)) + cond (shown (slot t k)) 1 0
       yes e u = rw u (omega (arith, length-insert (far t x) k (sorted t x k)))
 
-      no : length (sorted t x k) ≡ count k (λ i. used (slot t i)) → used (slot t k) ≡ false → length (sorted t x k) ≡ count k (λ i. used (slot t i)) + cond (used (slot t k)) 1 0
+      no : length (sorted t x k) ≡ count k (λ i. shown (slot t i)) → shown (slot t k) ≡ false → length (sorted t x k) ≡ count k (λ i. shown (slot t i)) + cond (shown (slot t k)) 1 0
       no e u = rw u (omega arith)
 
   -- ---- the first twenty of all
@@ -118,7 +119,7 @@ module _ (t x : List ℕ) where
   first-at : (i : ℕ) → i < length (take nearestCount Whole) → getD (take nearestCount Whole) i 0 ≡ getD Whole i 0
   first-at i l = getD-take nearestCount Whole i 0 (first-lt i l .0)
 
-  left-out : (k : ℕ) → k < slotsOf t → used (slot t k) ≡ true → ((i : ℕ) → i < length (take nearestCount Whole) → getD (take nearestCount Whole) i 0 ≡ k → ⊥)
+  left-out : (k : ℕ) → k < slotsOf t → shown (slot t k) ≡ true → ((i : ℕ) → i < length (take nearestCount Whole) → getD (take nearestCount Whole) i 0 ≡ k → ⊥)
       → (i : ℕ) → i < length (take nearestCount Whole) → far t x (getD (take nearestCount Whole) i 0) ≤ far t x k
   left-out k l u out i li =
       let r = in-at (sorted-all (slotsOf t) k l u) in
@@ -153,6 +154,24 @@ pub nearest-are : (t x : List ℕ) → length x ≡ 32 → AreNearest t x (neare
 unfolding kept
 nearest-are t x h = subst (AreNearest t x) (sym (nearest-kept t x h)) (first-twenty t x)
 
+-- contacts of the table that aren't doubtful, also where x is no place: then there is nobody
+pub nearest-shown : (t x : List ℕ) (k : ℕ) → k < length (nearestSlots t x) → (getD (nearestSlots t x) k 0 < slotsOf t) × (shown (slot t (getD (nearestSlots t x) k 0)) ≡ true)
+unfolding nearestSlots
+nearest-shown t x = each (isPlace x)
+  where
+    each : (c : Bool) (k : ℕ) → k < length (cond c (take nearestCount (Whole t x)) [])
+        → (getD (cond c (take nearestCount (Whole t x)) []) k 0 < slotsOf t) × (shown (slot t (getD (cond c (take nearestCount (Whole t x)) []) k 0)) ≡ true)
+    each true k l = first-twenty t x .held k l
+    each false k l = absurd (not-suc-le-zero l)
+
+pub nearest-held : (t x : List ℕ) (k : ℕ) → k < length (nearestSlots t x) → (getD (nearestSlots t x) k 0 < slotsOf t) × (used (slot t (getD (nearestSlots t x) k 0)) ≡ true)
+nearest-held t x k l = let r = nearest-shown t x k l in (r .0, shown-used (slot t (getD (nearestSlots t x) k 0)) (r .1))
+
+-- a doubtful contact is passed over
+pub passed-over : (t x : List ℕ) (i : ℕ) → doubtful (slot t i) ≡ true → Gives t x i → ⊥
+passed-over t x i d g =
+    not-both (doubtful (slot t i)) d (shown-trusted (slot t i) (subst (λ (j : ℕ). shown (slot t j) ≡ true) (g .2) (nearest-shown t x (g .0) (g .1) .1)))
+
 -- in a table in form no two are equally far
 pub nearest-strict : (t o x : List ℕ) → length x ≡ 32 → Bytes t → InForm t o → (i j : ℕ) → i < j → j < length (nearestSlots t x)
     → far t x (getD (nearestSlots t x) i 0) < far t x (getD (nearestSlots t x) j 0)
@@ -173,7 +192,7 @@ nearest-strict t o x hx ht f i j l lj = strict (a .order i j (omega arith) lj) a
 
     apart : distance (place (slot t p)) x ≡ distance (place (slot t q)) x → ⊥
     apart e =
-        let w : i ≡ j = a .once i j li lj (f .once p q (a .held i li .0) (a .held j lj .0) (a .held i li .1) (a .held j lj .1)
+        let w : i ≡ j = a .once i j li lj (f .once p q (a .held i li .0) (a .held j lj .0) (shown-used (slot t p) (a .held i li .1)) (shown-used (slot t q) (a .held j lj .1))
         (distance-inj (place (slot t p)) (place (slot t q)) x
         (place-size t p (slot-whole t p (a .held i li .0)) ∙ sym (place-size t q (slot-whole t q (a .held j lj .0)))) (bytes-place t p ht) (bytes-place t q ht) e)) in
         bad w
@@ -183,3 +202,32 @@ nearest-strict t o x hx ht f i j l lj = strict (a .order i j (omega arith) lj) a
 
     strict : {m n : ℕ} → m ≤ n → (m ≡ n → ⊥) → m < n
     strict h g = omega arith
+
+-- ---- a contact that is shown is the first for its own place
+module _ (t o : List ℕ) (i : ℕ) (ht : Bytes t) (f : InForm t o) (l : i < slotsOf t) (u : shown (slot t i) ≡ true) where
+  abbrev x : List ℕ
+  x = place (slot t i)
+
+  long : (j : ℕ) → j < slotsOf t → length (place (slot t j)) ≡ 32
+  long j lj = place-size t j (slot-whole t j lj)
+
+  -- nobody else is as near
+  alone : (j : ℕ) → Below t x (slotsOf t) j → far t x j ≤ far t x i → j ≡ i
+  unfolding far
+  alone j b n =
+      f .once j i (b .0) l (shown-used (slot t j) (b .1)) (shown-used (slot t i) u)
+      (distance-zero (place (slot t j)) x (long j (b .0) ∙ sym (long i l)) (bytes-place t j ht) (bytes-place t i ht) (omega (arith, n, distance-self x)))
+
+  -- so the first of all is this one
+  heads : 0 < length (Whole t x) → (r : ℕ) → r < length (Whole t x) → getD (Whole t x) r 0 ≡ i → getD (Whole t x) 0 0 ≡ i
+  heads some r lr e =
+      alone (getD (Whole t x) 0 0) (all-at (sorted-held t x (slotsOf t)) 0 some)
+      (subst (λ (z : ℕ). far t x (getD (Whole t x) 0 0) ≤ far t x z) e (asc-at (sorted-asc t x (slotsOf t)) 0 r (omega arith) lr))
+
+  pub own-first : GivesFirst t x i
+  unfolding kept
+  own-first =
+      let r = in-at (sorted-all t x (slotsOf t) i l u) in
+      let some : 0 < length (Whole t x) = omega (arith, r .1) in
+      let one : 0 < length (take nearestCount (Whole t x)) = omega (arith, some, length-take nearestCount (Whole t x)) in
+      rw (nearest-kept t x (long i l)) (one, first-at t x 0 one ∙ heads some (r .0) (r .1) (r .2))

@@ -1,12 +1,13 @@
--- The nearest contacts of a table: document 01, "closerPeers are the 20 nearest contacts" and "the 20 nearest contacts as idle candidates".
+-- The nearest contacts of a table: document 01, "closerPeers are the 20 nearest contacts" and "the 20 nearest contacts as idle candidates"; document 02, x:
+-- "passes over doubtful ones, so it gives the 20 nearest that aren't, or all such".
 use Prim.Native.Nat.{ℕ, zero, suc}
-use mathlib.Core.Bool.{Bool, cond}
+use mathlib.Core.Bool.{Bool, not, _&&_, cond}
 use mathlib.Core.List.{List, [], _∷_, _++_}
 use lib.Dec.{ltb}
 use lib.ListN.{length, take, replicate}
 use Rattle.place.specs.Place.{isPlace, distance}
 use Rattle.contacts.specs.declared.Closest.{Closest}
-use Rattle.contacts.specs.Table.{slotsOf, slot, used, place}
+use Rattle.contacts.specs.Table.{slotsOf, slot, used, doubtful, place}
 
 -- "the 20 nearest"
 abbrev pub nearestCount : ℕ
@@ -26,16 +27,20 @@ unfoldable pub sortOnto : (ℕ → ℕ) → List ℕ → List ℕ → List ℕ
 sortOnto d done [] = done
 sortOnto d done (i ∷ l) = sortOnto d (insert d i done) l
 
--- the numbers of the used slots below k
-unfoldable pub usedBelow : List ℕ → ℕ → List ℕ
-usedBelow t zero = []
-usedBelow t (suc k) = usedBelow t k ++ cond (used (slot t k)) (k ∷ []) []
+-- a slot is shown: it holds a contact that isn't doubtful
+unfoldable pub shown : List ℕ → Bool
+shown s = used s && not (doubtful s)
+
+-- the numbers of the slots below k that are shown
+unfoldable pub shownBelow : List ℕ → ℕ → List ℕ
+shownBelow t zero = []
+shownBelow t (suc k) = shownBelow t k ++ cond (shown (slot t k)) (k ∷ []) []
 
 -- those, nearest first; of two that are as far, the lower slot first
 unfoldable pub sorted : List ℕ → List ℕ → ℕ → List ℕ
-sorted t x k = sortOnto (far t x) [] (usedBelow t k)
+sorted t x k = sortOnto (far t x) [] (shownBelow t k)
 
--- the first twenty of all used slots, nearest to x first; all where there are fewer, and none where x isn't a place
+-- the first twenty of all that are shown, nearest to x first; all where there are fewer, and none where x isn't a place
 unfoldable pub nearestSlots : List ℕ → List ℕ → List ℕ
 nearestSlots t x = cond (isPlace x) (take nearestCount (sorted t x (slotsOf t))) []
 

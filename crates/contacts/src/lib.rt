@@ -6,6 +6,7 @@ use contact_table::PLACE_AT;
 pub use contact_table::SLOT;
 pub use contact_table::address_count;
 pub use contact_table::address_of;
+pub use contact_table::doubtful;
 pub use contact_table::id_of;
 pub use contact_table::mark_of;
 pub use contact_table::place_of;
@@ -18,7 +19,7 @@ ghost use Prim.Native.Nat.{_+_, _*_, _≤_};
 ghost use lib.Dec.{ltb};
 ghost use lib.ListN.{length, take, drop};
 ghost use Rattle.contacts.specs.Table.{slotSize, slot, place};
-ghost use Rattle.contacts.specs.Near.{nearestCount, far, insert, filled, nearestOf};
+ghost use Rattle.contacts.specs.Near.{nearestCount, far, shown, insert, filled, nearestOf};
 ghost use Rattle.contacts.specs.Inner.{kept, Held};
 
 // How many contacts an answer carries.
@@ -34,6 +35,18 @@ fn place_at(table: &[u8], i: usize) -> &[u8]
     let a = i * SLOT + PLACE_AT;
     let e = a + PLACE;
     &table[a..e]
+}
+
+// Whether a slot that stands in the table whole holds a contact that isn't doubtful.
+fn shown_at(table: &[u8], i: usize) -> bool
+    requires { ⌜ i * slotSize + slotSize ≤ length (now table) ⌝ }
+    ensures { λ r. ⌜ r ≡ shown (slot (now (table .entry)) i) ⌝ }
+{
+    let a = i * SLOT;
+    if table[a] == 0 {
+        return false;
+    }
+    table[a + 1] == 0
 }
 
 // The slots nearest to a place, nearest first: the first n of at.
@@ -111,7 +124,7 @@ fn put(at: &mut [usize; NEAREST], p: usize, k: usize)
     }
 }
 
-// The used slot k into the nearest of the slots below it.
+// Slot k, which is shown, into the nearest of the slots below it.
 fn add(table: &[u8], target: &[u8], at: &mut [usize; NEAREST], n: usize, k: usize)
     requires { ⌜ Held (now table) (now target) (now at) n k ⌝ }
     ensures { λ r. ⌜ now (at .exit) ≡ filled (kept (now (table .entry)) (now (target .entry)) (k + 1)) ⌝ }
@@ -149,7 +162,7 @@ fn pass(table: &[u8], target: &[u8]) -> Closest
     let mut n: usize = 0;
     let mut k = 0;
     while k < end {
-        if table[k * SLOT] != 0 {
+        if shown_at(table, k) {
             n = keep(table, target, &mut at, n, k);
         }
         k += 1;
@@ -157,7 +170,8 @@ fn pass(table: &[u8], target: &[u8]) -> Closest
     Closest { at, n }
 }
 
-// The twenty slots of a table that are nearest to a target, nearest first; all where fewer are used, and none where the target isn't a place.
+// The twenty slots of a table that are nearest to a target, nearest first, doubtful contacts passed over; all where fewer are left, and none where the
+// target isn't a place.
 pub fn nearest(table: &[u8], target: &[u8]) -> Closest
     ensures { λ r. ⌜ r ≡ nearestOf (now (table .entry)) (now (target .entry)) ⌝ }
 {

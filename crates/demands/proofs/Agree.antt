@@ -187,6 +187,7 @@ module _ (me : Peer) (own : Own me) (s : Box) where
   asking-tidy a (box.seen id client addresses) t = line a _ _ t (S .hosts a (box.seen id client addresses) (t .good)) refl refl refl
   asking-tidy a (box.settle head id client addresses answered) t = line a _ _ t (S .hosts a (box.settle head id client addresses answered) (t .good)) refl refl refl
   asking-tidy a (box.remove id) t = line a _ _ t (S .hosts a (box.remove id) (t .good)) refl refl refl
+  asking-tidy a (box.doubt id) t = line a _ _ t (S .hosts a (box.doubt id) (t .good)) refl refl refl
   asking-tidy a (box.nearest key) t = line a _ _ t (S .hosts a (box.nearest key) (t .good)) refl refl refl
   asking-tidy a (box.start j key limit) t = line a _ _ t (S .hosts a (box.start j key limit) (t .good)) refl refl refl
   asking-tidy a (box.next j) t = line a _ _ t (S .hosts a (box.next j) (t .good)) refl refl refl
@@ -278,6 +279,7 @@ module _ (me : Peer) (s : World Who Box Ask) where
   asked (box.seen id client addresses) n = none-added (s .shared .state .offers) _ refl
   asked (box.settle head id client addresses answered) n = none-added (s .shared .state .offers) _ refl
   asked (box.remove id) n = none-added (s .shared .state .offers) _ refl
+  asked (box.doubt id) n = none-added (s .shared .state .offers) _ refl
   asked (box.nearest key) n = none-added (s .shared .state .offers) _ refl
   asked (box.start j key limit) n = none-added (s .shared .state .offers) _ refl
   asked (box.next j) n = none-added (s .shared .state .offers) _ refl

@@ -15,13 +15,15 @@ use Rattle.contacts.specs.Form.{inForm as contactsForm}
 use Rattle.sightings.specs.Sightings.{held, sightingOf, seenTable, fits}
 use Rattle.sightings_kept.specs.Promises.{Hashed, HashedPeer}
 use Rattle.sightings_kept.proofs.Hashed.{seen-hashed, settle-hashed, remove-hashed}
+use Rattle.sightings_kept.proofs.Doubts.{doubt-hashed}
 use Rattle.contact_calls.specs.declared.SeenOutcome.{SeenOutcome}
 use Rattle.contact_calls.specs.declared.SettleOutcome.{SettleOutcome}
 use Rattle.contact_calls.specs.declared.SettleOutcome.the-variants as settle
 use Rattle.contact_calls.specs.declared.RemoveOutcome.{RemoveOutcome}
 use Rattle.contact_calls.specs.declared.RemoveOutcome.the-variants as remove
-use Rattle.contact_calls.specs.Calls.{outcomeOf, seenCall, afterSeen, seenCallTable, settleCall, afterSettle, settleCallTable, removeCall, afterRemove, removeCallTable}
+use Rattle.contact_calls.specs.Calls.{outcomeOf, seenCall, afterSeen, seenCallTable, settleCall, afterSettle, settleCallTable, removeCall, afterRemove, removeCallTable, doubtCallTable}
 use Rattle.contact_calls.proofs.Outcomes.{seen-table, settle-table, remove-table}
+use Rattle.contact_calls.proofs.Doubts.{doubt-either}
 use Rattle.contact_calls.proofs.Theorems.{fair}
 use Rattle.stream.specs.Stream.{isShut, fresh}
 use Rattle.cutting.specs.Frames.{Event, message, refused as broken}
@@ -38,7 +40,7 @@ use Rattle.connections.specs.declared.Opened.{Opened}
 use Rattle.connections.specs.declared.Ended.{Ended}
 use Rattle.connections.specs.Box.{ownFits, openOf, connForm, endConn}
 use Rattle.node.specs.Node.{Dealing, contactsAfter, byAnswer, served, heard, dealingOf}
-use Rattle.host_calls.specs.Hosts.{seenAfter, settleAfter, removeAfter}
+use Rattle.host_calls.specs.Hosts.{seenAfter, settleAfter, removeAfter, doubtAfter}
 use Rattle.records_history.specs.History.{Offer}
 use Rattle.demands.specs.Box as box
 use Rattle.demands.specs.Box.{Box, Who, connOf, whoIn, offerIn, noted, Turn, Fits, Ask, dealing, happens, turning, asking, Own, Allowed, Good}
@@ -112,6 +114,9 @@ module _ (me : Peer) (w : Own me) (t : List ℕ) (y : contactsForm t (me .place)
       taken : held t (placeOf id) ≡ true → Hashed (afterRemove t (me .place) (placeOf id) remove.Gone)
       taken f = subst Hashed (remove-table t (me .place) (placeOf id) f) (remove-hashed t (me .place) (placeOf id) y h)
 
+  doubt-call : (id : List ℕ) → Hashed (doubtCallTable t (me .place) id)
+  doubt-call id = doubt-either t (me .place) id (λ _ u. Hashed u) (λ _ _. h) (λ _ _. doubt-hashed t (placeOf id) h)
+
   -- ---- a message
   answer-hashed : (v : Who) → Known me v → (x : Answered) (d : Dealt) → Hashed (byAnswer x d me (connOf v fresh) t .contacts)
   unfolding contactsAfter
@@ -171,13 +176,14 @@ module _ (me : Peer) (w : Own me) where
   unless-own b t u h g = cond-ind Hashed b u t (λ e. g) (λ e. h)
 
   asking-hashed : (a : Box) (o : Ask) → Placed me a → Hashed (asking me a o .contacts)
-  unfolding seenAfter settleAfter removeAfter
+  unfolding seenAfter settleAfter removeAfter doubtAfter
   asking-hashed a (box.put key value) g = g .hashed
   asking-hashed a (box.find key) g = g .hashed
   asking-hashed a (box.seen id client addresses) g = unless-own (ownFits me) _ _ (g .hashed) (seen-call me w (a .contacts) (g .good .contacts) (g .hashed) id client addresses)
   asking-hashed a (box.settle head id client addresses answered) g =
       unless-own (ownFits me) _ _ (g .hashed) (settle-call me w (a .contacts) (g .good .contacts) (g .hashed) head id client addresses answered)
   asking-hashed a (box.remove id) g = unless-own (ownFits me) _ _ (g .hashed) (remove-call me w (a .contacts) (g .good .contacts) (g .hashed) id)
+  asking-hashed a (box.doubt id) g = unless-own (ownFits me) _ _ (g .hashed) (doubt-call me w (a .contacts) (g .good .contacts) (g .hashed) id)
   asking-hashed a (box.nearest key) g = g .hashed
   asking-hashed a (box.start j key limit) g = g .hashed
   asking-hashed a (box.next j) g = g .hashed

@@ -13,8 +13,9 @@ use Rattle.records_history.specs.History.{Offer, offered, after}
 use Rattle.records_history.proofs.Stays.{form-kept, put-form}
 use Rattle.sightings_kept.specs.Promises.{Fair}
 use Rattle.sightings_kept.proofs.Forms.{seen-keeps}
-use Rattle.contact_calls.specs.Calls.{seenCallTable, settleCallTable, removeCallTable}
+use Rattle.contact_calls.specs.Calls.{seenCallTable, settleCallTable, removeCallTable, doubtCallTable}
 use Rattle.contact_calls.proofs.Theorems.{seen-call-keeps, settle-call-keeps, remove-call-keeps}
+use Rattle.contact_calls.proofs.Doubts.{doubt-form}
 use Rattle.message.specs.Limits.{leastReply}
 use Rattle.message.specs.Message.{messageOf}
 use Rattle.message.specs.View.{readingOf}
@@ -31,7 +32,7 @@ use Rattle.node.specs.declared.Answer.{Answer}
 use Rattle.node.specs.declared.Answer.the-variants.{Reply, Heard, Refused, More}
 use Rattle.connections.specs.Box.{ownFits}
 use Rattle.node.specs.Node.{Dealing, contactsAfter, byAnswer, served, heard, dealingOf}
-use Rattle.host_calls.specs.Hosts.{seenAfter, settleAfter, removeAfter}
+use Rattle.host_calls.specs.Hosts.{seenAfter, settleAfter, removeAfter, doubtAfter}
 use Rattle.demands.specs.Box as box
 use Rattle.demands.specs.Box.{Box, Who, connOf, offerBy, offerIn, noted, Turn, Ask, dealing, happens, turning, asking, Own, Allowed, Good}
 use Rattle.demands.proofs.Deal.{Leaves, deal-leaves}
@@ -137,7 +138,7 @@ module _ (me : Peer) (Q : List ℕ → List Offer → Type 0) (L : Lasting Q) wh
   same-memory a j s h = record { good = record { contacts = h .good .contacts; records = h .good .records; room = h .good .room }; offers = h .offers }
 
   pub asking-held : Own me → (a : Box) (o : Ask) → Held me Q a → Held me Q (asking me a o)
-  unfolding seenAfter settleAfter removeAfter after offered
+  unfolding seenAfter settleAfter removeAfter doubtAfter after offered
   asking-held w a (box.put key value) h =
       record {
         good = record { contacts = h .good .contacts; records = put-form (a .records) key value (h .good .records); room = h .good .room };
@@ -156,6 +157,10 @@ module _ (me : Peer) (Q : List ℕ → List Offer → Type 0) (L : Lasting Q) wh
       with-contacts a _ _
       (unless-ours (ownFits me) (a .contacts) (removeCallTable (a .contacts) (me .place) id) (h .good .contacts)
       (remove-call-keeps (a .contacts) (me .place) (w .long) (w .bytes) (h .good .contacts) id)) h
+  asking-held w a (box.doubt id) h =
+      with-contacts a _ _
+      (unless-ours (ownFits me) (a .contacts) (doubtCallTable (a .contacts) (me .place) id) (h .good .contacts)
+      (doubt-form (a .contacts) (me .place) id (h .good .contacts))) h
   asking-held w a (box.nearest key) h = logs a _ h
   asking-held w a (box.start j key limit) h = same-memory a j _ h
   asking-held w a (box.next j) h = same-memory a j _ h

@@ -22,7 +22,9 @@ use Rattle.contact_calls.specs.declared.SettleOutcome.{SettleOutcome}
 use Rattle.contact_calls.specs.declared.SettleOutcome.the-variants as settleAnswer
 use Rattle.contact_calls.specs.declared.RemoveOutcome.{RemoveOutcome}
 use Rattle.contact_calls.specs.declared.RemoveOutcome.the-variants as removeAnswer
-use Rattle.contact_calls.specs.Calls.{outcomeOf, seenCall, settleCall, removeCall}
+use Rattle.contact_calls.specs.declared.DoubtOutcome.{DoubtOutcome}
+use Rattle.contact_calls.specs.declared.DoubtOutcome.the-variants as doubtAnswer
+use Rattle.contact_calls.specs.Calls.{outcomeOf, seenCall, settleCall, removeCall, doubtCall}
 use Rattle.records.specs.declared.Found.{Found}
 use Rattle.records.specs.declared.Found.the-variants as findTold
 use Rattle.records.specs.Store.{inForm as recordsForm, slotsOf, slotWith, heldAt, found, findOf}
@@ -55,7 +57,7 @@ use Rattle.connections.specs.declared.Told.{Told}
 use Rattle.connections.specs.declared.Told.the-variants as nodeTold
 use Rattle.connections.specs.Box.{ownFits, openOf, endConn}
 use Rattle.node.specs.Node.{Out, takenOf, unless, receiveOf}
-use Rattle.host_calls.specs.Hosts.{seenOf, settleOf, removeOf, nearestTo, ownId, lookupStart}
+use Rattle.host_calls.specs.Hosts.{seenOf, settleOf, removeOf, doubtOf, nearestTo, ownId, lookupStart}
 use Rattle.demands.specs.Box as box
 use Rattle.demands.specs.Box.{Box, Who, connOf, Own, Allowed, Good}
 use Rattle.demands.specs.Demands.{NeverOutOfForm}
@@ -135,6 +137,10 @@ abbrev RemoveAbove : RemoveOutcome → Type 0
 RemoveAbove removeAnswer.Gone = Unit {0}
 RemoveAbove (removeAnswer.Refused r) = Above r
 
+abbrev DoubtAbove : DoubtOutcome → Type 0
+DoubtAbove doubtAnswer.Marked = Unit {0}
+DoubtAbove (doubtAnswer.Refused r) = Above r
+
 abbrev ToldAbove : Told → Type 0
 ToldAbove nodeTold.Fine = Unit {0}
 ToldAbove (nodeTold.Refused r) = Above r
@@ -194,6 +200,15 @@ module _ (me : Peer) (t : List ℕ) (form : contactsForm t (me .place) ≡ true)
       (λ e. cond-ind RemoveAbove (badPeer (me .place) id) _ _ (λ e. omega arith)
       (λ e. cond-ind RemoveAbove (not (held t (placeOf id))) _ _ (λ e. omega arith) (λ e. tt)))))
 
+  doubt-above : (id : List ℕ) → DoubtAbove (doubtOf me t id)
+  unfolding doubtOf doubtCall
+  doubt-above id =
+      cond-ind DoubtAbove (not (contactsForm t (me .place))) _ _ (passes (contactsForm t (me .place)) form)
+      (λ e. cond-ind DoubtAbove (not (ownFits me)) _ _ (λ e. omega arith)
+      (λ e. cond-ind DoubtAbove (not (contactsForm t (me .place))) _ _ (passes (contactsForm t (me .place)) form)
+      (λ e. cond-ind DoubtAbove (badPeer (me .place) id) _ _ (λ e. omega arith)
+      (λ e. cond-ind DoubtAbove (not (held t (placeOf id))) _ _ (λ e. omega arith) (λ e. tt)))))
+
   nearest-above : (key : List ℕ) → ToldAbove (nearestTo me t key .told)
   unfolding nearestTo
   nearest-above key =
@@ -242,6 +257,7 @@ never-out-of-form me w =
       seen = λ a id client g e. no-zero (subst SeenAbove e (seen-above me (a .contacts) (g .contacts) id client));
       settle = λ a head id client answered g e. no-zero (subst SettleAbove e (settle-above me (a .contacts) (g .contacts) head id client answered));
       remove = λ a id g e. no-zero (subst RemoveAbove e (remove-above me (a .contacts) (g .contacts) id));
+      doubt = λ a id g e. no-zero (subst DoubtAbove e (doubt-above me (a .contacts) (g .contacts) id));
       nearest = λ a key g e. no-zero (subst ToldAbove e (nearest-above me (a .contacts) (g .contacts) key));
       put = λ a key value g e. never-0 (a .records) key value (g .records) e;
       find = λ a key g e. no-zero (subst FoundAbove e (find-above (a .records) key (g .records)));

@@ -1,17 +1,24 @@
 -- What a query answers are the twenty nearest: the host's own, and those that peers send. Assumes nothing.
-use Prim.Native.Nat.{ℕ}
-use mathlib.Core.Path.{_≡_, refl, ap, _∙_}
-use mathlib.Core.Bool.{true}
-use mathlib.Core.List.{List}
-use lib.ListN.{take}
+use Prim.Native.Nat.{ℕ, _<_}
+use mathlib.Core.Path.{_≡_, refl, ap, _∙_, subst}
+use mathlib.Core.Bool.{true, false}
+use mathlib.Core.List.{List, [], _∷_}
+use lib.ListN.{length, getD, take}
+use Rattle.octets.specs.Octets.{Bytes, same}
+use Rattle.octets.proofs.Bools.{to-false, cond-yes, cond-no, cond-ind}
+use Rattle.octets.proofs.Searching.{some-at, some-intro}
+use Rattle.octets.proofs.Strings.{same-eq, same-yes, same-refl, same-no}
 use Rattle.place.specs.Place.{placeOf}
 use Rattle.peer.specs.declared.Peer.{Peer}
+use Rattle.contacts.specs.Table.{slotsOf, slot, used, doubtful, place}
 use Rattle.contacts.specs.Form.{inForm}
-use Rattle.contacts.specs.Near.{nearestOf}
+use Rattle.contacts.specs.Near.{nearestSlots, nearestOf}
 use Rattle.contacts.proofs.Claims.{claims}
+use Rattle.contacts.proofs.TwentyNearest.{nearest-held}
+use Rattle.entries.specs.Entries.{peerEntry}
 use Rattle.records_history.proofs.Holding.{not-found}
 use Rattle.message.specs.Message.{Message}
-use Rattle.replies.specs.Replies.{getValue, findNode, closerPeers, findNodeReply, recordAt, getValueReply}
+use Rattle.replies.specs.Replies.{getValue, findNode, closerPeers, listed, lastEntry, findNodeReply, recordAt, getValueReply}
 use Rattle.replies.specs.Verdicts.{replies, keyFits, keyed}
 use Rattle.answer.specs.Answers.{verdictOf}
 use Rattle.connections.specs.declared.Told.the-variants.{Fine}
@@ -19,6 +26,39 @@ use Rattle.connections.specs.Box.{ownFits}
 use Rattle.host_calls.specs.declared.Nearby.{Nearby}
 use Rattle.host_calls.specs.Hosts.{nearestTo}
 use Rattle.demands.specs.Demands.{Queries}
+
+-- ---- the last entry of FIND_NODE
+-- where all that lie at a place are doubtful, it isn't listed
+unlisted : (t x : List ℕ) → ((i : ℕ) → i < slotsOf t → used (slot t i) ≡ true → place (slot t i) ≡ x → doubtful (slot t i) ≡ true) → listed t x ≡ false
+unfolding listed
+unlisted t x d = to-false _ (λ e. none (some-at (λ k. same (place (slot t (getD (nearestSlots t x) k 0))) x) (length (nearestSlots t x)) e))
+  where
+    none : ((k : ℕ) × (k < length (nearestSlots t x)) × (same (place (slot t (getD (nearestSlots t x) k 0))) x ≡ true)) → ⊥
+    none r =
+        let h = nearest-held t x (r .0) (r .1) in
+        claims .passedOver t x (getD (nearestSlots t x) (r .0) 0) (d (getD (nearestSlots t x) (r .0) 0) (h .0) (h .1) (same-eq _ x (r .2))) (r .0, r .1, refl)
+
+told-of-itself : (me who : Peer) (t : List ℕ) → (who .place ≡ me .place → ⊥)
+    → ((i : ℕ) → i < slotsOf t → used (slot t i) ≡ true → place (slot t i) ≡ who .place → doubtful (slot t i) ≡ true) → lastEntry me who t (who .place) ≡ peerEntry who ∷ []
+unfolding lastEntry
+told-of-itself me who t other d =
+    cond-no (listed t (who .place)) [] _ (unlisted t (who .place) d)
+    ∙ cond-no (same (who .place) (me .place)) _ _ (same-no (who .place) (me .place) other)
+    ∙ cond-yes (same (who .place) (who .place)) _ _ (same-refl (who .place))
+
+listed-already : (me who : Peer) (t : List ℕ) (i : ℕ) → Bytes t → inForm t (me .place) ≡ true → i < slotsOf t → used (slot t i) ≡ true → place (slot t i) ≡ who .place
+    → doubtful (slot t i) ≡ false → lastEntry me who t (who .place) ≡ []
+unfolding lastEntry listed
+listed-already me who t i b y l u e d =
+    let g = claims .own t (me .place) i b y l u d in
+    subst (λ (x : List ℕ). lastEntry me who t x ≡ []) e
+    (cond-yes (listed t (place (slot t i))) [] _
+    (some-intro (λ k. same (place (slot t (getD (nearestSlots t (place (slot t i))) k 0))) (place (slot t i))) _ 0 (g .0) (same-yes _ (place (slot t i)) (ap (λ (j : ℕ). place (slot t j)) (g .1)))))
+
+no-other : (me who : Peer) (t x : List ℕ) → (x ≡ me .place → ⊥) → (x ≡ who .place → ⊥) → lastEntry me who t x ≡ []
+unfolding lastEntry
+no-other me who t x m w =
+    cond-ind (λ l. l ≡ []) (listed t x) [] _ (λ _. refl) (λ _. cond-no (same x (me .place)) _ _ (same-no x (me .place) m) ∙ cond-no (same x (who .place)) _ _ (same-no x (who .place) w))
 
 module _ (me : Peer) (own : ownFits me ≡ true) where
   host-is : (t key : List ℕ) → inForm t (me .place) ≡ true → keyFits key ≡ true → nearestTo me t key ≡ record { closest = nearestOf t (placeOf key); told = Fine }
@@ -41,4 +81,7 @@ module _ (me : Peer) (own : ownFits me ≡ true) where
             let e = host-is t key f k in (ap (λ (n : Nearby). n .told) e, ap (λ (n : Nearby). take (n .closest .n) (n .closest .at)) e ∙ claims .told t (placeOf key));
         get = λ who m t k e f. (getValueReply t k (m .key), get-is who m t k e f, refl, λ g. ap (recordAt k (m .key)) (not-found k (m .key) g));
         find = λ who m t k e f. (findNodeReply me who t (m .key), find-is who m t k e f, refl);
+        extra = told-of-itself me;
+        there = listed-already me;
+        noOther = no-other me;
       }

@@ -87,6 +87,7 @@ module _ (me : Peer) where
   asking-more a (box.seen id client addresses) = one-more (a .log) _
   asking-more a (box.settle head id client addresses answered) = one-more (a .log) _
   asking-more a (box.remove id) = one-more (a .log) _
+  asking-more a (box.doubt id) = one-more (a .log) _
   asking-more a (box.nearest key) = one-more (a .log) _
   asking-more a (box.start j key limit) = one-more (a .log) _
   asking-more a (box.next j) = one-more (a .log) _
@@ -181,6 +182,7 @@ module _ (me : Peer) (j : ℕ) where
   asking-agrees a (box.seen id client addresses) x h = h
   asking-agrees a (box.settle head id client addresses answered) x h = h
   asking-agrees a (box.remove id) x h = h
+  asking-agrees a (box.doubt id) x h = h
   asking-agrees a (box.nearest key) x h = h
   asking-agrees a (box.start k key limit) x h = started (eqb j k) x (a .lookups j) (a .log) (a .contacts) key limit h
   asking-agrees a (box.next k) x h =

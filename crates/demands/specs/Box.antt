@@ -14,6 +14,7 @@ use Rattle.contacts.specs.Form.{inForm as contactsForm}
 use Rattle.contact_calls.specs.declared.SeenOutcome.{SeenOutcome}
 use Rattle.contact_calls.specs.declared.SettleOutcome.{SettleOutcome}
 use Rattle.contact_calls.specs.declared.RemoveOutcome.{RemoveOutcome}
+use Rattle.contact_calls.specs.declared.DoubtOutcome.{DoubtOutcome}
 use Rattle.sightings_kept.specs.Promises.{Fair}
 use Rattle.records.specs.declared.Answer as stored
 use Rattle.records.specs.declared.Found as sought
@@ -44,7 +45,7 @@ use Rattle.node.specs.declared.Answer.{Answer}
 use Rattle.node.specs.declared.Answer.the-variants.{Reply, Heard, Refused, More}
 use Rattle.connections.specs.Box.{ownFits, openOf, endConn}
 use Rattle.node.specs.Node.{Dealing, dealingOf, receiveOf}
-use Rattle.host_calls.specs.Hosts.{seenOf, seenAfter, settleOf, settleAfter, removeOf, removeAfter, nearestTo, lookupStart, lookupReply, lookupFailure}
+use Rattle.host_calls.specs.Hosts.{seenOf, seenAfter, settleOf, settleAfter, removeOf, removeAfter, doubtOf, doubtAfter, nearestTo, lookupStart, lookupReply, lookupFailure}
 
 -- ---- what there is to see
 -- what came of an event on a connection: the reply's bytes and the sighting beside it; a message for the host, and its view; a refusal; an end
@@ -61,6 +62,7 @@ pub data Result : Type 0 where
   seenGave : SeenOutcome → Result
   settleGave : SettleOutcome → Result
   removeGave : RemoveOutcome → Result
+  doubtGave : DoubtOutcome → Result
   nearestGave : Nearby → Result
   stepGave : Step → Result
 
@@ -177,6 +179,7 @@ pub data Ask : Type 0 where
   seen : (id : List ℕ) → (client : Bool) → (addresses : List ℕ) → Ask
   settle : (head id : List ℕ) → (client : Bool) → (addresses : List ℕ) → (answered : Bool) → Ask
   remove : (id : List ℕ) → Ask
+  doubt : (id : List ℕ) → Ask
   nearest : (key : List ℕ) → Ask
   start : (j : ℕ) → (key : List ℕ) → (limit : ℕ) → Ask
   next : (j : ℕ) → Ask
@@ -277,6 +280,7 @@ module _ (me : Peer) where
       logged (withContacts a (settleAfter me (a .contacts) head id client addresses answered))
       (called (settleGave (settleOf me (a .contacts) head id client answered)))
   asking a (remove id) = logged (withContacts a (removeAfter me (a .contacts) id)) (called (removeGave (removeOf me (a .contacts) id)))
+  asking a (doubt id) = logged (withContacts a (doubtAfter me (a .contacts) id)) (called (doubtGave (doubtOf me (a .contacts) id)))
   asking a (nearest key) = logged a (called (nearestGave (nearestTo me (a .contacts) key)))
   asking a (start j key limit) = stepping j (lookupStart me (a .contacts) key limit) a
   asking a (next j) = stepping j (nextOf (a .lookups j)) a

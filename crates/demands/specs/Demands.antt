@@ -1,26 +1,27 @@
 -- The three demands, as statements about a box that a start gave. Each stands under the words it says; proofs/Theorems.antt proves all of them
 -- (`first`, `second`, `third`). `Box.antt` says what a box in use is; `cutting` what hosts, pieces and the plain reading are.
-use Prim.Native.Nat.{ℕ, _+_, _≤_}
+use Prim.Native.Nat.{ℕ, _+_, _<_, _≤_}
 use mathlib.Core.Path.{_≡_}
 use mathlib.Core.Bool.{Bool, true, false}
 use mathlib.Core.List.{List, [], _∷_, _++_, map}
 use mathlib.Core.Option.{none, some}
 use lib.ListN.{length, take, drop}
-use Rattle.octets.specs.Octets.{part}
+use Rattle.octets.specs.Octets.{Bytes, part}
 use Rattle.refusal.specs.declared.Refusal.{Refusal}
 use Rattle.refusal.specs.declared.Refusal.the-variants.{OutOfForm}
 use Rattle.refusal.specs.Refusal.{numberOf}
 use Rattle.place.specs.Place.{placeOf}
 use Rattle.peer.specs.declared.Peer.{Peer}
-use Rattle.contacts.specs.Table.{slot}
+use Rattle.contacts.specs.Table.{slotsOf, slot, used, doubtful, place}
 use Rattle.contacts.specs.Form.{inForm as contactsForm}
 use Rattle.contacts.specs.Near.{nearestSlots}
-use Rattle.entries.specs.Entries.{contactEntry}
+use Rattle.entries.specs.Entries.{contactEntry, peerEntry}
 use Rattle.contacts.specs.Claims.{AreNearest}
 use Rattle.sightings_kept.specs.Promises.{Hashed}
 use Rattle.contact_calls.specs.declared.SeenOutcome.the-variants as seenAnswer
 use Rattle.contact_calls.specs.declared.SettleOutcome.the-variants as settleAnswer
 use Rattle.contact_calls.specs.declared.RemoveOutcome.the-variants as removeAnswer
+use Rattle.contact_calls.specs.declared.DoubtOutcome.the-variants as doubtAnswer
 use Rattle.recipe.specs.Recipe.{outranks}
 use Rattle.records.specs.declared.Answer.the-variants as putTold
 use Rattle.records.specs.declared.Found.the-variants as findTold
@@ -57,7 +58,7 @@ use Rattle.connections.specs.Box.{startOf, openOf, endConn}
 use Rattle.node.specs.declared.Gate.the-variants.{Open}
 use Rattle.node.specs.Node.{Out, gateOf, receiveOf}
 use Rattle.host_contacts.specs.Claims.{ContactsTold}
-use Rattle.host_calls.specs.Hosts.{seenOf, settleOf, removeOf, nearestTo, ownId, lookupStart}
+use Rattle.host_calls.specs.Hosts.{seenOf, settleOf, removeOf, doubtOf, nearestTo, ownId, lookupStart}
 use Rattle.node_promises.specs.Promises.{Refuses, CallsRefused, ValuesRefused, MessageDone, BoxCalls}
 use Rattle.demands.specs.Lookups.{LookupsAreRuns}
 use Rattle.demands.specs.Box.{event, heard, Box, Who, connOf, bodyIn, Turn, Fits, Ask, put, box, Own, Allowed, Good}
@@ -66,7 +67,7 @@ use Rattle.demands.specs.Box.{event, heard, Box, Who, connOf, bodyIn, Tu
 -- any buffers": that every function has a contract with no precondition, and meets it, is what the checker shows. Here is the rest.
 
 -- "A refused call changes no contact, record, lookup or reply byte; at most it takes bytes and shuts its connection": a receive leaves contacts, records and
--- reply, and 0, 1, 2 and 12, which its gate gives, take nothing, the others, 3 to 11, shut; seen, settle and remove leave the table; start, open, an end with 0
+-- reply, and 0, 1, 2 and 12, which its gate gives, take nothing, the others, 3 to 11, shut; seen, settle, remove and doubt leave the table; start, open, an end with 0
 -- and nearest hand back nobody, a shut connection, the connection as it was, no contacts
 pub record RefusedLeaves (me : Peer) : Type 0 where
   pub receive : (c : Conn) (m bs t k y : List ℕ) (r : Refusal) → receiveOf me c m bs t k y .got .answer ≡ Refused r → Refuses me c m bs t k y r
@@ -90,6 +91,7 @@ pub record NeverOutOfForm (me : Peer) : Type 0 where
   pub seen : (a : Box) (id : List ℕ) (client : Bool) → Good me a → seenOf me (a .contacts) id client ≡ seenAnswer.Refused OutOfForm → ⊥
   pub settle : (a : Box) (head id : List ℕ) (client answered : Bool) → Good me a → settleOf me (a .contacts) head id client answered ≡ settleAnswer.Refused OutOfForm → ⊥
   pub remove : (a : Box) (id : List ℕ) → Good me a → removeOf me (a .contacts) id ≡ removeAnswer.Refused OutOfForm → ⊥
+  pub doubt : (a : Box) (id : List ℕ) → Good me a → doubtOf me (a .contacts) id ≡ doubtAnswer.Refused OutOfForm → ⊥
   pub nearest : (a : Box) (key : List ℕ) → Good me a → nearestTo me (a .contacts) key .told ≡ nodeTold.Refused OutOfForm → ⊥
   pub put : (a : Box) (key value : List ℕ) → Good me a → putAnswer (a .records) key value ≡ putTold.Refused OutOfForm → ⊥
   pub find : (a : Box) (key : List ℕ) → Good me a → findOf (a .records) key ≡ findTold.Refused OutOfForm → ⊥
@@ -103,7 +105,7 @@ pub record NeverOutOfForm (me : Peer) : Type 0 where
 
 pub record First (me : Peer) : Type 0 where
   pub refused : RefusedLeaves me
-  -- "the numbers in document 01", each given exactly when it says so, and what each answer does: of start, open and end, of seen, settle and remove, and of put;
+  -- "the numbers in document 01", each given exactly when it says so, and what each answer does: of start, open and end, of seen, settle, remove and doubt, and of put;
   -- and a lookup starts where its key and its limit allow it
   pub calls : BoxCalls
   pub contacts : ContactsTold me
@@ -146,6 +148,13 @@ pub record Queries (me : Peer) : Type 0 where
   pub find : (who : Peer) (m : Message) (t k : List ℕ) → m .kind ≡ findNode → keyFits (m .key) ≡ true
       → (r : Message) × (verdictOf me who m t k ≡ replies r)
       × (r .closer ≡ map (λ i. contactEntry (slot t i)) (nearestSlots t (placeOf (m .key))) ++ lastEntry me who t (placeOf (m .key)))
+  -- who asks for itself is told of itself: "The extra FIND_NODE entry stands even if its peer is doubtful" (document 02, x), or is no contact; one that is given has no
+  -- second entry. And nobody is told of another this way
+  pub extra : (who : Peer) (t : List ℕ) → (who .place ≡ me .place → ⊥)
+      → ((i : ℕ) → i < slotsOf t → used (slot t i) ≡ true → place (slot t i) ≡ who .place → doubtful (slot t i) ≡ true) → lastEntry me who t (who .place) ≡ peerEntry who ∷ []
+  pub there : (who : Peer) (t : List ℕ) (i : ℕ) → Bytes t → contactsForm t (me .place) ≡ true → i < slotsOf t → used (slot t i) ≡ true → place (slot t i) ≡ who .place
+      → doubtful (slot t i) ≡ false → lastEntry me who t (who .place) ≡ []
+  pub noOther : (who : Peer) (t x : List ℕ) → (x ≡ me .place → ⊥) → (x ≡ who .place → ⊥) → lastEntry me who t x ≡ []
 
 -- as a host begins: memory cleared, every connection shut, buffers that 1 doesn't refuse
 pub record Begun (s : World Who Box Ask) : Type 0 where
@@ -183,7 +192,7 @@ pub record Second (me : Peer) : Type 0 where
   pub done : MessageDone
   -- and what one box replies, another hears
   pub boxes : (you : Peer) → Own you → BoxToBox me you
-  -- "A query answers the twenty contacts nearest by XOR of SHA-256, or all when fewer, nearest first"
+  -- "A query answers the twenty contacts nearest by XOR of SHA-256, or all when fewer, nearest first"; document 02, x: of the contacts that aren't doubtful
   pub queries : Queries me
   pub nearest : (t key : List ℕ) → AreNearest t (placeOf key) (nearestSlots t (placeOf key))
   -- and that is the distance of SHA-256 of the ids: "memory once cleared, since then lent whole and changed by calls alone" holds each contact at its id's hash

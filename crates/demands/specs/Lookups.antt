@@ -16,7 +16,7 @@ use Rattle.lookup_runs.specs.History.{Event, history}
 use Rattle.lookup_runs.specs.Claims.{Claims}
 use Rattle.cutting.specs.World.{World, Call, hand, does, asks, call, calls}
 use Rattle.host_calls.specs.Hosts.{ownId, lookupStart}
-use Rattle.demands.specs.Box.{Box, Who, Entry, stepGave, called, Turn, Ask, put, find, seen, settle, remove, nearest, start, next, reply, replyFrom, failure, box}
+use Rattle.demands.specs.Box.{Box, Who, Entry, stepGave, called, Turn, Ask, put, find, seen, settle, remove, doubt, nearest, start, next, reply, replyFrom, failure, box}
 
 -- ---- what happened to a lookup: the contacts at its last start, with which key and limit that was, the calls on it since, and what was told of the start and
 -- of each call. E is what can be told: an entry of the log, or what a program sees
@@ -55,6 +55,7 @@ module _ (me : Peer) (j : ℕ) where
   partOf inbox (asks (seen id client addresses)) = neither
   partOf inbox (asks (settle head id client addresses answered)) = neither
   partOf inbox (asks (remove id)) = neither
+  partOf inbox (asks (doubt id)) = neither
   partOf inbox (asks (nearest key)) = neither
   partOf inbox (asks (start k key limit)) = cond (eqb j k) (starts key limit) neither
   partOf inbox (asks (next k)) = cond (eqb j k) (goes goNext) neither

@@ -11,6 +11,7 @@ use Rattle.peer.specs.declared.Peer.{Peer}
 use Rattle.contact_calls.specs.declared.SeenOutcome.{SeenOutcome}
 use Rattle.contact_calls.specs.declared.SettleOutcome.{SettleOutcome}
 use Rattle.contact_calls.specs.declared.RemoveOutcome.{RemoveOutcome}
+use Rattle.contact_calls.specs.declared.DoubtOutcome.{DoubtOutcome}
 use Rattle.writer.specs.declared.Written.{Written}
 use Rattle.writer.specs.Writer.{messageWith, answerOf, outAfter}
 use Rattle.connections.specs.declared.Conn.{Conn}
@@ -19,13 +20,13 @@ use Rattle.connections.specs.declared.Opened.{Opened}
 use Rattle.connections.specs.declared.Ended.{Ended}
 use Rattle.node.specs.Box.{startOf, openOf, endConn}
 use Rattle.host_calls.specs.declared.Nearby.{Nearby}
-use Rattle.host_calls.specs.Hosts.{seenOf, seenAfter, settleOf, settleAfter, removeOf, removeAfter, nearestTo}
+use Rattle.host_calls.specs.Hosts.{seenOf, seenAfter, settleOf, settleAfter, removeOf, removeAfter, doubtOf, doubtAfter, nearestTo}
 use Rattle.flat.specs.Flat.{peerIn, connIn, saysYes, connBytes}
 use Rattle.host_numbers.specs.Numbers.{toldCode}
-use Rattle.contact_calls.specs.Calls.{seenNumber, settleNumber, removeNumber}
+use Rattle.contact_calls.specs.Calls.{seenNumber, settleNumber, removeNumber, doubtNumber}
 use Rattle.host_answers.specs.Answers.{seenNumbers, nearestNumbers, writeNumber, writeNumbers}
 use Rattle.host_state.specs.State.{boxAfter, endingCode, endedMemory}
-use Rattle.host.specs.Host.{lent, lentBoth, startCode, startMemory, openFor, openCode, openMemory, endCode, endMemory, seenCode, seenContacts, seenOut, settleCode, settleContacts, removeCode, removeContacts, nearestCode, nearestOut}
+use Rattle.host.specs.Host.{lent, lentBoth, startCode, startMemory, openFor, openCode, openMemory, endCode, endMemory, seenCode, seenContacts, seenOut, settleCode, settleContacts, removeCode, removeContacts, doubtCode, doubtContacts, nearestCode, nearestOut}
 
 -- ---- memory of enough bytes
 module _ {A : Type 0} (n : ℕ) (s : List ℕ) (x y : A) where
@@ -150,6 +151,17 @@ module _ (me t id : List ℕ) where
   remove-done n new p o l ep h hn = (
     hn ∙ ap removeNumber (h .0 ∙ ap (λ (x : Peer). removeOf x t id) ep) ∙ lent-enough 616 me 0 (removeNumber (removeOf (peerIn me) t id)) l,
     h .1 ∙ ap (λ (x : Peer). removeAfter x t id) ep ∙ lent-enough 616 me t (removeAfter (peerIn me) t id) l,
+  )
+
+module _ (me t id : List ℕ) where
+  pub doubt-short : length me < 616 → (0 ≡ doubtCode me t id) × (t ≡ doubtContacts me t id)
+  doubt-short l = (lent-short 616 me 0 _ l, lent-short 616 me t _ l)
+
+  pub doubt-done : (n : ℕ) (new : List ℕ) (p : Peer) (o : DoubtOutcome) → 616 ≤ length me → p ≡ peerIn me
+      → (o ≡ doubtOf p t id) × (new ≡ doubtAfter p t id) → n ≡ doubtNumber o → (n ≡ doubtCode me t id) × (new ≡ doubtContacts me t id)
+  doubt-done n new p o l ep h hn = (
+    hn ∙ ap doubtNumber (h .0 ∙ ap (λ (x : Peer). doubtOf x t id) ep) ∙ lent-enough 616 me 0 (doubtNumber (doubtOf (peerIn me) t id)) l,
+    h .1 ∙ ap (λ (x : Peer). doubtAfter x t id) ep ∙ lent-enough 616 me t (doubtAfter (peerIn me) t id) l,
   )
 
 module _ (me t key out : List ℕ) where

@@ -12,11 +12,11 @@ use Rattle.node.specs.Box.{startOf, openOf, endConn}
 use Rattle.node.specs.Node.{Out, receiveOf}
 use Rattle.lookup.specs.Value.{Step}
 use Rattle.lookup.specs.Lookup.{nextOf}
-use Rattle.host_calls.specs.Hosts.{seenOf, seenAfter, settleOf, settleAfter, removeOf, removeAfter, nearestTo, lookupStart, lookupReply, lookupFailure}
+use Rattle.host_calls.specs.Hosts.{seenOf, seenAfter, settleOf, settleAfter, removeOf, removeAfter, doubtOf, doubtAfter, nearestTo, lookupStart, lookupReply, lookupFailure}
 use Rattle.flat.specs.Flat.{peerSize, connSize, peerIn, connIn, saysYes, connBytes}
 use Rattle.flat_lookup.specs.FlatLookup.{flatSize, lookupIn}
 use Rattle.host_numbers.specs.Numbers.{toldCode, viewIn}
-use Rattle.contact_calls.specs.Calls.{seenNumber, settleNumber, removeNumber}
+use Rattle.contact_calls.specs.Calls.{seenNumber, settleNumber, removeNumber, doubtNumber}
 use Rattle.host_answers.specs.Answers.{seenNumbers, nearestNumbers}
 use Rattle.host_state.specs.State.{boxAfter, endingCode, endedMemory, answerNumber, receivedNumbers, receivedMemory, nothingTaken}
 use Rattle.lookup_in_place.specs.InPlace.{stepMemory, startedMemory}
@@ -78,6 +78,12 @@ removeCode me t id = lent peerSize me 0 (removeNumber (removeOf (peerIn me) t id
 
 abbrev pub removeContacts : List ℕ → List ℕ → List ℕ → List ℕ
 removeContacts me t id = lent peerSize me t (removeAfter (peerIn me) t id)
+
+abbrev pub doubtCode : List ℕ → List ℕ → List ℕ → ℕ
+doubtCode me t id = lent peerSize me 0 (doubtNumber (doubtOf (peerIn me) t id))
+
+abbrev pub doubtContacts : List ℕ → List ℕ → List ℕ → List ℕ
+doubtContacts me t id = lent peerSize me t (doubtAfter (peerIn me) t id)
 
 abbrev pub nearestCode : List ℕ → List ℕ → List ℕ → ℕ
 nearestCode me t key = lent peerSize me 0 (toldCode (nearestTo (peerIn me) t key .told))

@@ -9,7 +9,7 @@ ghost use Rattle.writer.specs.Writer.{messageWith, answerOf, outAfter};
 ghost use Rattle.host_answers.specs.Answers.{putNumber, findNumber, findNumbers, readNumber, readNumbers, entryFrom, addressFrom, partNumber, peerNumbers, addressNumbers};
 ghost use Rattle.host_answers.specs.Answers.{writeNumber, writeNumbers};
 ghost use Rattle.host.specs.Host.{startCode, startMemory, openCode, openMemory, endCode, endMemory, seenCode, seenContacts, seenOut, settleCode, settleContacts};
-ghost use Rattle.host.specs.Host.{removeCode, removeContacts, nearestCode, nearestOut, Receives, Begins, Nexts, Replies, Fails};
+ghost use Rattle.host.specs.Host.{removeCode, removeContacts, doubtCode, doubtContacts, nearestCode, nearestOut, Receives, Begins, Nexts, Replies, Fails};
 
 // ---- the box and its connections
 
@@ -156,7 +156,21 @@ pub extern "C" fn starterbell_remove(me: &[u8], contacts: &mut [u8], id: &[u8]) 
     host_answers::remove_answer(o)
 }
 
-// The contacts nearest to a key. 64, or a refusal. How many there are and twenty slots go to out, nearest first, with zeros after the last. In C:
+// Marks a contact as doubtful: the nearest pass over it until it is seen or answers a probe. 64, or a refusal. In C:
+//
+//     uint32_t starterbell_doubt(const uint8_t *me, size_t me_length, uint8_t *contacts, size_t contacts_length, const uint8_t *id, size_t id_length);
+#[no_mangle]
+pub extern "C" fn starterbell_doubt(me: &[u8], contacts: &mut [u8], id: &[u8]) -> u32
+    ensures { λ r. ⌜ (r ≡ doubtCode (now (me .entry)) (now (contacts .entry)) (now (id .entry))) × (now (contacts .exit) ≡ doubtContacts (now (me .entry)) (now (contacts .entry)) (now (id .entry))) ⌝ }
+{
+    if me.len() < flat::PEER {
+        return 0;
+    }
+    let o = host_calls::doubt(flat::peer_in(me), contacts, id);
+    host_answers::doubt_answer(o)
+}
+
+// Of the contacts that aren't doubtful, those nearest to a key. 64, or a refusal. How many there are and twenty slots go to out, nearest first, with zeros after the last. In C:
 //
 //     uint32_t starterbell_nearest(const uint8_t *me, size_t me_length, const uint8_t *contacts, size_t contacts_length, const uint8_t *key, size_t key_length,
 //         uint64_t *out, size_t out_length);

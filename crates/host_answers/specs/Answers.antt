@@ -25,7 +25,7 @@ use Rattle.flat.specs.Flat.{saysYes}
 use Rattle.host_numbers.specs.Numbers.{unlessRefused, viewNumbers}
 
 -- ---- contacts
--- seen, settle and remove have their numbers in contact_calls (specs/Calls). Of seen, the slot goes to out
+-- seen, settle, remove and doubt have their numbers in contact_calls (specs/Calls). Of seen, the slot goes to out
 abbrev pub seenNumbers : List ℕ → SeenOutcome → List ℕ
 seenNumbers out (seen.Moved i) = sets out 0 (i ∷ [])
 seenNumbers out (seen.Joined i) = sets out 0 (i ∷ [])

@@ -1,4 +1,5 @@
 // What a call on contacts, records or messages answers, as a number and the numbers that go to `out`, for the functions that C and Rust programs link (crates/host).
+use contact_calls::DoubtOutcome;
 use contact_calls::RemoveOutcome;
 use contact_calls::SeenOutcome;
 use contact_calls::SettleOutcome;
@@ -11,7 +12,7 @@ use wire::Span;
 use writer::Written;
 ghost use mathlib.Core.Path.{_≡_};
 ghost use Rattle.host_numbers.specs.Numbers.{toldCode};
-ghost use Rattle.contact_calls.specs.Calls.{seenNumber, settleNumber, removeNumber};
+ghost use Rattle.contact_calls.specs.Calls.{seenNumber, settleNumber, removeNumber, doubtNumber};
 ghost use Rattle.host_answers.specs.Answers.{seenNumbers, nearestNumbers, putNumber, findNumber, findNumbers, readNumber, readNumbers};
 ghost use Rattle.host_answers.specs.Answers.{entryFrom, laterOf, addressFrom, partNumber, peerNumbers, addressNumbers, writeNumber, writeNumbers};
 
@@ -56,6 +57,16 @@ pub fn remove_answer(o: RemoveOutcome) -> u32
     match o {
         RemoveOutcome::Gone => 64,
         RemoveOutcome::Refused(r) => host_numbers::code_of(r),
+    }
+}
+
+// 64 marked, or a refusal.
+pub fn doubt_answer(o: DoubtOutcome) -> u32
+    ensures { λ r. ⌜ r ≡ doubtNumber o ⌝ }
+{
+    match o {
+        DoubtOutcome::Marked => 64,
+        DoubtOutcome::Refused(r) => host_numbers::code_of(r),
     }
 }
 

@@ -13,10 +13,10 @@ use Rattle.replies.specs.Verdicts.{keyFits}
 use Rattle.connections.specs.Box.{ownFits}
 use Rattle.connections.specs.declared.Told.the-variants.{Fine, Refused}
 use Rattle.host_calls.specs.declared.Nearby.{Nearby}
-unfoldable pub use Rattle.host_contacts.specs.Contacts.{seenOf, seenAfter, settleOf, settleAfter, removeOf, removeAfter}
+unfoldable pub use Rattle.host_contacts.specs.Contacts.{seenOf, seenAfter, settleOf, settleAfter, removeOf, removeAfter, doubtOf, doubtAfter}
 unfoldable pub use Rattle.host_lookups.specs.Lookups.{ownId, lookupStart, lookupReply, lookupFailure}
 
--- the nearest contacts to a key: 0, 8 unless it has 1 to 128 bytes, 12
+-- of the contacts that aren't doubtful, those nearest to a key: 0, 8 unless it has 1 to 128 bytes, 12
 abbrev pub noneNear : Refusal → Nearby
 noneNear r = record { closest = record { at = replicate nearestCount 0; n = 0 }; told = Refused r }
 

@@ -2,6 +2,7 @@
 // Every function takes any numbers and any buffers, and refuses by number.
 use connections::Told;
 use contacts::Closest;
+pub use host_contacts::doubt;
 pub use host_contacts::remove;
 pub use host_contacts::seen;
 pub use host_contacts::settle;
@@ -18,7 +19,7 @@ pub use writer::write;
 ghost use mathlib.Core.Path.{_≡_};
 ghost use Rattle.host_calls.specs.Hosts.{noneNear, nearestTo};
 
-// The contacts nearest to a key; none where the call was refused.
+// Of the contacts that aren't doubtful, those nearest to a key; none where the call was refused.
 pub struct Nearby {
     pub closest: Closest,
     pub told: Told,
@@ -34,7 +35,7 @@ fn none_near(r: Refusal) -> Nearby
     Nearby { closest, told }
 }
 
-// The contacts nearest to a key.
+// Of the contacts that aren't doubtful, those nearest to a key.
 pub fn nearest(me: Peer, contacts: &[u8], key: &[u8]) -> Nearby
     ensures { λ r. ⌜ r ≡ nearestTo me (now (contacts .entry)) (now (key .entry)) ⌝ }
 {

@@ -15,9 +15,11 @@ use Rattle.contact_calls.specs.declared.SettleOutcome.{SettleOutcome}
 use Rattle.contact_calls.specs.declared.SettleOutcome.the-variants as settle
 use Rattle.contact_calls.specs.declared.RemoveOutcome.{RemoveOutcome}
 use Rattle.contact_calls.specs.declared.RemoveOutcome.the-variants as remove
-use Rattle.contact_calls.specs.Calls.{seenCall, seenCallTable, settleCall, settleCallTable, removeCall, removeCallTable}
+use Rattle.contact_calls.specs.declared.DoubtOutcome.{DoubtOutcome}
+use Rattle.contact_calls.specs.declared.DoubtOutcome.the-variants as doubt
+use Rattle.contact_calls.specs.Calls.{seenCall, seenCallTable, settleCall, settleCallTable, removeCall, removeCallTable, doubtCall, doubtCallTable}
 use Rattle.connections.specs.Box.{ownFits}
-use Rattle.host_contacts.specs.Contacts.{gated, seenOf, seenAfter, settleOf, settleAfter, removeOf, removeAfter}
+use Rattle.host_contacts.specs.Contacts.{gated, seenOf, seenAfter, settleOf, settleAfter, removeOf, removeAfter, doubtOf, doubtAfter}
 use Rattle.host_contacts.specs.Inner.{refusalOfBox}
 
 -- ---- a box that no start gives
@@ -93,3 +95,19 @@ module _ (me : Peer) (t id : List ℕ) where
   unfolding removeOf removeAfter
   remove-on r u h e =
       (e .0 ∙ box-on me t (remove.Refused OutOfForm) (remove.Refused BadPeer) (removeCall t (me .place) id) h remove-zero, e .1 ∙ sym (cond-yes (ownFits me) _ t h))
+
+-- ---- doubt
+module _ (me : Peer) (t id : List ℕ) where
+  pub doubt-off : (x : Refusal) → ownFits me ≡ false → x ≡ refusalOfBox t (me .place) → (doubt.Refused x ≡ doubtOf me t id) × (t ≡ doubtAfter me t id)
+  unfolding doubtOf doubtAfter
+  doubt-off x h e = (box-off me t doubt.Refused (doubtCall t (me .place) id) x h e, sym (cond-no (ownFits me) _ t h))
+
+  doubt-zero : inForm t (me .place) ≡ false → doubtCall t (me .place) id ≡ doubt.Refused OutOfForm
+  unfolding doubtCall
+  doubt-zero h = cond-yes (not (inForm t (me .place))) _ _ (ap not h)
+
+  pub doubt-on : (r : DoubtOutcome) (u : List ℕ) → ownFits me ≡ true → (r ≡ doubtCall t (me .place) id) × (u ≡ doubtCallTable t (me .place) id)
+      → (r ≡ doubtOf me t id) × (u ≡ doubtAfter me t id)
+  unfolding doubtOf doubtAfter
+  doubt-on r u h e =
+      (e .0 ∙ box-on me t (doubt.Refused OutOfForm) (doubt.Refused BadPeer) (doubtCall t (me .place) id) h doubt-zero, e .1 ∙ sym (cond-yes (ownFits me) _ t h))

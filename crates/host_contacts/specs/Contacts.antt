@@ -1,4 +1,4 @@
--- The host's calls on contacts, for a box: document 01, 'Distance and contacts'. As in contact_calls, and 12 where the box handed in has an id that no
+-- The host's calls on contacts, for a box: document 01, 'Distance and contacts', and doubt: document 02, x. As in contact_calls, and 12 where the box handed in has an id that no
 -- start gives, in the order of the refusal numbers.
 use Prim.Native.Nat.{ℕ}
 use mathlib.Core.Bool.{Bool, cond, not}
@@ -12,7 +12,9 @@ use Rattle.contact_calls.specs.declared.SettleOutcome.{SettleOutcome}
 use Rattle.contact_calls.specs.declared.SettleOutcome.the-variants as settle
 use Rattle.contact_calls.specs.declared.RemoveOutcome.{RemoveOutcome}
 use Rattle.contact_calls.specs.declared.RemoveOutcome.the-variants as remove
-use Rattle.contact_calls.specs.Calls.{seenCall, seenCallTable, settleCall, settleCallTable, removeCall, removeCallTable}
+use Rattle.contact_calls.specs.declared.DoubtOutcome.{DoubtOutcome}
+use Rattle.contact_calls.specs.declared.DoubtOutcome.the-variants as doubt
+use Rattle.contact_calls.specs.Calls.{seenCall, seenCallTable, settleCall, settleCallTable, removeCall, removeCallTable, doubtCall, doubtCallTable}
 use Rattle.connections.specs.Box.{ownFits}
 
 -- 0, then 12
@@ -37,3 +39,9 @@ removeOf me t id = gated me t (remove.Refused OutOfForm) (remove.Refused BadPeer
 
 unfoldable pub removeAfter : Peer → List ℕ → List ℕ → List ℕ
 removeAfter me t id = cond (ownFits me) (removeCallTable t (me .place) id) t
+
+unfoldable pub doubtOf : Peer → List ℕ → List ℕ → DoubtOutcome
+doubtOf me t id = gated me t (doubt.Refused OutOfForm) (doubt.Refused BadPeer) (doubtCall t (me .place) id)
+
+unfoldable pub doubtAfter : Peer → List ℕ → List ℕ → List ℕ
+doubtAfter me t id = cond (ownFits me) (doubtCallTable t (me .place) id) t

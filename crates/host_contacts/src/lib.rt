@@ -1,12 +1,13 @@
 // The host's calls on contacts, for a box: as in contact_calls, and refused where no start gives such a box. Every function takes any numbers and any
 // buffers, and refuses by number.
+use contact_calls::DoubtOutcome;
 use contact_calls::RemoveOutcome;
 use contact_calls::SeenOutcome;
 use contact_calls::SettleOutcome;
 use peer::Peer;
 use refusal::Refusal;
 ghost use mathlib.Core.Path.{_≡_};
-ghost use Rattle.host_contacts.specs.Contacts.{seenOf, seenAfter, settleOf, settleAfter, removeOf, removeAfter};
+ghost use Rattle.host_contacts.specs.Contacts.{seenOf, seenAfter, settleOf, settleAfter, removeOf, removeAfter, doubtOf, doubtAfter};
 ghost use Rattle.host_contacts.specs.Inner.{refusalOfBox};
 
 // What a call on the contacts gives a box that no start gives: 0, then 12.
@@ -58,4 +59,15 @@ pub fn remove(me: Peer, contacts: &mut [u8], id: &[u8]) -> RemoveOutcome
         return RemoveOutcome::Refused(refusal_of_box(contacts, &ours));
     }
     contact_calls::remove(contacts, &ours, id)
+}
+
+// Marks a contact as doubtful.
+pub fn doubt(me: Peer, contacts: &mut [u8], id: &[u8]) -> DoubtOutcome
+    ensures { λ r. ⌜ (r ≡ doubtOf me (now (contacts .entry)) (now (id .entry))) × (now (contacts .exit) ≡ doubtAfter me (now (contacts .entry)) (now (id .entry))) ⌝ }
+{
+    let ours = me.place;
+    if !connections::own_fits(me) {
+        return DoubtOutcome::Refused(refusal_of_box(contacts, &ours));
+    }
+    contact_calls::doubt(contacts, &ours, id)
 }

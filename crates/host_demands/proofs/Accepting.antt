@@ -326,6 +326,7 @@ module _ (me : List ℕ) (S : Started me) where
     call-fine (host.seen id client addresses) key v c = unbeaten-none key v (m .records) (h .offers)
     call-fine (host.settle head id client addresses answered) key v c = unbeaten-none key v (m .records) (h .offers)
     call-fine (host.remove id) key v c = unbeaten-none key v (m .records) (h .offers)
+    call-fine (host.doubt id) key v c = unbeaten-none key v (m .records) (h .offers)
     call-fine (host.nearest k) key v c = unbeaten-none key v (m .records) (h .offers)
     call-fine (host.lookupStarts j k limit) key v c = unbeaten-none key v (m .records) (h .offers)
     call-fine (host.lookupNext j) key v c = unbeaten-none key v (m .records) (h .offers)

@@ -53,6 +53,7 @@ sort (host.find key) = 2
 sort (host.seen id client addresses) = 2
 sort (host.settle head id client addresses answered) = 2
 sort (host.remove id) = 2
+sort (host.doubt id) = 2
 sort (host.nearest key) = 2
 sort (host.lookupStarts j key limit) = 2
 sort (host.lookupNext j) = 2
@@ -208,6 +209,7 @@ module _ (me : List ℕ) (S : Started me) where
     adds-one (host.seen id client addresses) = idle _ refl refl
     adds-one (host.settle head id client addresses answered) = idle _ refl refl
     adds-one (host.remove id) = idle _ refl refl
+    adds-one (host.doubt id) = idle _ refl refl
     adds-one (host.nearest k) = idle _ refl refl
     adds-one (host.lookupStarts j k limit) = idle _ refl refl
     adds-one (host.lookupNext j) = idle _ refl refl
@@ -247,6 +249,7 @@ module _ (me : List ℕ) (S : Started me) where
   quiet-call m (host.seen id client addresses) n = (n, tt)
   quiet-call m (host.settle head id client addresses answered) n = (n, tt)
   quiet-call m (host.remove id) n = (n, tt)
+  quiet-call m (host.doubt id) n = (n, tt)
   quiet-call m (host.nearest k) n = (n, tt)
   quiet-call m (host.lookupStarts j k limit) n = (n, tt)
   quiet-call m (host.lookupNext j) n = (n, tt)

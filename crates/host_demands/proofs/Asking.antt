@@ -16,13 +16,13 @@ use Rattle.cutting.specs.World.{World, asked, call}
 use Rattle.flat.specs.Flat.{peerSize, peerIn, saysYes}
 use Rattle.flat_lookup.specs.FlatLookup.{flatSize, lookupIn}
 use Rattle.host_calls.specs.declared.Nearby.{Nearby}
-use Rattle.host_calls.specs.Hosts.{ownId, seenOf, seenAfter, settleOf, settleAfter, removeOf, removeAfter, nearestTo, lookupStart, lookupReply, lookupFailure}
+use Rattle.host_calls.specs.Hosts.{ownId, seenOf, seenAfter, settleOf, settleAfter, removeOf, removeAfter, doubtOf, doubtAfter, nearestTo, lookupStart, lookupReply, lookupFailure}
 use Rattle.host_numbers.specs.Numbers.{toldCode, viewNumbers, viewIn}
-use Rattle.contact_calls.specs.Calls.{seenNumber, settleNumber, removeNumber}
+use Rattle.contact_calls.specs.Calls.{seenNumber, settleNumber, removeNumber, doubtNumber}
 use Rattle.host_answers.specs.Answers.{seenNumbers, nearestNumbers}
 use Rattle.lookup_in_place.specs.InPlace.{stepMemory, startedMemory}
 use Rattle.host_steps.specs.Steps.{stepNumber, stepNumbers}
-use Rattle.host.specs.Host.{lent, tooShort, seenContacts, settleContacts, removeContacts}
+use Rattle.host.specs.Host.{lent, tooShort, seenContacts, settleContacts, removeContacts, doubtContacts}
 use Rattle.demands.specs.Box as box
 use Rattle.demands.specs.Box.{Box, Who, Ask}
 use Rattle.host_demands.specs.Calls as calls
@@ -100,6 +100,16 @@ module _ (me : List ℕ) (S : Started me) (m : Memory) (h : History) (len : Lent
         lent = contacts-lent (removeContacts me (m .contacts) id);
         stands = contacts-stand _ _ _ _ (enough (m .contacts) (removeAfter us (m .contacts) id));
         log = one-seen (box.removeGave (removeOf us (m .contacts) id)) _ (ap onlyNumber (enough 0 (removeNumber (removeOf us (m .contacts) id))));
+        order = refl;
+      }
+
+  pub doubt-follows : (id : List ℕ) → Follows me m world (calls.doubt id)
+  unfolding call
+  doubt-follows id =
+      record {
+        lent = contacts-lent (doubtContacts me (m .contacts) id);
+        stands = contacts-stand _ _ _ _ (enough (m .contacts) (doubtAfter us (m .contacts) id));
+        log = one-seen (box.doubtGave (doubtOf us (m .contacts) id)) _ (ap onlyNumber (enough 0 (doubtNumber (doubtOf us (m .contacts) id))));
         order = refl;
       }
 

@@ -14,7 +14,9 @@ use Rattle.contact_calls.specs.declared.SeenOutcome.the-variants as seen
 use Rattle.contact_calls.specs.declared.SettleOutcome.{SettleOutcome}
 use Rattle.contact_calls.specs.declared.SettleOutcome.the-variants as settle
 use Rattle.contact_calls.specs.declared.RemoveOutcome.{RemoveOutcome}
+use Rattle.contact_calls.specs.declared.DoubtOutcome.{DoubtOutcome}
 use Rattle.contact_calls.specs.declared.RemoveOutcome.the-variants as remove
+use Rattle.contact_calls.specs.declared.DoubtOutcome.the-variants as doubt
 use Rattle.records.specs.declared.Answer as stored
 use Rattle.records.specs.declared.Answer.the-variants as put
 use Rattle.records.specs.declared.Found.{Found}
@@ -38,7 +40,7 @@ use Rattle.flat.specs.Flat.{peerSize, peerIn, saysYes}
 use Rattle.flat_lookup.specs.FlatLookup.{flatSize, lookupIn}
 use Rattle.host_calls.specs.Hosts.{ownId, lookupStart, lookupReply, lookupFailure}
 use Rattle.host_numbers.specs.Numbers.{toldCode, viewNumbers, viewIn}
-use Rattle.contact_calls.specs.Calls.{seenNumber, settleNumber, removeNumber}
+use Rattle.contact_calls.specs.Calls.{seenNumber, settleNumber, removeNumber, doubtNumber}
 use Rattle.host_answers.specs.Answers.{putNumber, findNumber}
 use Rattle.host_state.specs.State.{endingCode, answerNumber}
 use Rattle.host_steps.specs.Steps.{stepNumber}
@@ -70,6 +72,10 @@ settle-zero (settle.Refused r) e = ap settle.Refused (number-zero r e)
 remove-zero : (x : RemoveOutcome) → removeNumber x ≡ 0 → x ≡ remove.Refused OutOfForm
 remove-zero remove.Gone e = absurd (omega (arith, e))
 remove-zero (remove.Refused r) e = ap remove.Refused (number-zero r e)
+
+doubt-zero : (x : DoubtOutcome) → doubtNumber x ≡ 0 → x ≡ doubt.Refused OutOfForm
+doubt-zero doubt.Marked e = absurd (omega (arith, e))
+doubt-zero (doubt.Refused r) e = ap doubt.Refused (number-zero r e)
 
 told-zero : (x : Told) → toldCode x ≡ 0 → x ≡ told.Refused OutOfForm
 told-zero told.Fine e = absurd (omega (arith, e))
@@ -135,6 +141,7 @@ module _ (me : List ℕ) (S : Started me) where
         seen = λ id client addresses e. never .seen a id (saysYes client) (r .good) (seen-zero _ (sym (enough 0 _) ∙ e));
         settle = λ head id client addresses answered e. never .settle a head id (saysYes client) (saysYes answered) (r .good) (settle-zero _ (sym (enough 0 _) ∙ e));
         remove = λ id e. never .remove a id (r .good) (remove-zero _ (sym (enough 0 _) ∙ e));
+        doubt = λ id e. never .doubt a id (r .good) (doubt-zero _ (sym (enough 0 _) ∙ e));
         nearest = λ key e. never .nearest a key (r .good) (told-zero _ (sym (enough 0 _) ∙ e));
         start = λ j key limit e. never .start a key limit (r .good) (step-zero _ (sym (long-enough me S m h len j 0 _) ∙ e));
       }

@@ -23,8 +23,8 @@ use Rattle.node.specs.Node.{Out}
 use Rattle.node_promises.specs.Promises.{Unchanged}
 use Rattle.flat.specs.Flat.{peerSize, connSize, peerIn, connIn, saysYes}
 use Rattle.flat_lookup.specs.FlatLookup.{flatSize, lookupIn, lookupBytes}
-use Rattle.host_calls.specs.Hosts.{ownId, seenOf, seenAfter, settleOf, settleAfter, removeOf, removeAfter, lookupStart}
-use Rattle.contact_calls.specs.Calls.{seenNumber, settleNumber, removeNumber}
+use Rattle.host_calls.specs.Hosts.{ownId, seenOf, seenAfter, settleOf, settleAfter, removeOf, removeAfter, doubtOf, doubtAfter, lookupStart}
+use Rattle.contact_calls.specs.Calls.{seenNumber, settleNumber, removeNumber, doubtNumber}
 use Rattle.host_answers.specs.Answers.{putNumber}
 use Rattle.host_state.specs.State.{answerNumber}
 use Rattle.lookup_in_place.specs.InPlace.{stepMemory, isRefused}
@@ -98,6 +98,9 @@ module _ (me : List ℕ) (m : Memory) where
   remove-kept : (id : List ℕ) → removeNumber (removeOf us (m .contacts) id) < 64 → removeAfter us (m .contacts) id ≡ m .contacts
   remove-kept id = leaving .calls .removes us (m .contacts) id
 
+  doubt-kept : (id : List ℕ) → doubtNumber (doubtOf us (m .contacts) id) < 64 → doubtAfter us (m .contacts) id ≡ m .contacts
+  doubt-kept id = leaving .calls .doubts us (m .contacts) id
+
   -- ---- lookups
   step-kept : (x : List ℕ) (s : Step) → stepNumber (s .answer) < 64 → stepMemory x s ≡ x
   step-kept x s h = go (s .answer) h
@@ -166,6 +169,8 @@ refused-keeps me m (host.settle head id client addresses answered) h =
     }
 refused-keeps me m (host.remove id) h =
     record { contacts = lent-kept peerSize me (m .contacts) _ _ h (remove-kept me m id); records = refl; reply = refl; lookups = λ j e. refl }
+refused-keeps me m (host.doubt id) h =
+    record { contacts = lent-kept peerSize me (m .contacts) _ _ h (doubt-kept me m id); records = refl; reply = refl; lookups = λ j e. refl }
 refused-keeps me m (host.nearest key) h = record { contacts = refl; records = refl; reply = refl; lookups = λ j e. refl }
 refused-keeps me m (host.lookupStarts j key limit) h = record { contacts = refl; records = refl; reply = refl; lookups = λ k e. other-lookup me m j _ key limit k (λ q. e key limit q) }
 refused-keeps me m (host.lookupNext j) h =

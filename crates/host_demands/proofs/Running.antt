@@ -12,7 +12,7 @@ use Rattle.host_demands.specs.Calls.{Memory, History, Lent, Seen, Export
 use Rattle.host_demands.specs.Hosted.{Started, ReadyFor, Follows, OneCall, FollowsAll, AllCalls}
 use Rattle.host_demands.proofs.Receiving.{receive-follows}
 use Rattle.host_demands.proofs.Turning.{open-follows, end-follows}
-use Rattle.host_demands.proofs.Asking.{put-follows, find-follows, seen-follows, settle-follows, remove-follows, nearest-follows, start-follows, next-follows, reply-follows, heard-follows, failure-follows}
+use Rattle.host_demands.proofs.Asking.{put-follows, find-follows, seen-follows, settle-follows, remove-follows, doubt-follows, nearest-follows, start-follows, next-follows, reply-follows, heard-follows, failure-follows}
 
 module _ (me : List ℕ) (S : Started me) where
   -- ---- one call
@@ -25,6 +25,7 @@ module _ (me : List ℕ) (S : Started me) where
   follows m h (host.seen id client addresses) l r = seen-follows me S m h l id client addresses
   follows m h (host.settle head id client addresses answered) l r = settle-follows me S m h l head id client addresses answered
   follows m h (host.remove id) l r = remove-follows me S m h l id
+  follows m h (host.doubt id) l r = doubt-follows me S m h l id
   follows m h (host.nearest key) l r = nearest-follows me S m h l key
   follows m h (host.lookupStarts j key limit) l r = start-follows me S m h l j key limit
   follows m h (host.lookupNext j) l r = next-follows me S m h l j

@@ -277,6 +277,7 @@ others-stay me m (host.find key) i h = record { conn = refl; buffer = refl; take
 others-stay me m (host.seen id client addresses) i h = record { conn = refl; buffer = refl; taken = refl }
 others-stay me m (host.settle head id client addresses answered) i h = record { conn = refl; buffer = refl; taken = refl }
 others-stay me m (host.remove id) i h = record { conn = refl; buffer = refl; taken = refl }
+others-stay me m (host.doubt id) i h = record { conn = refl; buffer = refl; taken = refl }
 others-stay me m (host.nearest key) i h = record { conn = refl; buffer = refl; taken = refl }
 others-stay me m (host.lookupStarts j key limit) i h = record { conn = refl; buffer = refl; taken = refl }
 others-stay me m (host.lookupNext j) i h = record { conn = refl; buffer = refl; taken = refl }

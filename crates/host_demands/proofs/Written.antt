@@ -112,6 +112,7 @@ module _ (me : List ℕ) (S : Started me) where
     step-apart (host.seen id client addresses) i xs = λ f. refl
     step-apart (host.settle head id client addresses answered) i xs = λ f. refl
     step-apart (host.remove id) i xs = λ f. refl
+    step-apart (host.doubt id) i xs = λ f. refl
     step-apart (host.nearest key) i xs = λ f. refl
     step-apart (host.lookupStarts j key limit) i xs = λ f. refl
     step-apart (host.lookupNext j) i xs = λ f. refl
@@ -133,6 +134,7 @@ module _ (me : List ℕ) (S : Started me) where
     step-plain (host.seen id client addresses) i p = p
     step-plain (host.settle head id client addresses answered) i p = p
     step-plain (host.remove id) i p = p
+    step-plain (host.doubt id) i p = p
     step-plain (host.nearest key) i p = p
     step-plain (host.lookupStarts j key limit) i p = p
     step-plain (host.lookupNext j) i p = p
@@ -159,6 +161,7 @@ module _ (me : List ℕ) (S : Started me) where
       lookups-wrote (host.seen id client addresses) j = wrote j
       lookups-wrote (host.settle head id client addresses answered) j = wrote j
       lookups-wrote (host.remove id) j = wrote j
+      lookups-wrote (host.doubt id) j = wrote j
       lookups-wrote (host.nearest key) j = wrote j
       lookups-wrote (host.lookupStarts k key limit) j =
           lookup-here j k _

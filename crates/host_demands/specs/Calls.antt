@@ -21,7 +21,7 @@ use Rattle.host_calls.specs.Hosts.{lookupStart, lookupReply, lookupFailure}
 use Rattle.flat.specs.Flat.{connSize, peerIn, connIn, saysYes}
 use Rattle.flat_lookup.specs.FlatLookup.{flatSize, lookupIn}
 use Rattle.host_numbers.specs.Numbers.{toldCode, viewNumbers, viewIn}
-use Rattle.contact_calls.specs.Calls.{seenNumber, settleNumber, removeNumber}
+use Rattle.contact_calls.specs.Calls.{seenNumber, settleNumber, removeNumber, doubtNumber}
 use Rattle.host_answers.specs.Answers.{seenNumbers, nearestNumbers, putNumber, findNumber, findNumbers}
 use Rattle.host_state.specs.State.{endingCode, answerNumber, answerLength, sightNumber, sightSlot, receivedNumbers, receivedMemory, nothingTaken}
 use Rattle.lookup_in_place.specs.InPlace.{stepMemory, startedMemory}
@@ -54,6 +54,7 @@ pub data Export : Type 0 where
   seen : (id : List ℕ) → (client : ℕ) → (addresses : List ℕ) → Export
   settle : (head id : List ℕ) → (client : ℕ) → (addresses : List ℕ) → (answered : ℕ) → Export
   remove : (id : List ℕ) → Export
+  doubt : (id : List ℕ) → Export
   nearest : (key : List ℕ) → Export
   lookupStarts : (j : ℕ) → (key : List ℕ) → (limit : ℕ) → Export
   lookupNext : (j : ℕ) → Export
@@ -208,6 +209,7 @@ module _ (me : List ℕ) where
   returns m (seen id client addresses) = host.seenCode me (m .contacts) id client
   returns m (settle head id client addresses answered) = host.settleCode me (m .contacts) head id client answered
   returns m (remove id) = host.removeCode me (m .contacts) id
+  returns m (doubt id) = host.doubtCode me (m .contacts) id
   returns m (nearest key) = host.nearestCode me (m .contacts) key
   returns m (lookupStarts j key limit) = cond (host.tooShort me (m .lookups j)) 0 (stepNumber (startStep m key limit .answer))
   returns m (lookupNext j) = host.lent flatSize (m .lookups j) 0 (stepNumber (nextStep m j .answer))
@@ -225,6 +227,7 @@ module _ (me : List ℕ) where
   leaves m (seen id client addresses) = withContacts m (host.seenContacts me (m .contacts) id client addresses)
   leaves m (settle head id client addresses answered) = withContacts m (host.settleContacts me (m .contacts) head id client addresses answered)
   leaves m (remove id) = withContacts m (host.removeContacts me (m .contacts) id)
+  leaves m (doubt id) = withContacts m (host.doubtContacts me (m .contacts) id)
   leaves m (nearest key) = m
   leaves m (lookupStarts j key limit) =
       withLookup m j (cond (host.tooShort me (m .lookups j)) (m .lookups j) (startedMemory (m .lookups j) (startStep m key limit)))
@@ -246,6 +249,7 @@ module _ (me : List ℕ) where
   writes m (seen id client addresses) out = host.seenOut me (m .contacts) id client out
   writes m (settle head id client addresses answered) out = out
   writes m (remove id) out = out
+  writes m (doubt id) out = out
   writes m (nearest key) out = host.nearestOut me (m .contacts) key out
   writes m (lookupStarts j key limit) out = cond (host.tooShort me (m .lookups j)) out (stepNumbers out (startStep m key limit))
   writes m (lookupNext j) out = host.lent flatSize (m .lookups j) out (stepNumbers out (nextStep m j))
@@ -275,6 +279,7 @@ module _ (me : List ℕ) where
   seesOf m (seen id client addresses) = sees m (seen id client addresses) ∷ []
   seesOf m (settle head id client addresses answered) = sees m (settle head id client addresses answered) ∷ []
   seesOf m (remove id) = sees m (remove id) ∷ []
+  seesOf m (doubt id) = sees m (doubt id) ∷ []
   seesOf m (nearest key) = sees m (nearest key) ∷ []
   seesOf m (lookupStarts j key limit) = sees m (lookupStarts j key limit) ∷ []
   seesOf m (lookupNext j) = sees m (lookupNext j) ∷ []
@@ -292,6 +297,7 @@ module _ (me : List ℕ) where
   meant m (seen id client addresses) = asks (box.seen id (saysYes client) addresses)
   meant m (settle head id client addresses answered) = asks (box.settle head id (saysYes client) addresses (saysYes answered))
   meant m (remove id) = asks (box.remove id)
+  meant m (doubt id) = asks (box.doubt id)
   meant m (nearest key) = asks (box.nearest key)
   meant m (lookupStarts j key limit) = asks (box.start j key limit)
   meant m (lookupNext j) = asks (box.next j)
@@ -387,6 +393,7 @@ resultSeen (box.findGave f) = told (findNumber f) (λ out. findNumbers out f)
 resultSeen (box.seenGave o) = told (seenNumber o) (λ out. seenNumbers out o)
 resultSeen (box.settleGave o) = onlyNumber (settleNumber o)
 resultSeen (box.removeGave o) = onlyNumber (removeNumber o)
+resultSeen (box.doubtGave o) = onlyNumber (doubtNumber o)
 resultSeen (box.nearestGave n) = told (toldCode (n .told)) (λ out. nearestNumbers out n)
 resultSeen (box.stepGave s) = told (stepNumber (s .answer)) (λ out. stepNumbers out s)
 

@@ -209,6 +209,7 @@ module _ (me : List ℕ) where
     pub seen : (id : List ℕ) (client : ℕ) (addresses : List ℕ) → returns me m (host.seen id client addresses) ≡ 0 → ⊥
     pub settle : (head id : List ℕ) (client : ℕ) (addresses : List ℕ) (answered : ℕ) → returns me m (host.settle head id client addresses answered) ≡ 0 → ⊥
     pub remove : (id : List ℕ) → returns me m (host.remove id) ≡ 0 → ⊥
+    pub doubt : (id : List ℕ) → returns me m (host.doubt id) ≡ 0 → ⊥
     pub nearest : (key : List ℕ) → returns me m (host.nearest key) ≡ 0 → ⊥
     pub start : (j : ℕ) (key : List ℕ) (limit : ℕ) → returns me m (host.lookupStarts j key limit) ≡ 0 → ⊥
 

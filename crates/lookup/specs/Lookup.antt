@@ -229,7 +229,7 @@ noLookup =
       turned = false;
     }
 
--- "the 20 nearest contacts as idle candidates"
+-- "the 20 nearest contacts as idle candidates", the doubtful passed over
 unfoldable pub firstOnes : List ℕ → List ℕ → List Candidate
 firstOnes t target = map (contactAt t) (nearestSlots t target)
 

@@ -629,7 +629,7 @@ fn put_lookup(
     }
 }
 
-// A lookup with the nearest contacts as candidates.
+// A lookup with the nearest of the contacts that aren't doubtful as candidates.
 fn begin(m: &mut [u8], table: &[u8], key: &[u8], limit: usize)
     requires { ⌜ (flatSize ≤ length (now m)) × (length (now key) ≤ 128) × (limit ≤ 10) ⌝ }
     ensures { λ _. ⌜ (now (m .exit) ≡ sets (now (m .entry)) 0 (lookupBytes (begun (now (table .entry)) (now (key .entry)) limit))) × (lookupIn (now (m .exit)) ≡ begun (now (table .entry)) (now (key .entry)) limit) ⌝ }

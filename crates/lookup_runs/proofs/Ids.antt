@@ -18,7 +18,7 @@ use Rattle.contacts.specs.Contact.{entryId}
 use Rattle.contacts.specs.Form.{inForm as inFormTable}
 use Rattle.contacts.specs.Near.{nearestSlots}
 use Rattle.contact_form.proofs.EntryFacts.{entry-id-most}
-use Rattle.contacts.proofs.TwentyNearest.{nearest-are}
+use Rattle.contacts.proofs.TwentyNearest.{nearest-held}
 use Rattle.lookup_marks.specs.Marks.{flying, answered, failed}
 use Rattle.lookup.specs.Lists.{anyIn}
 use Rattle.lookup.specs.Lookup.{idMost, candidatesOf, mark, idFits, fresh, heardIds, contactAt, firstOnes, begun}
@@ -88,7 +88,7 @@ module _ (t key : List ℕ) where
         (at-any (λ k. same (entryId (slot t k)) (idOf c) && same (place (slot t k)) (c .place)) (nearestSlots t (sha256 key)) i h
         (and-i (same (entryId (slot t j)) (idOf c)) _ (same-yes (entryId (slot t j)) (idOf c) (sym (padded-part idMost (entryId (slot t j)) (entry-id-most (slot t j)))))
         (same-yes (place (slot t j)) (c .place)
-        (sym (place-is t ours (sha256 key) bytes table (length-sha256 key) j (nearest-are t (sha256 key) (length-sha256 key) .held i h)))))))
+        (sym (place-is t ours (sha256 key) bytes table (length-sha256 key) j (nearest-held t (sha256 key) i h)))))))
       where
         j : ℕ
         j = getD (nearestSlots t (sha256 key)) i 0

@@ -21,7 +21,7 @@ use Rattle.contacts.specs.Near.{far, nearestSlots}
 use Rattle.contact_table.proofs.Cuts.{slot-whole, place-size, bytes-place}
 use Rattle.contact_form.proofs.FormFacts.{form-elim}
 use Rattle.contact_form.proofs.EntryFacts.{entry-id-most, form-entry}
-use Rattle.contacts.proofs.TwentyNearest.{nearest-are, nearest-strict}
+use Rattle.contacts.proofs.TwentyNearest.{nearest-held, nearest-strict}
 use Rattle.lookup_marks.specs.Marks.{idle, flying, answered, failed}
 use Rattle.lookup.specs.Lists.{anyIn}
 use Rattle.lookup.specs.Lookup.{room, idMost, keyMost, limitMost, candidatesOf, wellMade, follow, nearestFirst, inForm, turnAway, put, mark, idFits, padded, fresh, known, enter, meet, hear, hearAll, nobody, contactAt, firstOnes, begun, refuses, settled, noLookup, keyFits, limitFits, startOf}
@@ -224,11 +224,11 @@ module _ (t ours x : List ℕ) (ht : Bytes t) (table : inFormTable t ours ≡ tr
 
   pub first-order : nearestFirst x (firstOnes t x) ≡ true
   unfolding firstOnes
-  first-order = contacts-order (nearestSlots t x) (nearest-are t x hx .held) (nearest-strict t ours x hx ht (form-elim t ours table))
+  first-order = contacts-order (nearestSlots t x) (nearest-held t x) (nearest-strict t ours x hx ht (form-elim t ours table))
 
   pub first-placed : AllPlaced (firstOnes t x)
   unfolding firstOnes
-  first-placed = contacts-placed (nearestSlots t x) (nearest-are t x hx .held)
+  first-placed = contacts-placed (nearestSlots t x) (nearest-held t x)
 
   -- they lie where the contacts do
   contacts-lie : (p : List ℕ) (ls : List ℕ) → AllGood ls → known p (map (contactAt t) ls) ≡ anyIn (λ i. same (place (slot t i)) p) ls
@@ -239,7 +239,7 @@ module _ (t ours x : List ℕ) (ht : Bytes t) (table : inFormTable t ours ≡ tr
 
   pub first-lie : (p : List ℕ) → known p (firstOnes t x) ≡ anyIn (λ i. same (place (slot t i)) p) (nearestSlots t x)
   unfolding firstOnes
-  first-lie p = contacts-lie p (nearestSlots t x) (nearest-are t x hx .held)
+  first-lie p = contacts-lie p (nearestSlots t x) (nearest-held t x)
 
   pub first-few : length (firstOnes t x) ≤ 20
   unfolding firstOnes

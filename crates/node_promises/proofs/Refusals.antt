@@ -19,7 +19,8 @@ use Rattle.replies.specs.Verdicts.{keyFits}
 use Rattle.contact_calls.specs.declared.SeenOutcome.{SeenOutcome}
 use Rattle.contact_calls.specs.declared.SettleOutcome.{SettleOutcome}
 use Rattle.contact_calls.specs.declared.RemoveOutcome.{RemoveOutcome}
-use Rattle.contact_calls.specs.Calls.{seenCall, seenCallTable, settleCall, settleCallTable, removeCall, removeCallTable, seenNumber, settleNumber, removeNumber}
+use Rattle.contact_calls.specs.declared.DoubtOutcome.{DoubtOutcome}
+use Rattle.contact_calls.specs.Calls.{seenCall, seenCallTable, settleCall, settleCallTable, removeCall, removeCallTable, doubtCall, doubtCallTable, seenNumber, settleNumber, removeNumber, doubtNumber}
 use Rattle.contact_calls.proofs.Claims as calls
 use Rattle.stream.specs.declared.Framing.the-variants as framing
 use Rattle.stream.specs.declared.Ending.the-variants as ends
@@ -38,7 +39,7 @@ use Rattle.node.specs.declared.Gate.the-variants.{Open, Closed}
 use Rattle.connections.specs.Box.{ownFits, nobody, startOf, withFraming, openOf, connForm, endConn}
 use Rattle.node.specs.Node.{Dealing, Out, gateOf, done, shutIf, dealingOf, heard, receiveOf}
 use Rattle.host_calls.specs.Hosts.{seenOf, seenAfter, settleOf, settleAfter, removeOf, removeAfter, nearestTo}
-use Rattle.host_contacts.proofs.Hosting.{seen-on, seen-off, settle-on, settle-off, remove-on, remove-off}
+use Rattle.host_contacts.proofs.Hosting.{seen-on, seen-off, settle-on, settle-off, remove-on, remove-off, doubt-on, doubt-off}
 use Rattle.answer_promises.proofs.Promised.{refused-changes-nothing}
 use Rattle.node_promises.specs.Promises.{Unchanged, NotTaken, Early, Refuses, ReceiveRefused, CallsRefused, ValuesRefused}
 use Rattle.node_promises.proofs.Cases.{deal-cases, afterwards, cases, open-cases}
@@ -160,6 +161,11 @@ calls-refused =
           (λ h. let w = remove-on me t id (removeCall t (me .place) id) (removeCallTable t (me .place) id) h (refl, refl) in
           sym (w .1) ∙ calls.claims .removeRefused t (me .place) id (subst (λ (o : RemoveOutcome). removeNumber o < 64) (sym (w .0)) l))
           (λ h. sym (remove-off me t id _ h refl .1));
+      doubts = λ me t id l.
+          own-cases _ me
+          (λ h. let w = doubt-on me t id (doubtCall t (me .place) id) (doubtCallTable t (me .place) id) h (refl, refl) in
+          sym (w .1) ∙ calls.claims .doubtRefused t (me .place) id (subst (λ (o : DoubtOutcome). doubtNumber o < 64) (sym (w .0)) l))
+          (λ h. sym (doubt-off me t id _ h refl .1));
     }
   where
     seen-after-off : (me : Peer) (t id : List ℕ) (client : Bool) (addresses : List ℕ) → ownFits me ≡ false → t ≡ seenAfter me t id client addresses

@@ -14,7 +14,7 @@ use Rattle.peer.specs.Peers.{idFits, badPeer, peerOf}
 use Rattle.contacts.specs.Form.{inForm as contactsForm}
 use Rattle.records.specs.Store.{inForm as recordsForm}
 use Rattle.sightings.specs.Sightings.{sightingOf, seenTable}
-use Rattle.contact_calls.specs.Calls.{seenNumber, settleNumber, removeNumber}
+use Rattle.contact_calls.specs.Calls.{seenNumber, settleNumber, removeNumber, doubtNumber}
 use Rattle.message.specs.View.{readingOf}
 use Rattle.message.specs.declared.Fields.{Fields}
 use Rattle.message.specs.declared.Reading.the-variants as reading
@@ -30,7 +30,7 @@ use Rattle.node.specs.declared.Sight.the-variants.{NotSeen, Seen}
 use Rattle.node.specs.declared.Gate.the-variants.{Open, Closed}
 use Rattle.connections.specs.Box.{ownFits, nobody, startOf, withFraming, openOf, connForm, endConn}
 use Rattle.node.specs.Node.{untouched, dealingOf, Out, gateOf, receiveOf}
-use Rattle.host_calls.specs.Hosts.{seenOf, seenAfter, settleOf, settleAfter, removeOf, removeAfter, nearestTo}
+use Rattle.host_calls.specs.Hosts.{seenOf, seenAfter, settleOf, settleAfter, removeOf, removeAfter, doubtOf, doubtAfter, nearestTo}
 
 -- ---- 1. Refused calls change nothing
 -- contacts, records and reply buffer are as they were, and nobody was seen
@@ -66,6 +66,7 @@ pub record CallsRefused : Type 0 where
   pub settles : (me : Peer) (t head id : List ℕ) (client : Bool) (addresses : List ℕ) (answered : Bool) → settleNumber (settleOf me t head id client answered) < 64
       → settleAfter me t head id client addresses answered ≡ t
   pub removes : (me : Peer) (t id : List ℕ) → removeNumber (removeOf me t id) < 64 → removeAfter me t id ≡ t
+  pub doubts : (me : Peer) (t id : List ℕ) → doubtNumber (doubtOf me t id) < 64 → doubtAfter me t id ≡ t
 
 -- calls that only hand back values: a refused start gives nobody, a refused open a shut connection to nobody, an end with 0 the connection as it
 -- was, and a refused search no contacts

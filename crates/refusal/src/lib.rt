@@ -33,7 +33,7 @@ pub enum Refusal {
     BucketFull,
     // bucket has room, every contact slot is used
     NoContactSlot,
-    // settle or remove no longer fits the table
+    // settle, remove or doubt no longer fits the table
     NoLongerFits,
     // peer isn't in flight in this lookup
     NotInFlight,

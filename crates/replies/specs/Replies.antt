@@ -30,7 +30,7 @@ abbrev pub ping : ℕ
 ping = 5
 
 -- ---- closer peers
--- "closerPeers are the 20 nearest contacts", nearest first: those of the table t nearest to the place x
+-- "closerPeers are the 20 nearest contacts", nearest first, the doubtful passed over: those of the table t nearest to the place x
 unfoldable pub closerPeers : List ℕ → List ℕ → List Peer
 closerPeers t x = map (λ i. contactEntry (slot t i)) (nearestSlots t x)
 

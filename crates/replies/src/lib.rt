@@ -163,7 +163,7 @@ fn key_fits(key: &[u8]) -> bool
     key.len() <= message::MOST_KEY
 }
 
-// FIND_NODE's reply: the nearest contacts, and a last entry where the target is our place or the requester's and isn't there yet.
+// FIND_NODE's reply: the nearest of the contacts that aren't doubtful, and a last entry where the target is our place or the requester's and isn't there yet.
 fn find_node(reply: &mut [u8], me: Peer, who: Peer, key: &[u8], table: &[u8]) -> usize
     ensures { λ r. ⌜ Framed (findNodeReply me who (now (table .entry)) (now (key .entry))) (now (reply .entry)) (now (reply .exit)) r ⌝ }
 {
@@ -185,7 +185,7 @@ fn find_node(reply: &mut [u8], me: Peer, who: Peer, key: &[u8], table: &[u8]) ->
     reply_closer(reply, FIND_NODE, table, &at, n)
 }
 
-// GET_VALUE's reply: the nearest contacts, and the record if it is held.
+// GET_VALUE's reply: the nearest of the contacts that aren't doubtful, and the record if it is held.
 fn get_value(reply: &mut [u8], key: &[u8], table: &[u8], records: &[u8]) -> usize
     requires { ⌜ length (now key) ≤ 128 ⌝ }
     ensures { λ r. ⌜ Framed (getValueReply (now (table .entry)) (now (records .entry)) (now (key .entry))) (now (reply .entry)) (now (reply .exit)) r ⌝ }

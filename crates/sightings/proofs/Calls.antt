@@ -17,9 +17,11 @@ use Rattle.sightings.specs.declared.Settled.{Settled}
 use Rattle.sightings.specs.declared.Settled.the-variants.{Kept, Swapped, Stale}
 use Rattle.sightings.specs.declared.Removed.{Removed}
 use Rattle.sightings.specs.declared.Removed.the-variants.{Gone, NotHeld}
+use Rattle.sightings.specs.declared.Doubted.{Doubted}
+use Rattle.sightings.specs.declared.Doubted.the-variants as doubted
 use Rattle.contact_order.specs.Order.{heldAt, freeAt, headAt, tailOf, held}
-use Rattle.sightings.specs.Order.{contactBytes, moveToTail, moveAndRenew, dropped, join}
-use Rattle.sightings.specs.Sightings.{newcomer, sightingOf, afterSighting, seenTable, fits, settlementOf, afterSettling, settledTable, removalOf, afterRemoval, removedTable}
+use Rattle.sightings.specs.Order.{contactBytes, moveToTail, moveAndRenew, dropped, join, doubtAt}
+use Rattle.sightings.specs.Sightings.{newcomer, sightingOf, afterSighting, seenTable, fits, settlementOf, afterSettling, settledTable, removalOf, afterRemoval, removedTable, markingOf, afterMarking, markedTable}
 use Rattle.sightings.proofs.Moves.{join-at-done}
 use Rattle.sightings.proofs.Dropping.{drop-free, drop-tail}
 
@@ -209,6 +211,26 @@ module _ (t o head : List ℕ) (p : Peer) (answered : Bool) where
       unfolding settlementOf afterSettling
       settle-swapped v a w =
           settled Swapped v (sym (cond-yes (fits t o head (p .place)) _ _ y ∙ cond-no answered _ _ a)) (w ∙ ap (λ (x : List ℕ). join x o p) (g ∙ ap (dropped t o) e))
+
+-- ---- doubt
+module _ (t p : List ℕ) (n i : ℕ) (q : n ≡ slotsOf t) (e : i ≡ heldAt t p) where
+  abbrev pub Doubts : Doubted → List ℕ → Type 0
+  Doubts r u = (r ≡ markingOf t p) × (u ≡ markedTable t p)
+
+  doubts : (r : Doubted) (u : List ℕ) → r ≡ markingOf t p → u ≡ afterMarking t p r → Doubts r u
+  unfolding markedTable
+  doubts r u f g = (f, g ∙ ap (afterMarking t p) f)
+
+  pub doubt-in : i < n → i < slotsOf t
+  doubt-in l = omega arith
+
+  pub doubt-held : (u : List ℕ) → i < n → u ≡ doubtAt t i → Doubts doubted.Marked u
+  unfolding markingOf afterMarking
+  doubt-held u l g = doubts doubted.Marked u (sym (cond-yes (held t p) _ _ (held-yes t p n i q e l))) (g ∙ ap (doubtAt t) e)
+
+  pub doubt-none : n ≤ i → Doubts doubted.NotHeld t
+  unfolding markingOf afterMarking
+  doubt-none l = doubts doubted.NotHeld t (sym (cond-no (held t p) _ _ (held-no t p n i q e l))) refl
 
 -- ---- remove
 module _ (t o p : List ℕ) (n i : ℕ) (q : n ≡ slotsOf t) (e : i ≡ heldAt t p) where

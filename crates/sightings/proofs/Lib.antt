@@ -1,3 +1,4 @@
 pub mod Moves
 pub mod Dropping
+pub mod Doubting
 pub mod Calls

@@ -12,23 +12,41 @@ use Rattle.octets.proofs.Stores.{sets-append}
 use Rattle.place.specs.Place.{bucketOf}
 use Rattle.contacts.specs.Table.{slotsOf, slot, putSlot, place}
 use Rattle.peer.specs.declared.Peer.{Peer}
-use Rattle.contact_order.specs.Order.{freeAt, tailOf, withMark, leave}
-use Rattle.sightings.specs.Order.{contactBytes, freeBytes, withAddresses, renewed, tailed, moveToTail, moveAndRenew, dropped, joinAt, join}
-use Rattle.contact_order.proofs.Closing.{put-mark, leave-slots, leave-length, leave-self, leave-in}
+use Rattle.contact_order.specs.Order.{freeAt, tailOf, withMark, withDoubt, leave}
+use Rattle.sightings.specs.Order.{contactBytes, freeBytes, withAddresses, renewed, tailed, moveToTail, moveAndRenew, dropped, joinAt, join, doubtAt}
+use Rattle.contact_order.proofs.Closing.{put-mark, put-doubt, leave-slots, leave-length, leave-self, leave-in}
 use Rattle.contact_order.proofs.Slots.{slot-long, length-put, slots-put, slot-put, put-put, put-sets}
 
 -- ---- to a bucket's tail
 module _ (t o : List ℕ) (i : ℕ) (l : i < slotsOf t) where
   pub tailed-long : length (tailed t o i) ≡ 616
-  unfolding tailed withMark
-  tailed-long = length-set (slot t i) 0 (tailOf t o (bucketOf (place (slot t i)) o)) ∙ slot-long t i l
+  unfolding tailed withMark withDoubt
+  tailed-long =
+      length-set (set (slot t i) 0 (tailOf t o (bucketOf (place (slot t i)) o))) 1 0 ∙ length-set (slot t i) 0 (tailOf t o (bucketOf (place (slot t i)) o)) ∙ slot-long t i l
 
-  pub move-done : (b k : ℕ) (u : List ℕ) → b ≡ bucketOf (place (slot t i)) o → k ≡ tailOf t o b → u ≡ leave t o i → set u (i * 616) k ≡ moveToTail t o i
-  unfolding moveToTail tailed
-  move-done b k u e g h =
+  -- the new mark alone
+  last : List ℕ
+  last = withMark (tailOf t o (bucketOf (place (slot t i)) o)) (slot t i)
+
+  last-long : length last ≡ 616
+  unfolding last withMark
+  last-long = length-set (slot t i) 0 (tailOf t o (bucketOf (place (slot t i)) o)) ∙ slot-long t i l
+
+  at-last : (b k : ℕ) (u : List ℕ) → b ≡ bucketOf (place (slot t i)) o → k ≡ tailOf t o b → u ≡ leave t o i → set u (i * 616) k ≡ putSlot (leave t o i) i last
+  unfolding last
+  at-last b k u e g h =
       ap (λ (x : List ℕ). set x (i * 616) k) h ∙ put-mark (leave t o i) i k (leave-in t o i l)
       ∙ ap (λ (x : List ℕ). putSlot (leave t o i) i (withMark k x)) (leave-self t o i l)
       ∙ ap (λ (x : ℕ). putSlot (leave t o i) i (withMark x (slot t i))) (g ∙ ap (tailOf t o) e)
+
+  pub move-done : (b k : ℕ) (u : List ℕ) → b ≡ bucketOf (place (slot t i)) o → k ≡ tailOf t o b → u ≡ leave t o i → set (set u (i * 616) k) (i * 616 + 1) 0 ≡ moveToTail t o i
+  unfolding moveToTail tailed last withDoubt
+  move-done b k u e g h =
+      let v : List ℕ = putSlot (leave t o i) i last in
+      let lv : i < slotsOf v = rw (slots-put (leave t o i) i last) (leave-in t o i l) in
+      ap (λ (x : List ℕ). set x (i * 616 + 1) 0) (at-last b k u e g h) ∙ put-doubt v i 0 lv
+      ∙ ap (λ (x : List ℕ). putSlot v i (withDoubt 0 x)) (slot-put (leave t o i) i last (leave-in t o i l) last-long)
+      ∙ put-put (leave t o i) i last (leave-in t o i l) last-long (withDoubt 0 last) (length-set last 1 0 ∙ last-long)
 
   pub move-slots : slotsOf (moveToTail t o i) ≡ slotsOf t
   unfolding moveToTail
@@ -64,6 +82,11 @@ clear-done t i u e = e
 pub drop-done : (t o : List ℕ) (i : ℕ) (u v : List ℕ) → u ≡ leave t o i → v ≡ putSlot u i freeBytes → v ≡ dropped t o i
 unfolding dropped
 drop-done t o i u v e g = g ∙ ap (λ (x : List ℕ). putSlot x i freeBytes) e
+
+-- ---- a mark of doubt written
+pub doubt-done : (t : List ℕ) (i : ℕ) → i < slotsOf t → set t (i * 616 + 1) 1 ≡ doubtAt t i
+unfolding doubtAt
+doubt-done t i l = put-doubt t i 1 l
 
 -- a run of stores goes on
 chain : (t u : List ℕ) (k a : ℕ) (x rest : List ℕ) → u ≡ sets t k x → a ≡ k + length x → sets u a rest ≡ sets t k (x ++ rest)

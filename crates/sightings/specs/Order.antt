@@ -8,10 +8,10 @@ use lib.Dec.{eqb}
 use Rattle.place.specs.Place.{bucketOf}
 use Rattle.contacts.specs.Table.{slotSize, slot, putSlot, place}
 use Rattle.peer.specs.declared.Peer.{Peer}
-unfoldable pub use Rattle.contact_order.specs.Order.{ofBucket, isAt, isHead, markIn, heldAt, freeAt, headAt, tailOf, withMark, lowered, each, closeUp, leave}
+unfoldable pub use Rattle.contact_order.specs.Order.{ofBucket, isAt, isHead, markIn, heldAt, freeAt, headAt, tailOf, withMark, withDoubt, lowered, each, closeUp, leave}
 
 -- ---- a slot's bytes
--- a contact as its whole slot
+-- a contact as its whole slot; it joins unmarked
 unfoldable pub contactBytes : ℕ → Peer → List ℕ
 contactBytes m p = (m ∷ 0 ∷ p .size ∷ p .count ∷ []) ++ (p .lens ++ (p .place ++ (p .id ++ p .addrs)))
 
@@ -25,9 +25,9 @@ withAddresses p s = sets (sets s 3 (p .count ∷ p .lens)) 104 (p .addrs)
 unfoldable pub renewed : Peer → List ℕ → List ℕ
 renewed p s = cond (eqb (p .count) 0) s (withAddresses p s)
 
--- slot i with its bucket's last mark
+-- slot i with its bucket's last mark, and doubtful no more: "being seen, or answering a probe, clears the mark"
 unfoldable pub tailed : List ℕ → List ℕ → ℕ → List ℕ
-tailed t ours i = withMark (tailOf t ours (bucketOf (place (slot t i)) ours)) (slot t i)
+tailed t ours i = withDoubt 0 (withMark (tailOf t ours (bucketOf (place (slot t i)) ours)) (slot t i))
 
 -- ---- what the calls do: the contact of slot i goes to its bucket's tail; goes there with new addresses; goes; a newcomer joins the tail in slot i
 unfoldable pub moveToTail : List ℕ → List ℕ → ℕ → List ℕ
@@ -45,3 +45,7 @@ joinAt t ours i p = putSlot t i (contactBytes (tailOf t ours (bucketOf (p .place
 -- "Freed slots are used again": a newcomer takes the lowest free slot
 unfoldable pub join : List ℕ → List ℕ → Peer → List ℕ
 join t ours p = joinAt t ours (freeAt t) p
+
+-- the contact of slot i is marked as doubtful, and nothing else changes
+unfoldable pub doubtAt : List ℕ → ℕ → List ℕ
+doubtAt t i = putSlot t i (withDoubt 1 (slot t i))

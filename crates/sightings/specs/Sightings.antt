@@ -1,4 +1,4 @@
--- Seen, settle and remove on the contact table: document 01, 'Distance and contacts'. Each is an answer, and what the answer does to the table.
+-- Seen, settle and remove on the contact table: document 01, 'Distance and contacts'; doubt: document 02, x. Each is an answer, and what the answer does to the table.
 use Prim.Native.Nat.{ℕ}
 use mathlib.Core.Bool.{Bool, not, _&&_, cond}
 use mathlib.Core.List.{List}
@@ -7,13 +7,15 @@ use Rattle.place.specs.Place.{bucketOf}
 use Rattle.contacts.specs.Table.{bucketSize, slotsOf, slot, mark}
 use Rattle.peer.specs.declared.Peer.{Peer}
 use Rattle.contact_order.specs.Order.{heldAt, freeAt, headAt, tailOf}
-use Rattle.sightings.specs.Order.{moveToTail, moveAndRenew, dropped, joinAt, join}
+use Rattle.sightings.specs.Order.{moveToTail, moveAndRenew, dropped, joinAt, join, doubtAt}
 use Rattle.sightings.specs.declared.Sighting.{Sighting}
 use Rattle.sightings.specs.declared.Sighting.the-variants.{Moved, Joined, Full, NoSlot}
 use Rattle.sightings.specs.declared.Settled.{Settled}
 use Rattle.sightings.specs.declared.Settled.the-variants.{Kept, Swapped, Stale}
 use Rattle.sightings.specs.declared.Removed.{Removed}
 use Rattle.sightings.specs.declared.Removed.the-variants.{Gone, NotHeld}
+use Rattle.sightings.specs.declared.Doubted.{Doubted}
+use Rattle.sightings.specs.declared.Doubted.the-variants as doubted
 unfoldable pub use Rattle.contact_order.specs.Order.{held}
 
 -- ---- seen
@@ -68,3 +70,15 @@ afterRemoval t ours p NotHeld = t
 
 unfoldable pub removedTable : List ℕ → List ℕ → List ℕ → List ℕ
 removedTable t ours p = afterRemoval t ours p (removalOf t p)
+
+-- ---- doubt
+-- "The host can mark a held contact as doubtful .. Marking one not held gives 15."
+unfoldable pub markingOf : List ℕ → List ℕ → Doubted
+markingOf t p = cond (held t p) doubted.Marked doubted.NotHeld
+
+unfoldable pub afterMarking : List ℕ → List ℕ → Doubted → List ℕ
+afterMarking t p doubted.Marked = doubtAt t (heldAt t p)
+afterMarking t p doubted.NotHeld = t
+
+unfoldable pub markedTable : List ℕ → List ℕ → List ℕ
+markedTable t p = afterMarking t p (markingOf t p)

@@ -1,11 +1,11 @@
-// Seen, settle and remove on the contact table. Every public function takes any bytes.
+// Seen, settle, remove and doubt on the contact table. Every public function takes any bytes.
 ghost use mathlib.Core.Path.{_≡_};
 ghost use Prim.Native.Nat.{_+_, _*_, _<_};
 ghost use Rattle.place.specs.Place.{bucketOf};
 ghost use Rattle.contacts.specs.Table.{slotsOf, slot, putSlot, place};
 ghost use Rattle.contact_order.specs.Order.{freeAt, tailOf};
 ghost use Rattle.sightings.specs.Order.{contactBytes, freeBytes, withAddresses, moveToTail, moveAndRenew, dropped, join};
-ghost use Rattle.sightings.specs.Sightings.{sightingOf, newcomer, seenTable, afterSighting, fits, settlementOf, settledTable, removalOf, removedTable};
+ghost use Rattle.sightings.specs.Sightings.{sightingOf, newcomer, seenTable, afterSighting, fits, settlementOf, settledTable, removalOf, removedTable, markingOf, markedTable};
 use contacts::SLOT;
 use peer::Peer;
 
@@ -36,6 +36,11 @@ pub enum Settled {
 
 pub enum Removed {
     Gone,
+    NotHeld,
+}
+
+pub enum Doubted {
+    Marked,
     NotHeld,
 }
 
@@ -79,7 +84,7 @@ fn put_addresses(table: &mut [u8], i: usize, p: Peer)
     octets::copy(table, at + 104, &addrs);
 }
 
-// The contact in slot i goes to its bucket's tail.
+// The contact in slot i goes to its bucket's tail, and is doubtful no more.
 fn move_to_tail(table: &mut [u8], ours: &[u8], i: usize)
     requires { ⌜ i < slotsOf (now table) ⌝ }
     ensures { λ _. ⌜ now (table .exit) ≡ moveToTail (now (table .entry)) (now (ours .entry)) i ⌝ }
@@ -87,7 +92,9 @@ fn move_to_tail(table: &mut [u8], ours: &[u8], i: usize)
     let b = contact_order::bucket_at(table, ours, i);
     let tail = contact_order::tail_of(table, ours, b);
     contact_order::leave_order(table, ours, i);
-    table[i * SLOT] = tail;
+    let at = i * SLOT;
+    table[at] = tail;
+    table[at + 1] = 0;
 }
 
 // The same, and it takes the new addresses if there are any.
@@ -204,4 +211,16 @@ pub fn remove(table: &mut [u8], ours: &[u8], p: &[u8]) -> Removed
     }
     drop_slot(table, ours, i);
     Removed::Gone
+}
+
+// The contact at a place is marked as doubtful; it stays where it is.
+pub fn doubt(table: &mut [u8], p: &[u8]) -> Doubted
+    ensures { λ r. ⌜ (r ≡ markingOf (now (table .entry)) (now (p .entry))) × (now (table .exit) ≡ markedTable (now (table .entry)) (now (p .entry))) ⌝ }
+{
+    let i = contact_order::held_at(table, p);
+    if contacts::slots(table) <= i {
+        return Doubted::NotHeld;
+    }
+    table[i * SLOT + 1] = 1;
+    Doubted::Marked
 }

@@ -20,10 +20,11 @@ use Rattle.sightings.specs.Order.{isHead, freeAt, headAt, tailOf}
 use Rattle.sightings.specs.Sightings.{held, newcomer, sightingOf, seenTable, fits, settlementOf, removalOf, removedTable}
 use Rattle.contact_order.proofs.Tests.{free-there}
 use Rattle.sightings_kept.specs.Promises.{Fair, NewSeen, holds, Claims}
-use Rattle.sightings_kept.proofs.Forms.{seen-keeps, settle-keeps, remove-keeps}
+use Rattle.sightings_kept.proofs.Forms.{seen-keeps, settle-keeps, remove-keeps, doubt-keeps}
 use Rattle.sightings_kept.proofs.Theorems.{held-never-refused, full-changes-nothing, no-slot-changes-nothing, stale-same, not-held-same, seen-held, seen-new, remove-frees, settle-answered, settle-silent, answered-never-evicted}
 use Rattle.sightings_kept.proofs.Holds.{tail-is-count, full-refused, none-left, head-there, still-fits, still-fails}
 use Rattle.sightings_kept.proofs.Hashed.{seen-hashed, settle-hashed, remove-hashed}
+use Rattle.sightings_kept.proofs.Doubts.{doubt-marks-one, doubt-not-held, doubt-ignored, doubt-settles, doubt-hashed, tail-given}
 
 -- ---- where a slot is free, nobody is refused for want of one
 forWant : Sighting → Bool
@@ -70,9 +71,11 @@ claims t o y = record {
   seenForm = λ p G. seen-keeps t o p G y;
   settleForm = λ head p answered G. settle-keeps t o head p answered G y;
   removeForm = λ p. remove-keeps t o p y;
+  doubtForm = λ p. doubt-keeps t o p y;
   seenHashed = λ p G P h. seen-hashed t o p G P y h;
   settleHashed = λ head p answered G P h. settle-hashed t o p G P y h head answered;
   removeHashed = λ p h. remove-hashed t o p y h;
+  doubtHashed = λ p h. doubt-hashed t p h;
   counted = tail-is-count t o y;
   moved = λ p G h. (held-never-refused t o (p .place) h, seen-held t o p G y h);
   full = full-named t o y;
@@ -85,4 +88,9 @@ claims t o y = record {
   gone = λ p h. remove-frees t o p y h;
   notHeld = λ p h. (not-held-answer t p h, not-held-same t o p h);
   reused = λ p q h. never-for-want (removedTable t o p) o q (remove-frees t o p y h .1 .room);
+  marked = doubt-marks-one t;
+  doubtNotHeld = doubt-not-held t;
+  sightingIgnores = λ p q. doubt-ignored t p o q;
+  settleIgnores = λ p head q answered. doubt-settles t p o head q answered;
+  given = λ ht p i a. tail-given t o p i y ht a;
 }

@@ -1,7 +1,8 @@
--- Form is kept by seen, settle and remove. Assumes nothing.
+-- Form is kept by seen, settle, remove and doubt. Assumes nothing.
 use Prim.Native.Nat.{ℕ, zero, suc, _+_, _<_, _≤_}
-use mathlib.Core.Path.{_≡_, refl, sym, ap, _∙_, subst}
-use mathlib.Core.Bool.{Bool, true, false}
+use mathlib.Core.Path.{_≡_, refl, sym, ap, ap₂, _∙_, subst}
+use mathlib.Core.Logic.{⊎-elim}
+use mathlib.Core.Bool.{Bool, true, false, not, _&&_}
 use mathlib.Core.List.{List, [], _∷_, _++_}
 use native.Mathlib.Nat.{not-suc-le-zero}
 use native.Mathlib.Omega.{arith}
@@ -10,11 +11,11 @@ use lib.ListN.{length, getD, take, set, length-set, length-append, List·getD-ap
 use lib.Seq.{sets, length-sets, getD-append-add, getD-set-same, take-at, drop-at}
 use borrow.Author.Tests.{ltb-true, leb-false}
 use Rattle.octets.specs.Octets.{part}
-use Rattle.octets.proofs.Bools.{not-both, to-false, cond-ind}
+use Rattle.octets.proofs.Bools.{not-both, to-false, eq-or-ne, cond-ind}
 use Rattle.octets.proofs.Parts.{part-part}
 use Rattle.octets.proofs.Stores.{take-sets, drop-sets, getD-sets-before}
 use Rattle.place.specs.Place.{bucketOf}
-use Rattle.contacts.specs.Table.{slotsOf, slot, putSlot, mark, used, spare, idSize, addressCount, addressSize, place}
+use Rattle.contacts.specs.Table.{slotsOf, slot, putSlot, mark, used, doubt, doubtful, idSize, addressCount, addressSize, place}
 use Rattle.contacts.specs.Form.{inForm}
 use Rattle.contact_form.specs.Claims.{Fields}
 use Rattle.contact_form.proofs.FormFacts.{form-elim, form-intro}
@@ -25,14 +26,16 @@ use Rattle.peer.proofs.Meaning.{id-length, addrs-length, lens-length, place-is,
 use Rattle.sightings.specs.declared.Sighting.{Sighting}
 use Rattle.sightings.specs.declared.Settled.{Settled}
 use Rattle.sightings.specs.declared.Removed.{Removed}
-use Rattle.sightings.specs.Order.{isAt, heldAt, freeAt, tailOf, withMark, contactBytes, freeBytes, withAddresses, renewed, leave, tailed, moveToTail, moveAndRenew, dropped, joinAt, join}
-use Rattle.sightings.specs.Sightings.{held, newcomer, sightingOf, afterSighting, seenTable, fits, settlementOf, afterSettling, settledTable, removalOf, afterRemoval, removedTable}
+use Rattle.sightings.specs.declared.Doubted.{Doubted}
+use Rattle.sightings.specs.Order.{ofBucket, isAt, heldAt, freeAt, tailOf, withMark, withDoubt, contactBytes, freeBytes, withAddresses, renewed, leave, tailed, moveToTail, moveAndRenew, dropped, joinAt, join, doubtAt}
+use Rattle.sightings.specs.Sightings.{held, newcomer, sightingOf, afterSighting, seenTable, fits, settlementOf, afterSettling, settledTable, removalOf, afterRemoval, removedTable, markingOf, afterMarking, markedTable}
 use Rattle.sightings_kept.specs.Promises.{Fair}
-use Rattle.contact_order.proofs.Slots.{slot-long, put-put}
+use Rattle.contact_order.proofs.Slots.{slot-long, slots-put, slot-put, slot-other, put-put}
 use Rattle.contact_order.proofs.Tests.{of-used, held-lt, held-ge, held-is, held-not, at-used, at-place, at-make, free-is, tail-le}
 use Rattle.contact_order.proofs.Closing.{leave-in}
 use Rattle.sightings.proofs.Moves.{tailed-long, free-long}
 use Rattle.sightings.proofs.Dropping.{place-mark, mark-mark, drop-slots, drop-freed, drop-free}
+use Rattle.sightings.proofs.Doubting.{doubt-byte, doubt-long, place-doubt, mark-doubt, doubt-doubt}
 use Rattle.sightings.proofs.Calls.{fits-held, fits-bucket, fits-full, fits-new}
 use Rattle.sightings_kept.proofs.Ordered.{Ordered, from-form, to-form, fields-by, mark-byte}
 use Rattle.sightings_kept.proofs.Kept.{kept-place, kept-used, drop-form, drop-tail-down, enter-form}
@@ -79,10 +82,10 @@ module _ (o : List ℕ) (p : Peer) (G : Fair o p) (m : ℕ) where
   bytes-size k h = getD-append-add (m ∷ 0 ∷ p .size ∷ p .count ∷ []) (p .lens ++ (p .place ++ (p .id ++ p .addrs))) k 0 ∙ bytes-lens k h
 
   pub bytes-fields : m ≤ 20 → Fields (contactBytes m p)
-  unfolding contactBytes mark spare idSize addressCount
+  unfolding contactBytes mark doubt idSize addressCount
   bytes-fields h = record {
     ranked = h;
-    spared = refl;
+    doubted = omega arith;
     idLeast = G .idLeast;
     idMost = G .idMost;
     few = G .few;
@@ -91,6 +94,11 @@ module _ (o : List ℕ) (p : Peer) (G : Fair o p) (m : ℕ) where
         let r = G .sizes k l in
         (omega (arith, r .0), omega (arith, r .1));
   }
+
+  -- a contact joins unmarked
+  pub bytes-trusted : doubtful (contactBytes m p) ≡ false
+  unfolding doubtful doubt contactBytes
+  bytes-trusted = refl
 
   pub bytes-place : place (contactBytes m p) ≡ p .place
   unfolding place contactBytes
@@ -113,6 +121,10 @@ module _ (o : List ℕ) (p : Peer) (G : Fair o p) (s : List ℕ) (h : length s �
   unfolding mark
   addr-mark = old 0 (omega arith)
 
+  pub addr-doubt : doubt (withAddresses p s) ≡ doubt s
+  unfolding doubt
+  addr-doubt = old 1 (omega arith)
+
   pub addr-place : place (withAddresses p s) ≡ place s
   unfolding place withAddresses
   addr-place =
@@ -126,10 +138,10 @@ module _ (o : List ℕ) (p : Peer) (G : Fair o p) (s : List ℕ) (h : length s �
   addr-long = length-sets _ 104 (p .addrs) ∙ length-sets s 3 (p .count ∷ p .lens) ∙ h
 
   pub addr-fields : Fields s → Fields (withAddresses p s)
-  unfolding mark spare idSize addressCount addressSize
+  unfolding mark doubt idSize addressCount addressSize
   addr-fields f = record {
     ranked = omega (arith, old 0 (omega arith), f .ranked);
-    spared = old 1 (omega arith) ∙ f .spared;
+    doubted = omega (arith, old 1 (omega arith), f .doubted);
     idLeast = omega (arith, old 2 (omega arith), f .idLeast);
     idMost = omega (arith, old 2 (omega arith), f .idMost);
     few = omega (arith, new 0 (omega arith), G .few);
@@ -174,17 +186,28 @@ module _ (t o : List ℕ) (i : ℕ) (l : i < slotsOf t) (F : Ordered t o) (u : u
 
   pub tailed-place : place (tailed t o i) ≡ place (slot t i)
   unfolding tailed
-  tailed-place = place-mark _ (slot t i)
+  tailed-place = place-doubt 0 (withMark (tailOf t o (bucketOf (place (slot t i)) o)) (slot t i)) ∙ place-mark _ (slot t i)
 
   pub tailed-mark : mark (tailed t o i) ≡ tailOf t o (bucketOf (place (slot t i)) o)
   unfolding tailed
-  tailed-mark = mark-mark _ (slot t i) (slot-long t i l)
+  tailed-mark = mark-doubt 0 (withMark (tailOf t o (bucketOf (place (slot t i)) o)) (slot t i)) ∙ mark-mark _ (slot t i) (slot-long t i l)
+
+  -- it is doubtful no more
+  pub tailed-doubt : doubt (tailed t o i) ≡ 0
+  unfolding tailed withMark
+  tailed-doubt =
+      doubt-doubt 0 (withMark (tailOf t o (bucketOf (place (slot t i)) o)) (slot t i)) (length-set (slot t i) 0 (tailOf t o (bucketOf (place (slot t i)) o)) ∙ slot-long t i l)
+
+  pub tailed-byte : (k : ℕ) → 2 ≤ k → getD (tailed t o i) k 0 ≡ getD (slot t i) k 0
+  unfolding tailed
+  tailed-byte k a =
+      doubt-byte 0 (withMark (tailOf t o (bucketOf (place (slot t i)) o)) (slot t i)) k (λ e. no e) ∙ mark-byte (tailOf t o (bucketOf (place (slot t i)) o)) (slot t i) k (omega arith)
+    where
+      no : k ≡ 1 → ⊥
+      no e = omega arith
 
   tailed-fields : Fields (tailed t o i)
-  unfolding tailed
-  tailed-fields =
-      fields-by (withMark (tailOf t o (bucketOf (place (slot t i)) o)) (slot t i)) (slot t i) (λ k a b. mark-byte _ (slot t i) k a)
-      (subst (λ (n : ℕ). n ≤ 20) (sym (mark-mark _ (slot t i) (slot-long t i l))) tail-few) (F .sound i l u .0)
+  tailed-fields = fields-by (tailed t o i) (slot t i) (λ k a b. tailed-byte k a) (omega (arith, tailed-mark, tail-few)) (omega (arith, tailed-doubt)) (F .sound i l u .0)
 
   pub move-form : Ordered (moveToTail t o i) o
   unfolding moveToTail
@@ -198,7 +221,75 @@ module _ (t o : List ℕ) (i : ℕ) (l : i < slotsOf t) (F : Ordered t o) (u : u
       (λ e. again (withAddresses p (tailed t o i)) (addr-long o p G (tailed t o i) (tailed-long t o i l)) (addr-place o p G (tailed t o i) (tailed-long t o i l) ∙ tailed-place)
       (addr-fields o p G (tailed t o i) (tailed-long t o i l) tailed-fields) (addr-mark o p G (tailed t o i) (tailed-long t o i l) ∙ tailed-mark))
 
+-- ---- a mark of doubt: every slot keeps its place and its rank
+module _ (t : List ℕ) (i : ℕ) (l : i < slotsOf t) where
+  doubted-long : length (withDoubt 1 (slot t i)) ≡ 616
+  doubted-long = doubt-long 1 (slot t i) ∙ slot-long t i l
+
+  pub doubt-slots : slotsOf (doubtAt t i) ≡ slotsOf t
+  unfolding doubtAt
+  doubt-slots = slots-put t i (withDoubt 1 (slot t i))
+
+  pub doubt-self : slot (doubtAt t i) i ≡ withDoubt 1 (slot t i)
+  unfolding doubtAt
+  doubt-self = slot-put t i (withDoubt 1 (slot t i)) l doubted-long
+
+  pub doubt-other : (j : ℕ) → (j ≡ i → ⊥) → slot (doubtAt t i) j ≡ slot t j
+  unfolding doubtAt
+  doubt-other j ne = slot-other t i (withDoubt 1 (slot t i)) l doubted-long j ne
+
+  -- what both sides of the mark have in common, any slot has
+  by-slot : (P : List ℕ → List ℕ → Type 0) → ((s : List ℕ) → P s s) → P (withDoubt 1 (slot t i)) (slot t i) → (j : ℕ) → P (slot (doubtAt t i) j) (slot t j)
+  by-slot P f g j =
+      ⊎-elim (λ e. subst (λ (k : ℕ). P (slot (doubtAt t i) k) (slot t k)) (sym e) (subst (λ (x : List ℕ). P x (slot t i)) (sym doubt-self) g))
+      (λ ne. subst (λ (x : List ℕ). P x (slot t j)) (sym (doubt-other j ne)) (f (slot t j))) (eq-or-ne j i)
+
+  pub doubt-places : (j : ℕ) → place (slot (doubtAt t i) j) ≡ place (slot t j)
+  doubt-places = by-slot (λ x y. place x ≡ place y) (λ s. refl) (place-doubt 1 (slot t i))
+
+  pub doubt-marks : (j : ℕ) → mark (slot (doubtAt t i) j) ≡ mark (slot t j)
+  doubt-marks = by-slot (λ x y. mark x ≡ mark y) (λ s. refl) (mark-doubt 1 (slot t i))
+
+  pub doubt-used : (j : ℕ) → used (slot (doubtAt t i) j) ≡ used (slot t j)
+  unfolding used
+  doubt-used j = ap (λ (m : ℕ). not (eqb m 0)) (doubt-marks j)
+
+  pub doubt-of : (o : List ℕ) (b j : ℕ) → ofBucket o b (slot (doubtAt t i) j) ≡ ofBucket o b (slot t j)
+  unfolding ofBucket
+  doubt-of o b j = ap₂ (λ (x : Bool) (y : List ℕ). x && eqb (bucketOf y o) b) (doubt-used j) (doubt-places j)
+
+  doubt-fields : (j : ℕ) → Fields (slot t j) → Fields (slot (doubtAt t i) j)
+  doubt-fields =
+      by-slot (λ x y. Fields y → Fields x) (λ s f. f)
+      (λ f. fields-by (withDoubt 1 (slot t i)) (slot t i) (λ k a b. doubt-byte 1 (slot t i) k (λ e. no k a e)) (omega (arith, mark-doubt 1 (slot t i), f .ranked))
+      (omega (arith, doubt-doubt 1 (slot t i) (slot-long t i l))) f)
+    where
+      no : (k : ℕ) → 2 ≤ k → k ≡ 1 → ⊥
+      no k a e = omega arith
+
+  pub doubt-form : (o : List ℕ) → Ordered t o → Ordered (doubtAt t i) o
+  doubt-form o F = record {
+    sound = λ j lj v.
+        let r = F .sound j (down j lj) (sym (doubt-used j) ∙ v) in
+        (doubt-fields j (r .0), subst (λ (x : List ℕ). bucketOf x o < 256) (sym (doubt-places j)) (r .1));
+    twins = λ j k lj lk uj uk e.
+        F .twins j k (down j lj) (down k lk) (sym (doubt-used j) ∙ uj) (sym (doubt-used k) ∙ uk) (sym (doubt-places j) ∙ e ∙ doubt-places k);
+    ties = λ b j k lj lk fj fk e.
+        F .ties b j k (down j lj) (down k lk) (sym (doubt-of o b j) ∙ fj) (sym (doubt-of o b k) ∙ fk) (sym (doubt-marks j) ∙ e ∙ doubt-marks k);
+    leds = λ b j lj f h.
+        let r = F .leds b j (down j lj) (sym (doubt-of o b j) ∙ f) (omega (arith, doubt-marks j)) in
+        (r .0, subst (λ (n : ℕ). r .0 < n) (sym doubt-slots) (r .1), doubt-of o b (r .0) ∙ r .2, omega (arith, doubt-marks j, doubt-marks (r .0), r .3));
+  }
+    where
+      down : (j : ℕ) → j < slotsOf (doubtAt t i) → j < slotsOf t
+      down j h = subst (λ (n : ℕ). j < n) doubt-slots h
+
 -- ---- the calls
+pub doubted-form : (t o p : List ℕ) → Ordered t o → Ordered (markedTable t p) o
+unfolding markedTable markingOf afterMarking
+doubted-form t o p F =
+    cond-ind (λ (r : Doubted). Ordered (afterMarking t p r) o) (held t p) _ _ (λ e. doubt-form t (heldAt t p) (held-lt t p e) o F) (λ e. F)
+
 pub remove-form : (t o p : List ℕ) → Ordered t o → Ordered (removedTable t o p) o
 unfolding removedTable removalOf afterRemoval
 remove-form t o p F =
@@ -278,3 +369,6 @@ settle-keeps t o head p answered G y = form-intro (settledTable t o head p answe
 
 pub remove-keeps : (t o p : List ℕ) → inForm t o ≡ true → inForm (removedTable t o p) o ≡ true
 remove-keeps t o p y = form-intro (removedTable t o p) o (to-form (removedTable t o p) o (remove-form t o p (from-form t o (form-elim t o y))))
+
+pub doubt-keeps : (t o p : List ℕ) → inForm t o ≡ true → inForm (markedTable t p) o ≡ true
+doubt-keeps t o p y = form-intro (markedTable t p) o (to-form (markedTable t p) o (doubted-form t o p (from-form t o (form-elim t o y))))

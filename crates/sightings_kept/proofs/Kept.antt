@@ -18,6 +18,7 @@ use Rattle.contact_order.proofs.Slots.{slot-long, slots-put, slot-put, slot-oth
 use Rattle.contact_order.proofs.Tests.{of-used, of-is, of-make, of-mark, tail-ge, tail-le, tail-at}
 use Rattle.contact_order.proofs.Closing.{lowered-low, lowered-far, lowered-on}
 use Rattle.sightings.proofs.Dropping.{place-mark, mark-mark, none-free, drop-slots, drop-self, drop-other}
+use Rattle.sightings.proofs.Doubting.{doubt-mark}
 use Rattle.sightings_kept.proofs.Ordered.{Ordered, fields-by, mark-byte}
 
 -- one slot behind a mark m, which is not 0: what it keeps
@@ -46,7 +47,7 @@ module _ (o : List ℕ) (c m : ℕ) (s : List ℕ) (h : length s ≡ 616) (pos :
   pub low-fields : Fields s → Fields (lowered o c m s)
   low-fields f =
       ⊎-elim (λ e. subst Fields (sym e) f)
-      (λ r. subst Fields (sym (r .2)) (fields-by (withMark (mark s - 1) s) s (λ k a l. mark-byte (mark s - 1) s k a) (omega (arith, mark-mark (mark s - 1) s h, f .ranked)) f)) low-cases
+      (λ r. subst Fields (sym (r .2)) (fields-by (withMark (mark s - 1) s) s (λ k a l. mark-byte (mark s - 1) s k (omega arith)) (omega (arith, mark-mark (mark s - 1) s h, f .ranked)) (omega (arith, doubt-mark (mark s - 1) s, f .doubted)) f)) low-cases
 
 -- ---- a contact leaves
 module _ (t o : List ℕ) (i : ℕ) (l : i < slotsOf t) (F : Ordered t o) (u : used (slot t i) ≡ true) where

@@ -5,4 +5,5 @@ pub mod Said
 pub mod Theorems
 pub mod Holds
 pub mod Hashed
+pub mod Doubts
 pub mod Claims

@@ -7,7 +7,7 @@ use native.Mathlib.Omega.{arith}
 use lib.ListN.{getD}
 use lib.Seq.{getD-set-other}
 use Rattle.place.specs.Place.{bucketOf}
-use Rattle.contacts.specs.Table.{slotsOf, slot, mark, used, spare, idSize, addressCount, addressSize, place}
+use Rattle.contacts.specs.Table.{slotsOf, slot, mark, used, doubt, idSize, addressCount, addressSize, place}
 use Rattle.contacts.specs.Form.{rank, slotBucket}
 use Rattle.contact_table.proofs.Cuts.{used-mark}
 use Rattle.contact_form.specs.Claims.{Fields, InForm}
@@ -61,12 +61,12 @@ module _ (t o : List ℕ) where
       high : (i : ℕ) → rank (slot t i) + 1 ≡ mark (slot t i) → (rank (slot t i) ≡ 0 → ⊥) → 2 ≤ mark (slot t i)
       high i e z = omega arith
 
--- ---- fields go by bytes 0 to 7
-pub fields-by : (x y : List ℕ) → ((k : ℕ) → 1 ≤ k → k < 8 → getD x k 0 ≡ getD y k 0) → mark x ≤ 20 → Fields y → Fields x
-unfolding mark spare idSize addressCount addressSize
-fields-by x y e m f = record {
+-- ---- fields go by the two marks and bytes 2 to 7
+pub fields-by : (x y : List ℕ) → ((k : ℕ) → 2 ≤ k → k < 8 → getD x k 0 ≡ getD y k 0) → mark x ≤ 20 → doubt x ≤ 1 → Fields y → Fields x
+unfolding mark doubt idSize addressCount addressSize
+fields-by x y e m d f = record {
   ranked = m;
-  spared = e 1 (omega arith) (omega arith) ∙ f .spared;
+  doubted = d;
   idLeast = omega (arith, e 2 (omega arith) (omega arith), f .idLeast);
   idMost = omega (arith, e 2 (omega arith) (omega arith), f .idMost);
   few = omega (arith, e 3 (omega arith) (omega arith), f .few);

@@ -1,4 +1,4 @@
--- What a slot says of its contact: unchanged where only its mark changes, and a peer's own words where it was written from one. Assumes nothing.
+-- What a slot says of its contact: unchanged where only its marks change, and a peer's own words where it was written from one. Assumes nothing.
 use Prim.Native.Nat.{ℕ, zero, suc, _+_, _*_, _-_, _<_, _≤_}
 use mathlib.Core.Path.{_≡_, refl, sym, ap, ap₂, _∙_, subst}
 use mathlib.Core.Logic.{⊎-elim}
@@ -13,28 +13,28 @@ use Rattle.contacts.specs.Table.{mark, used, idSize, addressCount, addressSize,
 use Rattle.peer.specs.declared.Peer.{Peer}
 use Rattle.peer.specs.Peers.{idIn, addressIn, addressesIn}
 use Rattle.peer.specs.Peers as peers
-use Rattle.sightings.specs.Order.{withMark, contactBytes, withAddresses, lowered}
+use Rattle.sightings.specs.Order.{withMark, withDoubt, contactBytes, withAddresses, lowered}
 use Rattle.sightings_kept.specs.Promises.{Fair, SameContact}
 use Rattle.contact_order.proofs.Closing.{lowered-is}
 use Rattle.sightings_kept.proofs.Forms.{bytes-size, getD-sets-in}
 
--- ---- slots that differ at most in their mark
-module _ (s v : List ℕ) (e : drop 1 s ≡ drop 1 v) where
-  at : (k : ℕ) → getD s (1 + k) 0 ≡ getD v (1 + k) 0
-  at k = sym (getD-drop 1 s k 0) ∙ ap (λ (l : List ℕ). getD l k 0) e ∙ getD-drop 1 v k 0
+-- ---- slots that differ at most in their two marks
+module _ (s v : List ℕ) (e : drop 2 s ≡ drop 2 v) where
+  at : (k : ℕ) → getD s (2 + k) 0 ≡ getD v (2 + k) 0
+  at k = sym (getD-drop 2 s k 0) ∙ ap (λ (l : List ℕ). getD l k 0) e ∙ getD-drop 2 v k 0
 
-  from : (k : ℕ) → drop (1 + k) s ≡ drop (1 + k) v
-  from k = sym (drop-drop k 1 s) ∙ ap (drop k) e ∙ drop-drop k 1 v
+  from : (k : ℕ) → drop (2 + k) s ≡ drop (2 + k) v
+  from k = sym (drop-drop k 2 s) ∙ ap (drop k) e ∙ drop-drop k 2 v
 
   size-same : (k : ℕ) → addressSize s k ≡ addressSize v k
   unfolding addressSize
-  size-same k = let q : 1 + (3 + k) ≡ 4 + k = omega arith in subst (λ (n : ℕ). getD s n 0 ≡ getD v n 0) q (at (3 + k))
+  size-same k = let q : 2 + (2 + k) ≡ 4 + k = omega arith in subst (λ (n : ℕ). getD s n 0 ≡ getD v n 0) q (at (2 + k))
 
   address-same : (k : ℕ) → address s k ≡ address v k
   unfolding address
   address-same k =
-      let q : 1 + (103 + k * 128) ≡ 104 + k * 128 = omega arith in
-      ap₂ (λ (n : ℕ) (l : List ℕ). take (104 + k * 128 + n - (104 + k * 128)) l) (size-same k) (subst (λ (n : ℕ). drop n s ≡ drop n v) q (from (103 + k * 128)))
+      let q : 2 + (102 + k * 128) ≡ 104 + k * 128 = omega arith in
+      ap₂ (λ (n : ℕ) (l : List ℕ). take (104 + k * 128 + n - (104 + k * 128)) l) (size-same k) (subst (λ (n : ℕ). drop n s ≡ drop n v) q (from (102 + k * 128)))
 
   some-same : (n : ℕ) → addressesTo s n ≡ addressesTo v n
   unfolding addressesTo
@@ -44,19 +44,22 @@ module _ (s v : List ℕ) (e : drop 1 s ≡ drop 1 v) where
   pub rest-same : used s ≡ used v → SameContact s v
   unfolding id place idSize addresses addressCount
   rest-same u = record {
-    sameId = ap₂ (λ (n : ℕ) (l : List ℕ). take (40 + n - 40) l) (at 1) (from 39);
-    samePlace = ap (take 32) (from 7);
-    sameAddresses = some-same (getD s 3 0) ∙ ap (addressesTo v) (at 2);
+    sameId = ap₂ (λ (n : ℕ) (l : List ℕ). take (40 + n - 40) l) (at 0) (from 38);
+    samePlace = ap (take 32) (from 6);
+    sameAddresses = some-same (getD s 3 0) ∙ ap (addressesTo v) (at 1);
     sameUse = u;
   }
 
-pub lowered-rest : (o : List ℕ) (c m : ℕ) (s : List ℕ) → drop 1 (lowered o c m s) ≡ drop 1 s
+pub mark-rest : (m : ℕ) (s : List ℕ) → drop 2 (withMark m s) ≡ drop 2 s
 unfolding withMark
-lowered-rest o c m s = ⊎-elim (λ e. ap (drop 1) e) (λ e. ap (drop 1) e ∙ drop-set-lt 1 s 0 (mark s - 1) (omega arith)) (lowered-is o c m s)
+mark-rest m s = drop-set-lt 2 s 0 m (omega arith)
 
-pub mark-rest : (m : ℕ) (s : List ℕ) → drop 1 (withMark m s) ≡ drop 1 s
-unfolding withMark
-mark-rest m s = drop-set-lt 1 s 0 m (omega arith)
+pub doubt-rest : (d : ℕ) (s : List ℕ) → drop 2 (withDoubt d s) ≡ drop 2 s
+unfolding withDoubt
+doubt-rest d s = drop-set-lt 2 s 1 d (omega arith)
+
+pub lowered-rest : (o : List ℕ) (c m : ℕ) (s : List ℕ) → drop 2 (lowered o c m s) ≡ drop 2 s
+lowered-rest o c m s = ⊎-elim (λ e. ap (drop 2) e) (λ e. ap (drop 2) e ∙ mark-rest (mark s - 1) s) (lowered-is o c m s)
 
 -- ---- the first n addresses of a slot and of a peer, if they agree one by one
 agree : (s : List ℕ) (p : Peer) (n : ℕ) → ((k : ℕ) → k < n → address s k ≡ addressIn p k) → addressesTo s n ≡ peers.addressesTo p n

@@ -2,7 +2,7 @@
 use Prim.Native.Nat.{ℕ, zero, suc, _+_, _*_, _<_, _≤_}
 use mathlib.Core.Path.{_≡_, refl, sym, ap, ap₂, _∙_, subst}
 use mathlib.Core.Logic.{_⊎_, inl, inr, ⊎-elim}
-use mathlib.Core.Bool.{Bool, true, false}
+use mathlib.Core.Bool.{Bool, true, false, not}
 use mathlib.Core.List.{List}
 use native.Mathlib.Omega.{arith}
 use lib.Dec.{ltb, leb, eqb}
@@ -10,9 +10,9 @@ use lib.ListN.{length, drop}
 use borrow.Author.Tests.{lt-ltb, le-ltb, ltb-true, ltb-false, lt-leb, eqb-true, eqb-false}
 use Rattle.octets.proofs.Bools.{not-both, to-false, either, eq-or-ne, cond-yes, cond-no, cond-ind}
 use Rattle.place.specs.Place.{bucketOf}
-use Rattle.contacts.specs.Table.{slotsOf, slot, putSlot, mark, used, idSize, place, id, addresses}
+use Rattle.contacts.specs.Table.{slotsOf, slot, putSlot, mark, used, doubt, doubtful, idSize, place, id, addresses}
 use Rattle.contacts.specs.Form.{inForm}
-use Rattle.contact_table.proofs.Cuts.{mark-used, used-mark}
+use Rattle.contact_table.proofs.Cuts.{mark-used, used-mark, doubt-no}
 use Rattle.contact_form.proofs.FormFacts.{form-elim}
 use Rattle.peer.specs.declared.Peer.{Peer}
 use Rattle.peer.specs.Peers.{idIn, addressesIn}
@@ -30,15 +30,20 @@ use Rattle.contact_order.proofs.Tests.{of-used, of-is, of-make, held-lt, held-i
 use Rattle.contact_order.proofs.Closing.{lowered-long, each-slots, leave-slots, leave-in}
 use Rattle.sightings.proofs.Moves.{tailed-long, free-long}
 use Rattle.sightings.proofs.Dropping.{drop-slots, drop-self, drop-other, drop-freed, drop-free}
+use Rattle.sightings.proofs.Doubting.{lowered-doubt}
 use Rattle.sightings.proofs.Calls.{fits-held, fits-new}
-use Rattle.sightings_kept.proofs.Ordered.{Ordered, from-form, mark-byte}
+use Rattle.sightings_kept.proofs.Ordered.{Ordered, from-form}
 use Rattle.sightings_kept.proofs.Kept.{kept-used, view, drop-tail-down}
-use Rattle.sightings_kept.proofs.Forms.{bytes-long, bytes-mark, bytes-place, addr-mark, addr-place, addr-long, tailed-place, tailed-mark}
-use Rattle.sightings_kept.proofs.Said.{rest-same, lowered-rest, mark-rest, bytes-id, bytes-addresses, renewed-addresses, renewed-id, says-none, none-said}
+use Rattle.sightings_kept.proofs.Forms.{bytes-long, bytes-mark, bytes-place, bytes-trusted, addr-mark, addr-doubt, addr-place, addr-long, tailed-place, tailed-mark, tailed-doubt, tailed-byte}
+use Rattle.sightings_kept.proofs.Said.{rest-same, lowered-rest, mark-rest, doubt-rest, bytes-id, bytes-addresses, renewed-addresses, renewed-id, says-none, none-said}
 
 -- ---- others: one slot written, one slot dropped, and one step after another
 same-self : (s v : List ℕ) → s ≡ v → SameContact s v
 same-self s v e = record { sameId = ap id e; samePlace = ap place e; sameAddresses = ap addresses e; sameUse = ap used e }
+
+doubtful-by : (s v : List ℕ) → doubt s ≡ doubt v → doubtful s ≡ doubtful v
+unfolding doubtful
+doubtful-by s v e = ap (λ (d : ℕ). not (eqb d 0)) e
 
 same-of : (o : List ℕ) (b : ℕ) (s v : List ℕ) → SameContact s v → ofBucket o b v ≡ true → ofBucket o b s ≡ true
 same-of o b s v e f = of-make o b s (e .sameUse ∙ of-used o b v f) (ap (λ (x : List ℕ). bucketOf x o) (e .samePlace) ∙ of-is o b v f)
@@ -48,6 +53,7 @@ put-others t o i s l h = record {
   slots = slots-put t i s;
   contact = λ j lj ne. same-self (slot (putSlot t i s) j) (slot t j) (slot-other t i s l h j ne);
   order = λ b j k lj lk nj nk fj fk. ap₂ (λ (x y : List ℕ). ltb (mark x) (mark y)) (slot-other t i s l h j nj) (slot-other t i s l h k nk);
+  doubts = λ j lj ne. ap doubtful (slot-other t i s l h j ne);
   outside = put-outside t i s l h;
 }
 
@@ -85,8 +91,9 @@ module _ (t o : List ℕ) (i : ℕ) (l : i < slotsOf t) (F : Ordered t o) (u : u
   drop-others = record {
     slots = drop-slots t o i l;
     contact = λ j lj ne.
-        rest-same (slot (dropped t o i) j) (slot t j) (ap (drop 1) (drop-other t o i l j lj ne) ∙ lowered-rest o _ _ (slot t j)) (kept-used t o i l F u j lj ne);
+        rest-same (slot (dropped t o i) j) (slot t j) (ap (drop 2) (drop-other t o i l j lj ne) ∙ lowered-rest o _ _ (slot t j)) (kept-used t o i l F u j lj ne);
     order = drop-order;
+    doubts = λ j lj ne. doubtful-by (slot (dropped t o i) j) (slot t j) (ap doubt (drop-other t o i l j lj ne) ∙ lowered-doubt o _ _ (slot t j));
     outside = drop-outside;
   }
 
@@ -106,6 +113,7 @@ then t o u v P Q R p q a b = record {
       b .order c j k (up j lj) (up k lk) (λ w. nj (q j w)) (λ w. nk (q k w))
       (same-of o c (slot u j) (slot t j) (a .contact j lj (λ w. nj (p j w))) fj) (same-of o c (slot u k) (slot t k) (a .contact k lk (λ w. nk (p k w))) fk)
       ∙ a .order c j k lj lk (λ w. nj (p j w)) (λ w. nk (p k w)) fj fk;
+  doubts = λ j lj ne. b .doubts j (up j lj) (λ w. ne (q j w)) ∙ a .doubts j lj (λ w. ne (p j w));
   outside = ap (λ (n : ℕ). drop (n * 616) v) (sym (a .slots)) ∙ b .outside ∙ ap (λ (n : ℕ). drop (n * 616) u) (a .slots) ∙ a .outside;
 }
   where
@@ -139,11 +147,12 @@ module _ (t o : List ℕ) (i : ℕ) (l : i < slotsOf t) (s : List ℕ) (long : l
   least : mark (slot (putSlot t i s) i) ≤ tailOf (putSlot t i s) o (bucketOf p o)
   least = tail-ge (putSlot t i s) o (bucketOf p o) i inside (ap (ofBucket o (bucketOf p o)) s-is ∙ of-make o (bucketOf p o) s s-used (ap (λ (x : List ℕ). bucketOf x o) at))
 
-  pub enters : AtTail o p i (putSlot t i s)
-  enters = record {
+  pub enters : doubtful s ≡ false → AtTail o p i (putSlot t i s)
+  enters d = record {
     within = inside;
     here = ap (isAt p) s-is ∙ at-make p s s-used at;
     last = omega (arith, most, least, ap mark s-is);
+    trusted = ap doubtful s-is ∙ d;
   }
 
 -- ---- moved: out, and in again at the tail
@@ -161,10 +170,10 @@ module _ (t o : List ℕ) (i : ℕ) (l : i < slotsOf t) (F : Ordered t o) (u : u
       subst (λ (x : List ℕ). Others t o x (λ j. j ≡ i)) again
       (then t o (dropped t o i) (putSlot (dropped t o i) i s) (λ j. j ≡ i) (λ j. j ≡ i) (λ j. j ≡ i) (λ j w. w) (λ j w. w) (drop-others t o i l F u) (put-others (dropped t o i) o i s ld long))
 
-  moved-tail : AtTail o (place (slot t i)) i (putSlot (leave t o i) i s)
-  moved-tail =
+  moved-tail : doubtful s ≡ false → AtTail o (place (slot t i)) i (putSlot (leave t o i) i s)
+  moved-tail d =
       subst (λ (x : List ℕ). AtTail o (place (slot t i)) i x) again
-      (enters (dropped t o i) o i ld s long (place (slot t i)) e (m ∙ sym (drop-tail-down t o i l F u)))
+      (enters (dropped t o i) o i ld s long (place (slot t i)) e (m ∙ sym (drop-tail-down t o i l F u)) d)
 
   moved-is : slot (putSlot (leave t o i) i s) i ≡ s
   moved-is = slot-put (leave t o i) i s (leave-in t o i l) long
@@ -205,18 +214,21 @@ joins t o p G l =
     let is : slot (putSlot t (freeAt t) (contactBytes m p)) (freeAt t) ≡ contactBytes m p = slot-put t (freeAt t) (contactBytes m p) l (bytes-long o p G m) in
     record {
       others = put-others t o (freeAt t) (contactBytes m p) l (bytes-long o p G m);
-      tail = enters t o (freeAt t) l (contactBytes m p) (bytes-long o p G m) (p .place) (bytes-place o p G m) (bytes-mark o p G m);
+      tail = enters t o (freeAt t) l (contactBytes m p) (bytes-long o p G m) (p .place) (bytes-place o p G m) (bytes-mark o p G m) (bytes-trusted o p G m);
       sameId = ap id is ∙ bytes-id o p G m;
       sameAddresses = ap addresses is ∙ bytes-addresses o p G m;
       wasFree = free-is t l;
       lowest = free-lowest t;
     }
 
--- a used slot with its bucket's last mark says the same of its contact
+-- a used slot with its bucket's last mark, and doubtful no more, says the same of its contact
 module _ (t o : List ℕ) (i : ℕ) (l : i < slotsOf t) (F : Ordered t o) (u : used (slot t i) ≡ true) where
-  tailed-rest : drop 1 (tailed t o i) ≡ drop 1 (slot t i)
+  tailed-rest : drop 2 (tailed t o i) ≡ drop 2 (slot t i)
   unfolding tailed
-  tailed-rest = mark-rest _ (slot t i)
+  tailed-rest = doubt-rest 0 _ ∙ mark-rest _ (slot t i)
+
+  tailed-trusted : doubtful (tailed t o i) ≡ false
+  tailed-trusted = doubt-no (tailed t o i) (tailed-doubt t o i l F u)
 
   tailed-used : used (tailed t o i) ≡ used (slot t i)
   tailed-used = mark-used (tailed t o i) (λ z. no z (tail-ge t o (bucketOf (place (slot t i)) o) i l (of-make o _ (slot t i) u refl))) ∙ sym u
@@ -228,8 +240,8 @@ module _ (t o : List ℕ) (i : ℕ) (l : i < slotsOf t) (F : Ordered t o) (u : u
   tailed-same = rest-same (tailed t o i) (slot t i) tailed-rest tailed-used
 
   tailed-few : idSize (tailed t o i) ≤ 64
-  unfolding idSize tailed
-  tailed-few = omega (arith, mark-byte (tailOf t o (bucketOf (place (slot t i)) o)) (slot t i) 2 (omega arith), F .sound i l u .0 .idMost)
+  unfolding idSize
+  tailed-few = omega (arith, tailed-byte t o i l F u 2 (omega arith), F .sound i l u .0 .idMost)
 
   module _ (p : Peer) (G : Fair o p) (at : place (slot t i) ≡ p .place) where
     renew-seen : HeldSeen t o (p .place) (addressesIn p) i (moveAndRenew t o i p)
@@ -246,7 +258,7 @@ module _ (t o : List ℕ) (i : ℕ) (l : i < slotsOf t) (F : Ordered t o) (u : u
             let is = moved-is t o i l F u (tailed t o i) long (tailed-place t o i l F u) (tailed-mark t o i l F u) in
             record {
               others = moved-others t o i l F u (tailed t o i) long (tailed-place t o i l F u) (tailed-mark t o i l F u);
-              tail = subst (λ (x : List ℕ). AtTail o x i (putSlot (leave t o i) i (tailed t o i))) at (moved-tail t o i l F u (tailed t o i) long (tailed-place t o i l F u) (tailed-mark t o i l F u));
+              tail = subst (λ (x : List ℕ). AtTail o x i (putSlot (leave t o i) i (tailed t o i))) at (moved-tail t o i l F u (tailed t o i) long (tailed-place t o i l F u) (tailed-mark t o i l F u) tailed-trusted);
               sameId = ap id is ∙ tailed-same .sameId;
               oldAddresses = λ _. ap addresses is ∙ tailed-same .sameAddresses;
               newAddresses = λ n. absurd (n (says-none p z));
@@ -261,7 +273,7 @@ module _ (t o : List ℕ) (i : ℕ) (l : i < slotsOf t) (F : Ordered t o) (u : u
             let is = moved-is t o i l F u w lw pw mw in
             record {
               others = moved-others t o i l F u w lw pw mw;
-              tail = subst (λ (x : List ℕ). AtTail o x i (putSlot (leave t o i) i (withAddresses p (tailed t o i)))) at (moved-tail t o i l F u w lw pw mw);
+              tail = subst (λ (x : List ℕ). AtTail o x i (putSlot (leave t o i) i (withAddresses p (tailed t o i)))) at (moved-tail t o i l F u w lw pw mw (doubt-no w (addr-doubt o p G (tailed t o i) long ∙ tailed-doubt t o i l F u)));
               sameId = ap id is ∙ renewed-id o p G (tailed t o i) long tailed-few ∙ tailed-same .sameId;
               oldAddresses = λ e. absurd (n (none-said p e));
               newAddresses = λ _. ap addresses is ∙ renewed-addresses o p G (tailed t o i) long;
@@ -349,7 +361,7 @@ module _ (t o head : List ℕ) (p : Peer) (y : inForm t o ≡ true) (f : fits t 
       let is : slot (putSlot (leave t o (heldAt t head)) (heldAt t head) (tailed t o (heldAt t head))) (heldAt t head) ≡ tailed t o (heldAt t head) = moved-is t o (heldAt t head) lh G uh (tailed t o (heldAt t head)) long pl mk in
       record {
         others = moved-others t o (heldAt t head) lh G uh (tailed t o (heldAt t head)) long pl mk;
-        tail = subst (λ (x : List ℕ). AtTail o x (heldAt t head) (putSlot (leave t o (heldAt t head)) (heldAt t head) (tailed t o (heldAt t head)))) ph (moved-tail t o (heldAt t head) lh G uh (tailed t o (heldAt t head)) long pl mk);
+        tail = subst (λ (x : List ℕ). AtTail o x (heldAt t head) (putSlot (leave t o (heldAt t head)) (heldAt t head) (tailed t o (heldAt t head)))) ph (moved-tail t o (heldAt t head) lh G uh (tailed t o (heldAt t head)) long pl mk (tailed-trusted t o (heldAt t head) lh G uh));
         sameHead = subst (λ (x : List ℕ). SameContact x (slot t (heldAt t head))) (sym is) (tailed-same t o (heldAt t head) lh G uh);
       }
 

@@ -1,4 +1,4 @@
--- What seen, settle and remove promise of a table in form: who moves, who comes, who goes, and that nobody else is touched. `claims` (proofs/Claims.antt) has all of it.
+-- What seen, settle, remove and doubt promise of a table in form: who moves, who comes, who goes, and that nobody else is touched. `claims` (proofs/Claims.antt) has all of it.
 use Prim.Native.Nat.{ℕ, _*_, _<_, _≤_}
 use mathlib.Core.Path.{_≡_}
 use mathlib.Core.Logic.{_⊎_}
@@ -7,16 +7,19 @@ use mathlib.Core.List.{List, []}
 use lib.ListN.{length, getD, drop}
 use lib.Dec.{ltb}
 use Rattle.octets.specs.Search.{count}
+use Rattle.octets.specs.Octets.{Bytes}
 use Rattle.place.specs.Place.{placeOf, bucketOf}
-use Rattle.contacts.specs.Table.{slotSize, slotsOf, slot, mark, used, place, id, addresses}
+use Rattle.contacts.specs.Table.{slotSize, slotsOf, slot, mark, used, doubtful, place, id, addresses}
 use Rattle.contacts.specs.Form.{inForm}
+use Rattle.contacts.specs.Claims.{GivesFirst}
 use Rattle.peer.specs.declared.Peer.{Peer}
 use Rattle.peer.specs.Peers.{idIn, addressesIn}
 use Rattle.sightings.specs.declared.Sighting.the-variants.{Moved, Joined, Full, NoSlot}
 use Rattle.sightings.specs.declared.Settled.the-variants.{Kept, Swapped, Stale}
 use Rattle.sightings.specs.declared.Removed.the-variants.{Gone, NotHeld}
+use Rattle.sightings.specs.declared.Doubted.the-variants as doubted
 use Rattle.sightings.specs.Order.{ofBucket, isAt, isHead, heldAt, freeAt, tailOf, freeBytes, dropped}
-use Rattle.sightings.specs.Sightings.{held, sightingOf, seenTable, settlementOf, settledTable, removalOf, removedTable}
+use Rattle.sightings.specs.Sightings.{held, sightingOf, seenTable, settlementOf, settledTable, removalOf, removedTable, markingOf, markedTable}
 
 -- a peer that may come in: an id of 1 to 64 bytes, up to four addresses of 1 to 128, a place that isn't ours
 pub record Fair (ours : List ℕ) (p : Peer) : Type 0 where
@@ -37,19 +40,21 @@ pub record SameContact (s v : List ℕ) : Type 0 where
   pub sameAddresses : addresses s ≡ addresses v
   pub sameUse : used s ≡ used v
 
--- from t to u, all but some slots keep their contacts, these their order in each bucket, and the bytes past the slots stay
+-- from t to u, all but some slots keep their contacts, these their order in each bucket and their marks of doubt, and the bytes past the slots stay
 pub record Others (t ours u : List ℕ) (but : ℕ → Type 0) : Type 0 where
   pub slots : slotsOf u ≡ slotsOf t
   pub contact : (j : ℕ) → j < slotsOf t → (but j → ⊥) → SameContact (slot u j) (slot t j)
   pub order : (b j k : ℕ) → j < slotsOf t → k < slotsOf t → (but j → ⊥) → (but k → ⊥) → ofBucket ours b (slot t j) ≡ true → ofBucket ours b (slot t k) ≡ true
       → ltb (mark (slot u j)) (mark (slot u k)) ≡ ltb (mark (slot t j)) (mark (slot t k))
+  pub doubts : (j : ℕ) → j < slotsOf t → (but j → ⊥) → doubtful (slot u j) ≡ doubtful (slot t j)
   pub outside : drop (slotsOf t * slotSize) u ≡ drop (slotsOf t * slotSize) t
 
--- the peer p is held in slot i of u, at its bucket's tail
+-- the peer p is held in slot i of u, at its bucket's tail, and isn't doubtful
 pub record AtTail (ours : List ℕ) (p : List ℕ) (i : ℕ) (u : List ℕ) : Type 0 where
   pub within : i < slotsOf u
   pub here : isAt p (slot u i) ≡ true
   pub last : mark (slot u i) ≡ tailOf u ours (bucketOf p ours)
+  pub trusted : doubtful (slot u i) ≡ false
 
 -- how many contacts a bucket holds
 unfoldable pub holds : List ℕ → List ℕ → ℕ → ℕ
@@ -107,16 +112,28 @@ pub record HeadGone (t ours head p own : List ℕ) (new : List (List ℕ)) (u : 
   pub newcomer : NewSeen (dropped t ours (heldAt t head)) ours p own new (freeAt (dropped t ours (heldAt t head))) u
   pub gone : held u head ≡ false
 
+-- the contact of slot i is marked as doubtful: its id, place, addresses and rank stay, and every byte behind the mark; no other slot changes, and no byte past the slots
+pub record OnlyMarked (t : List ℕ) (i : ℕ) (u : List ℕ) : Type 0 where
+  pub slots : slotsOf u ≡ slotsOf t
+  pub marked : doubtful (slot u i) ≡ true
+  pub contact : SameContact (slot u i) (slot t i)
+  pub rank : mark (slot u i) ≡ mark (slot t i)
+  pub bytes : drop 2 (slot u i) ≡ drop 2 (slot t i)
+  pub others : (j : ℕ) → (j ≡ i → ⊥) → slot u j ≡ slot t j
+  pub outside : drop (slotsOf t * slotSize) u ≡ drop (slotsOf t * slotSize) t
+
 -- ---- the promises, of a table in form
 pub record Promised (t ours : List ℕ) : Type 0 where
   -- form is kept by each call
   pub seenForm : (p : Peer) → Fair ours p → inForm (seenTable t ours p) ours ≡ true
   pub settleForm : (head : List ℕ) (p : Peer) (answered : Bool) → Fair ours p → inForm (settledTable t ours head p answered) ours ≡ true
   pub removeForm : (p : List ℕ) → inForm (removedTable t ours p) ours ≡ true
+  pub doubtForm : (p : List ℕ) → inForm (markedTable t p) ours ≡ true
   -- and so is that every contact lies at the hash of its id
   pub seenHashed : (p : Peer) → Fair ours p → HashedPeer p → Hashed t → Hashed (seenTable t ours p)
   pub settleHashed : (head : List ℕ) (p : Peer) (answered : Bool) → Fair ours p → HashedPeer p → Hashed t → Hashed (settledTable t ours head p answered)
   pub removeHashed : (p : List ℕ) → Hashed t → Hashed (removedTable t ours p)
+  pub doubtHashed : (p : List ℕ) → Hashed t → Hashed (markedTable t p)
   -- the mark of a bucket's tail is how many the bucket holds
   pub counted : (b : ℕ) → tailOf t ours b ≡ holds t ours b
   -- seen of a contact that is held
@@ -144,6 +161,14 @@ pub record Promised (t ours : List ℕ) : Type 0 where
   pub notHeld : (p : List ℕ) → held t p ≡ false → (removalOf t p ≡ NotHeld) × (removedTable t ours p ≡ t)
   -- "Freed slots are used again": after a remove nobody is refused for want of a slot
   pub reused : (p q : List ℕ) → held t p ≡ true → sightingOf (removedTable t ours p) ours q ≡ NoSlot → ⊥
+  -- doubt of a contact that is held, and of one that isn't
+  pub marked : (p : List ℕ) → held t p ≡ true → (markingOf t p ≡ doubted.Marked) × OnlyMarked t (heldAt t p) (markedTable t p)
+  pub doubtNotHeld : (p : List ℕ) → held t p ≡ false → (markingOf t p ≡ doubted.NotHeld) × (markedTable t p ≡ t)
+  -- "Bucket order, probes and room ignore the mark": a sighting and a settle then come to what they would have come to
+  pub sightingIgnores : (p q : List ℕ) → sightingOf (markedTable t p) ours q ≡ sightingOf t ours q
+  pub settleIgnores : (p head q : List ℕ) (answered : Bool) → settlementOf (markedTable t p) ours head q answered ≡ settlementOf t ours head q answered
+  -- "being seen, or answering a probe, clears the mark": whoever a call above puts at a tail is the first for its own place
+  pub given : Bytes t → (p : List ℕ) (i : ℕ) → AtTail ours p i t → GivesFirst t p i
 
 abbrev pub Claims : Type 0
 Claims = (t ours : List ℕ) → inForm t ours ≡ true → Promised t ours

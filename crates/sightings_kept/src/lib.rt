@@ -1,1 +1,1 @@
-// What seen, settle and remove keep: form, and everyone else. Theorems on the definitions of `sightings`, in specs/ and proofs/. No code.
+// What seen, settle, remove and doubt keep: form, and everyone else. Theorems on the definitions of `sightings`, in specs/ and proofs/. No code.

@@ -26,14 +26,17 @@ part-put-peer-end c = search needs
 put-peer-requires : tie.Need-put-peer-requires
 put-peer-requires c κs = search needs
 
-slice-write-bytes : tie.Need-slice-write-bytes
-slice-write-bytes c = search needs
+slice-aggregate-copy : tie.Need-slice-aggregate-copy
+slice-aggregate-copy c = search needs
+
+copy-requires : tie.Need-copy-requires
+copy-requires c κs = search needs
 
 same-length : tie.Need-same-length
 same-length c = search needs
 
 returns-3 : tie.Need-returns-3
-returns-3 c = put-done (c .before .before .before .before .before .before .before .before .args .bytes .now) (c .before .before .put-peer .last .0) (c .before .before .before .before .before .before .before .before .args .i) (c .before .before .before .before .before .before .before .before .args .c) (omega arith) (c .before .before .put-peer .ensures)
+returns-3 c = put-done (c .before .before .before .before .before .before .before .before .before .before .before .before .before .args .bytes .now) (c .before .before .before .before .before .before .before .put-peer .last .0) (c .before .before .before .before .before .before .before .before .before .before .before .before .before .args .i) (c .before .before .before .before .before .before .before .before .before .before .before .before .before .args .c) (omega arith) (c .before .before .before .before .before .before .before .put-peer .ensures) _ (c .before .before .copy .ensures)
 
 pub put-contact-spec : {M : Type 1} → statement M
 put-contact-spec =
@@ -46,6 +49,7 @@ put-contact-spec =
     part-put-peer-start
     part-put-peer-end
     put-peer-requires
-    slice-write-bytes
+    slice-aggregate-copy
+    copy-requires
     same-length
     returns-3)

@@ -223,7 +223,7 @@ module _ {M : Type 1} (𝓤 : URA M) (H : Heap 𝓤) (A : Atoms 𝓤) (W : Given
     goes-on : (u : Upto) → u .i < m → Sq W (At u) (runs C Λ En mir'.turn-1 (anyQ (Turned u)))
     unfolding afterTurn
     goes-on u l =
-        let fit : Fits w64 (u .i * 615) = record { fits = omega (arith, gt .1) } in
+        let fit : Fits w64 (u .i * 616) = record { fits = omega (arith, gt .1) } in
         let up : Fits w64 (u .i + 1) = record { fits = omega (arith, gt .0) } in
         let i-fits : u .i < 2 ^ 64 = omega (arith, gt .0) in
         assigns ! (bin ! (load ! (from ! (stop !)) (look ! 14 refl)) (load ! (from ! (stop !)) (look ! 16 refl)) tt) (from ! (stop !)) (init ! 12 refl (tt, tt)) $
@@ -232,7 +232,7 @@ module _ {M : Type 1} (𝓤 : URA M) (H : Heap 𝓤) (A : Atoms 𝓤) (W : Given
         assigns ! (agg ! (and-then ! (load ! (from ! (stop !)) (look ! 8 refl)) (and-then ! (load ! (from ! (fld ! refl (stop !))) (look-in ! 18 (sub ! 1 refl (whole !)))) (no-more !)))) (from ! (stop !)) (init ! 6 refl (tt, (tt, (record { fits = gr .0 }, tt)))) $
         assigns ! (bin ! (load ! (from ! (stop !)) (look ! 14 refl)) (lit ! tt) fit) (from ! (stop !)) (init ! 4 refl (tt, fit)) $
         assigns ! (bin ! (load ! (from ! (fld ! refl (stop !))) (look-in ! 20 (sub ! 0 refl (whole !)))) (load ! (from ! (stop !)) (look ! 4 refl)) tt) (from ! (stop !)) (init ! 2 refl (tt, tt)) $
-        rewrite ! 2 (λ (p : ℕ). ‵ (fat fullShare tyPtr l10 0 (vptr b p))) (sym (place-is 615 o (u .i))) refl $ move ! (24 ∷ 25 ∷ []) $
+        rewrite ! 2 (λ (p : ℕ). ‵ (fat fullShare tyPtr l10 0 (vptr b p))) (sym (place-is 616 o (u .i))) refl $ move ! (24 ∷ 25 ∷ []) $
         looks-slice ! tt T.the-row (Is T.the-row) (shows 𝓤 H A T.the-row) vals (LL.tells T.the-type T′.the-laws) (LL.copy T.the-type T′.the-copy 𝓤 H A W) ys b o (λ p.
         elem-out ! T.the-row (Is T.the-row) (shows 𝓤 H A T.the-row) vals (LL.tells T.the-type T′.the-laws) p ys (u .i) blank b o l (λ ge.
         -- [contact i; what it owns; the others; what shuts; the fractured borrow; _11; …; _0; …; res; the fact; the room; [κ′]]

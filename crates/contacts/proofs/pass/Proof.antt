@@ -5,11 +5,11 @@ use Prim.Native.Nat.{_+_, _-_, _≤_}
 use mathlib.Core.Path.{_≡_, refl, sym, ap, _∙_}
 use mathlib.Core.Logic.{⊎-elim}
 use lib.ListN.{length}
-use Rattle.contacts.specs.Table.{slotsOf, slot}
-use Rattle.contacts.specs.Near.{sortOnto, usedBelow, sorted, filled}
+use Rattle.contacts.specs.Table.{slotsOf}
+use Rattle.contacts.specs.Near.{sortOnto, shownBelow, sorted, filled}
 use Rattle.contacts.specs.Inner.{kept}
-use Rattle.contact_table.proofs.Cuts.{slots-most, slot-whole, mark-cut, mark-used, mark-free}
-use Rattle.contacts.proofs.Sorting.{kept-free, nearest-kept, nearest-as}
+use Rattle.contact_table.proofs.Cuts.{slots-most, slot-whole}
+use Rattle.contacts.proofs.Sorting.{kept-hidden, nearest-kept, nearest-as}
 use Rattle.contacts.proofs.pass.Statement.{statement}
 use Rattle.contacts.proofs.pass.Tie as tie
 
@@ -23,20 +23,17 @@ slots-requires : tie.Need-slots-requires Inv-loop μ-loop
 slots-requires c κs = search needs
 
 loop-holds : tie.Need-loop-holds Inv-loop μ-loop
-unfolding kept sorted usedBelow sortOnto filled
+unfolding kept sorted shownBelow sortOnto filled
 loop-holds c = (search needs, refl, refl)
 
-mul-if1 : tie.Need-mul-if1 Inv-loop μ-loop
-mul-if1 c = omega (arith, c .before .before .slots .ensures, slots-most (c .before .before .before .before .before .args .table .now))
-
-shared-slice-read-if1 : tie.Need-shared-slice-read-if1 Inv-loop μ-loop
-shared-slice-read-if1 c = omega (arith, slot-whole (c .before .before .before .before .before .before .args .table .now) (c .before .before .loop .k) (omega (arith, c .before .before .before .slots .ensures)))
+shown-at-requires : tie.Need-shown-at-requires Inv-loop μ-loop
+shown-at-requires c κs = slot-whole (c .before .before .before .before .before .args .table .now) (c .before .loop .k) (omega (arith, c .before .before .slots .ensures))
 
 keep-requires : tie.Need-keep-requires Inv-loop μ-loop
 keep-requires c κs = record {
   long = c .before .before .before .before .before .before .before .before .pre;
   whole = slot-whole (c .before .before .before .before .before .before .before .before .args .table .now) (c .before .before .before .before .loop .k) (omega (arith, c .before .before .before .before .before .slots .ensures));
-  taken = mark-used (slot (c .before .before .before .before .before .before .before .before .args .table .now) (c .before .before .before .before .loop .k)) (λ z. c .before .if1 .taken (mark-cut (c .before .before .before .before .before .before .before .before .args .table .now) (c .before .before .before .before .loop .k) ∙ z));
+  taken = sym (c .before .before .shown-at .ensures) ∙ c .before .if1 .taken;
   count = c .before .before .before .before .loop .inv .1;
   list = c .before .before .before .before .loop .inv .2;
 }
@@ -54,7 +51,7 @@ turn c =
     ⊎-elim
     (λ w. (w .4 ∙ w .2 .ensures .0, w .3 ∙ w .2 .ensures .1))
     (λ w.
-    let e = kept-free (c .before .before .before .before .before .before .before .args .table .now) (c .before .before .before .before .before .before .before .args .target .now) (c .before .before .before .loop .k) (mark-free (slot (c .before .before .before .before .before .before .before .args .table .now) (c .before .before .before .loop .k)) (sym (mark-cut (c .before .before .before .before .before .before .before .args .table .now) (c .before .before .before .loop .k)) ∙ w .0 .left)) in
+    let e = kept-hidden (c .before .before .before .before .before .before .before .args .table .now) (c .before .before .before .before .before .before .before .args .target .now) (c .before .before .before .loop .k) (sym (c .before .shown-at .ensures) ∙ w .0 .left) in
     (w .2 ∙ c .before .before .before .loop .inv .1 ∙ ap length (sym e), w .1 ∙ c .before .before .before .loop .inv .2 ∙ ap filled (sym e)))
     (c .if1 .came)
 
@@ -74,8 +71,7 @@ pass-spec =
     μ-loop
     slots-requires
     loop-holds
-    mul-if1
-    shared-slice-read-if1
+    shown-at-requires
     keep-requires
     add-k
     loop-less

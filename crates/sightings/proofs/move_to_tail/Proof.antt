@@ -1,7 +1,7 @@
 -- `sightings::move_to_tail` meets its contract. Assumes nothing.
 use native.Mathlib.Omega.{arith}
 use mathlib.Core.Path.{ap, _∙_}
-use lib.ListN.{length}
+use lib.ListN.{length, length-set}
 use Rattle.contact_table.proofs.Cuts.{slot-whole}
 use Rattle.contact_order.proofs.Slots.{few}
 use Rattle.contact_order.proofs.Closing.{leave-length}
@@ -19,11 +19,17 @@ tail-of-requires c κs = search needs
 leave-order-requires : tie.Need-leave-order-requires
 leave-order-requires c κs = search needs
 
-mul-table : tie.Need-mul-table
-mul-table c = omega (arith, few (c .before .before .before .before .before .before .before .before .before .before .args .table .now) (c .before .before .before .before .before .before .before .before .before .before .args .i) (c .before .before .before .before .before .before .before .before .before .before .pre))
+mul-at : tie.Need-mul-at
+mul-at c = omega (arith, few (c .before .before .before .before .before .before .before .before .before .before .args .table .now) (c .before .before .before .before .before .before .before .before .before .before .args .i) (c .before .before .before .before .before .before .before .before .before .before .pre))
 
 slice-write-table : tie.Need-slice-write-table
 slice-write-table c = omega (arith, slot-whole (c .before .before .before .before .before .before .before .before .before .before .args .table .now) (c .before .before .before .before .before .before .before .before .before .before .args .i) (c .before .before .before .before .before .before .before .before .before .before .pre), ap length (c .before .before .leave-order .ensures) ∙ leave-length (c .before .before .before .before .before .before .before .before .before .before .args .table .now) (c .before .before .before .before .before .before .before .before .before .before .args .ours .now) (c .before .before .before .before .before .before .before .before .before .before .args .i))
+
+add-table : tie.Need-add-table
+add-table c = omega (arith, few (c .before .before .before .before .before .before .before .before .before .before .args .table .now) (c .before .before .before .before .before .before .before .before .before .before .args .i) (c .before .before .before .before .before .before .before .before .before .before .pre))
+
+slice-write-table-2 : tie.Need-slice-write-table-2
+slice-write-table-2 c = simp length-set (omega (arith, slot-whole (c .before .before .before .before .before .before .before .before .before .before .args .table .now) (c .before .before .before .before .before .before .before .before .before .before .args .i) (c .before .before .before .before .before .before .before .before .before .before .pre), ap length (c .before .before .leave-order .ensures) ∙ leave-length (c .before .before .before .before .before .before .before .before .before .before .args .table .now) (c .before .before .before .before .before .before .before .before .before .before .args .ours .now) (c .before .before .before .before .before .before .before .before .before .before .args .i)))
 
 same-length : tie.Need-same-length
 same-length c = search needs
@@ -38,7 +44,9 @@ move-to-tail-spec =
     bucket-at-requires
     tail-of-requires
     leave-order-requires
-    mul-table
+    mul-at
     slice-write-table
+    add-table
+    slice-write-table-2
     same-length
     returns)
