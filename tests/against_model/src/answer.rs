@@ -126,7 +126,7 @@ pub fn answer_of(outcome: &Outcome, step: &Step, world: &World) -> Answer {
         Outcome::Seen(seen) => of_seen(seen),
         Outcome::Settled(Ok(settled)) => gives(if *settled == Settled::Kept { 64 } else { 65 }, &[]),
         Outcome::Settled(Err(refusal)) => refuses(*refusal),
-        Outcome::Removed(result) => done(result),
+        Outcome::Removed(result) | Outcome::Doubted(result) => done(result),
         Outcome::Nearest(Ok(slots)) => gives(64, &twenty(&[], slots)),
         Outcome::Nearest(Err(refusal)) => refuses(*refusal),
         Outcome::Put(result) | Outcome::Ended(result) => done(result),

@@ -21,11 +21,11 @@ fn size(rng: &mut Rng) -> Size {
     let records = *rng.pick(&[0, 1, 1, 2, 3, 4, 6, 8]);
     let peers = *rng.pick(&[30, 60, 100, 150]);
     let usual = Size { contacts, records, peers, steps: 1_000, largest: false };
-    match rng.below(150) {
-        0 => Size { contacts: rng.between(CONTACT_SLOTS - 2, CONTACT_SLOTS + 3), steps: 60, largest: rng.one_in(4), ..usual },
-        1..=3 => Size { records: RECORD_SLOTS + rng.between(1, 5) - 2, steps: 150, largest: rng.one_in(2), ..usual },
-        4..=9 => Size { contacts: rng.between(60, 300), records: rng.between(9, 30), peers: 400, steps: 400, ..usual },
-        10..=25 => Size { contacts: rng.between(19, 40), records: rng.between(1, 12), largest: true, ..usual },
+    match rng.below(151) {
+        0..=1 => Size { contacts: rng.between(CONTACT_SLOTS - 2, CONTACT_SLOTS + 3), steps: 45, largest: rng.one_in(4), ..usual },
+        2..=4 => Size { records: RECORD_SLOTS + rng.between(1, 5) - 2, steps: 150, largest: rng.one_in(2), ..usual },
+        5..=10 => Size { contacts: rng.between(60, 300), records: rng.between(9, 30), peers: 400, steps: 400, ..usual },
+        11..=26 => Size { contacts: rng.between(19, 40), records: rng.between(1, 12), largest: true, ..usual },
         _ => usual,
     }
 }
@@ -39,13 +39,16 @@ fn past_the_last(rng: &mut Rng, memory: &mut Vec<u8>, slot: usize, most: usize, 
     }
 }
 
-/// All peers have been seen, and some are gone again: there are full buckets, with free slots among theirs.
+/// All peers have been seen, and some are gone again or doubtful: there are full buckets, with free slots among theirs.
 fn crowd(rng: &mut Rng, source: &Source, world: &mut World) {
     for id in &source.network.ids {
         world.run(&Step::Seen { id: id.clone(), mode: Mode::Server, addresses: gen::address_list(rng) });
     }
     for _ in 0..rng.below(6) {
         world.run(&Step::Remove { id: rng.pick(&source.network.ids).clone() });
+    }
+    for _ in 0..rng.below(20) {
+        world.run(&Step::Doubt { id: rng.pick(&source.network.ids).clone() });
     }
 }
 

@@ -50,7 +50,7 @@ impl Call {
     pub fn regions(&self) -> Vec<Region> {
         match &self.step {
             Step::Box { .. } => vec![Region::Box],
-            Step::Seen { .. } | Step::Settle { .. } | Step::Remove { .. } | Step::Nearest { .. } => vec![Region::Box, Region::Contacts],
+            Step::Seen { .. } | Step::Settle { .. } | Step::Remove { .. } | Step::Doubt { .. } | Step::Nearest { .. } => vec![Region::Box, Region::Contacts],
             Step::Put { .. } | Step::Find { .. } => vec![Region::Records],
             Step::Open { line, .. } | Step::End { line } => vec![Region::Box, Region::Connection(*line)],
             Step::Receive { line, .. } => {

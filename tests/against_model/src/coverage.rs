@@ -2,6 +2,7 @@
 
 use crate::answer::{view_numbers, Answer};
 use crate::calls::Call;
+use crate::doubts;
 use crate::twin::Twin;
 use starterbell_model::contacts;
 use starterbell_model::message::{self, Message, View};
@@ -13,7 +14,7 @@ use starterbell_model::wire::{fields, read_varint, Span};
 use std::collections::BTreeMap;
 
 /// Each entry point, with the numbers that document 01 and the comments of crates/host allow it; `receive` by the connection's side.
-const REACHABLE: [(&str, &[u32]); 19] = [
+const REACHABLE: [(&str, &[u32]); 20] = [
     ("start", &[SHORT, 12, 64]),
     ("open", &[SHORT, 12, 64]),
     ("receive, serving", &[SHORT, 0, 1, 2, 3, 4, 5, 6, 7, 8, 9, 10, 11, 12, 64, 65]),
@@ -22,6 +23,7 @@ const REACHABLE: [(&str, &[u32]); 19] = [
     ("seen", &[SHORT, 0, 12, 13, 14, 18, 64, 65]),
     ("settle", &[SHORT, 0, 12, 15, 18, 64, 65]),
     ("remove", &[SHORT, 0, 12, 15, 64]),
+    ("doubt", &[SHORT, 0, 12, 15, 64]),
     ("nearest", &[SHORT, 0, 8, 12, 64]),
     ("put", &[0, 8, 9, 10, 11, 64]),
     ("find", &[0, 64, 65]),
@@ -35,7 +37,7 @@ const REACHABLE: [(&str, &[u32]); 19] = [
     ("lookup_failure", &[SHORT, 0, 12, 16, 17, 64, 67, 68]),
 ];
 
-/// Beside the numbers: what a long run has to meet too.
+/// Beside the numbers: what a long run has to meet too, and after that what crate::doubts has.
 const MET: [&str; 46] = [
     "receive: the sender moved",
     "receive: the sender joined",
@@ -88,6 +90,12 @@ const MET: [&str; 46] = [
 /// Stands for 0 where the memory of the box, connection or lookup is too short.
 const SHORT: u32 = 99;
 
+/// What there was before a call.
+pub struct Before {
+    pub contacts: Vec<u8>,
+    pub records: Vec<u8>,
+}
+
 #[derive(Clone, Debug, Default)]
 pub struct Coverage {
     counts: BTreeMap<(usize, u32), u64>,
@@ -104,24 +112,25 @@ fn entry(step: &Step, twin: &Twin) -> usize {
         Step::Seen { .. } => 5,
         Step::Settle { .. } => 6,
         Step::Remove { .. } => 7,
-        Step::Nearest { .. } => 8,
-        Step::Put { .. } => 9,
-        Step::Find { .. } => 10,
-        Step::Read { .. } => 11,
-        Step::Peer { .. } => 12,
-        Step::Address { .. } => 13,
-        Step::Write { .. } => 14,
-        Step::Start { .. } => 15,
-        Step::Next { .. } => 16,
-        Step::Reply { .. } => 17,
-        Step::Failure { .. } => 18,
+        Step::Doubt { .. } => 8,
+        Step::Nearest { .. } => 9,
+        Step::Put { .. } => 10,
+        Step::Find { .. } => 11,
+        Step::Read { .. } => 12,
+        Step::Peer { .. } => 13,
+        Step::Address { .. } => 14,
+        Step::Write { .. } => 15,
+        Step::Start { .. } => 16,
+        Step::Next { .. } => 17,
+        Step::Reply { .. } => 18,
+        Step::Failure { .. } => 19,
         Step::Poke { .. } | Step::Lend { .. } => unreachable!("no call"),
     }
 }
 
 impl Coverage {
-    /// A call that was made, what it gave, and what there is after it; `records` are those from before it.
-    pub fn add(&mut self, records: &[u8], twin: &Twin, call: &Call, answer: &Answer) {
+    /// A call that was made, what it gave, and what there was before it and is after it.
+    pub fn add(&mut self, before: &Before, twin: &Twin, call: &Call, answer: &Answer) {
         let code = if call.is_short() { SHORT } else { answer.code };
         *self.counts.entry((entry(&call.step, twin), code)).or_default() += 1;
         if answer.numbers.len() > call.out.len() {
@@ -129,12 +138,13 @@ impl Coverage {
         }
         if !call.is_short() {
             self.note(twin, call, answer);
-            self.note_leaps(&records[..records.len().min(call.lent.records)], &call.step, answer);
+            self.note_leaps(first(&before.records, call.lent.records), &call.step, answer);
+            doubts::met(first(&before.contacts, call.lent.contacts), twin, call, answer).into_iter().for_each(|what| self.meet(what));
         }
     }
 
     fn meet(&mut self, what: &'static str) {
-        debug_assert!(MET.contains(&what));
+        debug_assert!(all_met().any(|w| w == what));
         *self.met.entry(what).or_default() += 1;
     }
 
@@ -147,7 +157,9 @@ impl Coverage {
                 self.meet("seen: 20 in the bucket of a joined one")
             }
             Step::Seen { .. } if answer.code == 14 && contacts::slots(&world.contacts) == 0 => self.meet("contacts: no slot at all"),
-            Step::Seen { .. } if answer.code >= 64 && contacts::slots(&world.contacts) == 5_120 => self.meet("contacts: 5,120 slots or more"),
+            Step::Seen { .. } | Step::Doubt { .. } | Step::Nearest { .. } if answer.code >= 64 && contacts::slots(&world.contacts) == 5_120 => {
+                self.meet("contacts: 5,120 slots or more")
+            }
             Step::Put { value, .. } if answer.code == 64 && value.len() == 2_048 => self.meet("put: a value of 2,048 bytes is taken"),
             Step::Put { .. } if answer.code != 0 && records::slots(&world.records) == 256 => self.meet("records: 256 slots or more"),
             Step::Read { body } => self.note_read(body, answer),
@@ -201,7 +213,7 @@ impl Coverage {
         }
         if answer.code == 65 {
             self.note_reply(twin, answer);
-            let body = whole_body(piece, answer);
+            let body = whole_body(piece, &answer.numbers);
             if is_split(body) && message::read(body).is_ok_and(|view| view.kind == message::PUT_VALUE) {
                 self.meet("receive: a put in two record fields is taken");
             }
@@ -214,7 +226,7 @@ impl Coverage {
         match step {
             Step::Find { key } if answer.code == 64 && held(key).is_some() => self.meet("find: a held leaper is found"),
             Step::Put { key, value } => self.note_put(true, held(key), value, answer.code),
-            Step::Receive { piece, .. } => match message::decode(whole_body(piece, answer)) {
+            Step::Receive { piece, .. } => match message::decode(whole_body(piece, &answer.numbers)) {
                 Ok(Message { kind: message::PUT_VALUE, record: Some(record), .. }) => self.note_put(false, held(&record.key), &record.value, answer.code),
                 Ok(Message { kind: message::GET_VALUE, key, .. }) if answer.code == 65 && held(&key).is_some() => {
                     self.meet("receive: GET_VALUE is served a held leaper")
@@ -291,7 +303,7 @@ impl Coverage {
             lacks.extend(strange.map(|(_, code)| format!("{name} gave {}, which it can't", title(*code))));
         }
         let met = |what: &str| self.met.get(what).copied().unwrap_or(0);
-        lacks.extend(MET.iter().filter(|w| met(w) < least).map(|w| format!("'{w}' came up only {} times", met(w))));
+        lacks.extend(all_met().filter(|w| met(w) < least).map(|w| format!("'{w}' came up only {} times", met(w))));
         lacks
     }
 
@@ -301,16 +313,25 @@ impl Coverage {
             let cell = |code: &u32| format!("{}: {}", title(*code), self.counts.get(&(i, *code)).copied().unwrap_or(0));
             println!("{name:17} {}", codes.iter().map(cell).collect::<Vec<_>>().join(", "));
         }
-        for what in MET {
+        for what in all_met() {
             println!("  {what}: {}", self.met.get(what).copied().unwrap_or(0));
         }
         println!("streams cut in other ways: {}", self.cuttings);
     }
 }
 
-/// The body of the message that was taken, if the piece had it whole, from its prefix on; else nothing.
-fn whole_body<'a>(piece: &'a [u8], answer: &Answer) -> &'a [u8] {
-    let taken = &piece[..answer.numbers[0] as usize];
+/// The first bytes, at most so many.
+fn first(bytes: &[u8], most: usize) -> &[u8] {
+    &bytes[..bytes.len().min(most)]
+}
+
+fn all_met() -> impl Iterator<Item = &'static str> {
+    MET.into_iter().chain(doubts::MET)
+}
+
+/// The body of the message that was taken, if the piece had it whole, from its prefix on; else nothing. `numbers` are those that the receive gave.
+pub fn whole_body<'a>(piece: &'a [u8], numbers: &[u64]) -> &'a [u8] {
+    let taken = &piece[..numbers[0] as usize];
     match read_varint(piece, 0, piece.len()) {
         Some((n, at)) if at <= taken.len() && n == (taken.len() - at) as u64 => &taken[at..],
         _ => &[],

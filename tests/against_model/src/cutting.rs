@@ -59,6 +59,7 @@ fn plan(source: &mut Source, twin: &Twin, ids: &[Vec<u8>]) -> Plan {
         order.push(Err(Step::Put { key, value: gen::recipe_value(&mut source.rng) }));
         let id = source.rng.pick(&source.network.ids).clone();
         order.push(Err(Step::Seen { id, mode: Mode::Server, addresses: gen::address_list(&mut source.rng) }));
+        order.push(Err(Step::Doubt { id: source.rng.pick(&source.network.ids).clone() }));
     }
     source.rng.shuffle(&mut order);
     Plan { streams, places, order }

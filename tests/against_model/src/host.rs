@@ -54,7 +54,7 @@ impl Host {
         let mut out = Guarded::of(&call.out);
         let (code, kept) = match &call.step {
             Step::Box { .. } | Step::Open { .. } | Step::Receive { .. } | Step::End { .. } => self.on_connection(call, &mut out),
-            Step::Seen { .. } | Step::Settle { .. } | Step::Remove { .. } | Step::Nearest { .. } => self.on_contacts(call, &mut out),
+            Step::Seen { .. } | Step::Settle { .. } | Step::Remove { .. } | Step::Doubt { .. } | Step::Nearest { .. } => self.on_contacts(call, &mut out),
             Step::Start { .. } | Step::Next { .. } | Step::Reply { .. } | Step::Failure { .. } => self.on_lookup(call, &mut out),
             _ => self.on_others(call, &mut out),
         };
@@ -102,6 +102,10 @@ impl Host {
             Step::Remove { id } => {
                 let given = Inputs::of([id]);
                 (raw::remove(me, contacts, given.at(0)), given.stand())
+            }
+            Step::Doubt { id } => {
+                let given = Inputs::of([id]);
+                (raw::doubt(me, contacts, given.at(0)), given.stand())
             }
             Step::Nearest { key } => {
                 let given = Inputs::of([key]);

@@ -7,6 +7,7 @@ mod begin;
 mod calls;
 mod coverage;
 mod cutting;
+mod doubts;
 mod host;
 mod layout;
 mod memory;
@@ -14,7 +15,7 @@ mod script;
 mod twin;
 
 use args::Args;
-use coverage::Coverage;
+use coverage::{Before, Coverage};
 use script::Action;
 use std::panic::{catch_unwind, AssertUnwindSafe};
 use std::sync::atomic::{AtomicBool, Ordering};
@@ -61,10 +62,10 @@ fn play(seed: u64, bounds: &Bounds, stop: &AtomicBool, done: &mut Done, step: &m
             Action::Lend { memory, length } => twin.resize(memory, length),
             Action::Call(call) => {
                 *step += 1;
-                let records = twin.world.records.clone();
+                let before = Before { contacts: twin.world.contacts.clone(), records: twin.world.records.clone() };
                 let answer = twin.call(&call).map_err(|what| format!("{}\n{what}", shortened(&format!("call: {call:02x?}"))))?;
                 done.calls += 1;
-                done.coverage.add(&records, &twin, &call, &answer);
+                done.coverage.add(&before, &twin, &call, &answer);
                 script.after(&twin, &call, &answer);
             }
         }

@@ -5,7 +5,7 @@ use crate::answer::{view_numbers, Answer};
 use crate::calls::{Call, Region};
 use crate::layout;
 use crate::twin::Twin;
-use starterbell_model::contacts::{contact, in_form};
+use starterbell_model::contacts::{self, contact, in_form};
 use starterbell_model::gen::{self, Rng, Source};
 use starterbell_model::limits::{BODY, CONTACT_SLOT, RECORD_SLOT, REPLY};
 use starterbell_model::lookup::{Lookup, Mark};
@@ -203,7 +203,8 @@ impl Script {
 
     fn odd(&mut self, twin: &Twin) -> Action {
         let (lines, lookups) = (twin.world.lines.len(), twin.world.lookups.len());
-        match self.rng.below(23) {
+        match self.rng.below(26) {
+            23..=25 => self.write_doubt(twin),
             21..=22 => self.hold_leaper(twin),
             20 if lines > 0 => {
                 let (line, at, n) = (self.rng.below(lines), self.rng.below(200), self.rng.between(1, 40));
@@ -255,6 +256,23 @@ impl Script {
             self.later.push((2, Action::Write { region, at: to, bytes: bytes[to..to + slot].to_vec() }));
         }
         Action::Write { region, at: to, bytes: spoiled[to..to + slot].to_vec() }
+    }
+
+    /// A slot's byte of doubt is written over: with a mark, or with a number that says nothing in a free slot and in a used one breaks the form. Then it is set
+    /// back after two calls: nothing else has changed then.
+    fn write_doubt(&mut self, twin: &Twin) -> Action {
+        let table = &twin.world.contacts;
+        let slots = contacts::slots(table);
+        if slots == 0 {
+            let id = self.rng.pick(&self.source.network.ids).clone();
+            return Action::Call(self.call(Step::Doubt { id }));
+        }
+        let slot = self.rng.below(slots) * CONTACT_SLOT;
+        let byte = *self.rng.pick(&[0, 1, 1, 2, 2, 3, 128, 255]);
+        if table[slot] != 0 && byte > 1 {
+            self.later.push((2, Action::Write { region: Region::Contacts, at: slot + 1, bytes: vec![table[slot + 1]] }));
+        }
+        Action::Write { region: Region::Contacts, at: slot + 1, bytes: vec![byte] }
     }
 
     /// A leaper is held from now on, as one from before document 02 (ix) is: in the slot that holds its key, or else in any.
@@ -315,7 +333,8 @@ impl Script {
             let bytes = layout::framing_bytes(&gen::odd_framing(rng)).to_vec();
             return Action::Write { region, at: layout::FRAMING, bytes };
         }
-        let (at, byte) = match rng.below(9) {
+        let (at, byte) = match rng.below(11) {
+            9..=10 => (1, *rng.pick(&[1, 1, 2, 255])),
             0 => (2, *rng.pick(&[0, 1, 64, 65, 255])),
             1 => (3, *rng.pick(&[0, 1, 4, 5, 255])),
             2 => (rng.between(4, 7), *rng.pick(&[0, 1, 128, 129, 255])),

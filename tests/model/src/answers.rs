@@ -24,12 +24,12 @@ fn peer(id: &[u8], addresses: &[Vec<u8>]) -> Peer {
     Peer { id: id.to_vec(), addresses: addresses.iter().take(limits::ADDRESSES).map(cut).collect(), connection: 0 }
 }
 
-/// "FIND_NODE, GET_VALUE: key of 1 to 128 bytes, else 8. closerPeers are the 20 nearest contacts, connection 0."
+/// "FIND_NODE, GET_VALUE: key of 1 to 128 bytes, else 8. closerPeers are the 20 nearest contacts" that aren't doubtful, "connection 0."
 fn nearest(table: &[u8], me: &Me, key: &[u8]) -> Result<Vec<contacts::Contact>, Refusal> {
     Ok(contacts::nearest(table, me, key)?.into_iter().map(|i| contacts::contact(table, i)).collect())
 }
 
-/// "FIND_NODE adds one last entry if the target place is ours or the requester's and isn't there yet."
+/// "FIND_NODE adds one last entry if the target place is ours or the requester's and isn't there yet." A doubtful requester isn't there.
 fn find_node(me: &Me, sender: &Sender, key: &[u8], table: &[u8]) -> Result<Message, Refusal> {
     let near = nearest(table, me, key)?;
     let mut closer: Vec<Peer> = near.iter().map(|c| peer(&c.id, &c.addresses)).collect();

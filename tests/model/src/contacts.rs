@@ -1,5 +1,5 @@
-//! The contact table on lent bytes. A slot has 616: rank plus 1 (0: free), a zero, id length, number of addresses, their four lengths,
-//! place (32), id (64), four addresses (128 each), with zeros after what is shorter.
+//! The contact table on lent bytes. A slot has 616: rank plus 1 (0: free), 1 where the contact is doubtful and else 0, id length, number of addresses,
+//! their four lengths, place (32), id (64), four addresses (128 each), with zeros after what is shorter.
 
 use crate::limits;
 use crate::peer::{usable, Me, Mode};
@@ -7,6 +7,7 @@ use crate::place::{bucket, distance, place_of, Place};
 use crate::Refusal;
 use std::collections::{BTreeMap, BTreeSet};
 
+const DOUBT_AT: usize = 1;
 const PLACE_AT: usize = 8;
 const ID_AT: usize = 40;
 const ADDRESSES_AT: usize = 104;
@@ -15,6 +16,8 @@ const ADDRESSES_AT: usize = 104;
 #[derive(Clone, Debug, PartialEq, Eq)]
 pub struct Contact {
     pub rank: usize,
+    /// Marked by the host, document 02 (x), and not seen since.
+    pub doubtful: bool,
     pub place: Place,
     pub id: Vec<u8>,
     pub addresses: Vec<Vec<u8>>,
@@ -36,23 +39,24 @@ fn slot_mut(table: &mut [u8], i: usize) -> &mut [u8] {
 #[derive(Clone, Copy, Debug, PartialEq, Eq)]
 pub struct Entry {
     pub rank: usize,
+    pub doubtful: bool,
     pub place: Place,
 }
 
 /// A slot alone: free, used, or 0 where a used one has a number out of range. Padding, and lengths of addresses past the number, aren't looked at.
 fn entry(slot: &[u8]) -> Result<Option<Entry>, Refusal> {
-    let (mark, kept, id_length, count) = (slot[0] as usize, slot[1], slot[2] as usize, slot[3] as usize);
+    let (mark, doubt, id_length, count) = (slot[0] as usize, slot[DOUBT_AT], slot[2] as usize, slot[3] as usize);
     if mark == 0 {
         return Ok(None);
     }
     let fits = mark <= limits::NEAREST
-        && kept == 0
+        && doubt <= 1
         && (1..=limits::ID).contains(&id_length)
         && count <= limits::ADDRESSES
         && slot[4..4 + count].iter().all(|n| (1..=limits::ADDRESS).contains(&(*n as usize)));
     let place = slot[PLACE_AT..ID_AT].try_into().expect("32 bytes");
     if fits {
-        Ok(Some(Entry { rank: mark - 1, place }))
+        Ok(Some(Entry { rank: mark - 1, doubtful: doubt == 1, place }))
     } else {
         Err(Refusal::OutOfForm)
     }
@@ -91,6 +95,7 @@ pub fn contact(table: &[u8], i: usize) -> Contact {
     let at = |n: usize| ADDRESSES_AT + limits::ADDRESS * n;
     Contact {
         rank: s[0] as usize - 1,
+        doubtful: s[DOUBT_AT] == 1,
         place: s[PLACE_AT..ID_AT].try_into().expect("32 bytes"),
         id: s[ID_AT..ID_AT + s[2] as usize].to_vec(),
         addresses: (0..s[3] as usize).map(|n| s[at(n)..at(n) + s[4 + n] as usize].to_vec()).collect(),
@@ -101,6 +106,7 @@ pub fn contact(table: &[u8], i: usize) -> Contact {
 pub fn slot_bytes(c: &Contact) -> Vec<u8> {
     let mut s = vec![0; limits::CONTACT_SLOT];
     s[0] = c.rank as u8 + 1;
+    s[DOUBT_AT] = u8::from(c.doubtful);
     s[2] = c.id.len() as u8;
     s[3] = c.addresses.len() as u8;
     s[PLACE_AT..ID_AT].copy_from_slice(&c.place);
@@ -113,9 +119,10 @@ pub fn slot_bytes(c: &Contact) -> Vec<u8> {
     s
 }
 
-/// The slots of the 20 nearest to a target, nearest first.
+/// The slots of the 20 nearest to a target, nearest first. "Passes over doubtful ones, so it gives the 20 nearest that aren't, or all such."
 pub fn nearest_slots(all: &Entries, target: &Place) -> Vec<usize> {
-    let mut by_distance: Vec<(Place, usize)> = all.iter().enumerate().filter_map(|(i, e)| e.map(|e| (distance(&e.place, target), i))).collect();
+    let away = |e: &Option<Entry>| e.filter(|e| !e.doubtful).map(|e| distance(&e.place, target));
+    let mut by_distance: Vec<(Place, usize)> = all.iter().enumerate().filter_map(|(i, e)| Some((away(e)?, i))).collect();
     by_distance.sort();
     by_distance.into_iter().map(|(_, i)| i).take(limits::NEAREST).collect()
 }
@@ -149,12 +156,13 @@ fn rank(table: &mut [u8], order: &[usize]) {
     }
 }
 
-/// A held contact moves to its bucket's tail.
+/// A held contact moves to its bucket's tail, for it was seen or answered a probe: it is doubtful no more.
 fn to_tail(table: &mut [u8], all: &Entries, ours: &Place, i: usize) {
     let mut order = bucket_slots(all, ours, bucket(&all[i].expect("held").place, ours));
     order.retain(|j| *j != i);
     order.push(i);
     rank(table, &order);
+    slot_mut(table, i)[DOUBT_AT] = 0;
 }
 
 /// A held contact goes: its slot is cleared, and those behind it move up.
@@ -229,7 +237,7 @@ pub fn seen_place(table: &mut [u8], all: &Entries, ours: &Place, id: &[u8], plac
     match all.iter().position(|e| e.is_none()) {
         None => Seen::Refused(Refusal::NoContactSlot),
         Some(i) => {
-            let joins = Contact { rank: order.len(), place: *place, id: id.to_vec(), addresses: addresses.to_vec() };
+            let joins = Contact { rank: order.len(), doubtful: false, place: *place, id: id.to_vec(), addresses: addresses.to_vec() };
             slot_mut(table, i).copy_from_slice(&slot_bytes(&joins));
             Seen::Joined { slot: i }
         }
@@ -292,6 +300,15 @@ pub fn remove(table: &mut [u8], me: &Me, id: &[u8]) -> Result<usize, Refusal> {
     let place = me.place_of(id)?;
     let i = slot_of(&all, &place).ok_or(Refusal::NoLongerFits)?;
     take_out(table, &all, &me.place, i);
+    Ok(i)
+}
+
+/// Doubt: 0, 12, 15 for a contact not held; else the slot of the contact, which is doubtful from now on. Nothing but its mark changes.
+pub fn doubt(table: &mut [u8], me: &Me, id: &[u8]) -> Result<usize, Refusal> {
+    let all = entries(table, &me.place)?;
+    let place = me.place_of(id)?;
+    let i = slot_of(&all, &place).ok_or(Refusal::NoLongerFits)?;
+    slot_mut(table, i)[DOUBT_AT] = 1;
     Ok(i)
 }
 

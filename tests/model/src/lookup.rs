@@ -106,7 +106,7 @@ impl Lookup {
         }
     }
 
-    /// Start: 0 (contacts), 8, 12 for our own id, 20; then the 20 nearest contacts as idle candidates.
+    /// Start: 0 (contacts), 8, 12 for our own id, 20; then the 20 nearest contacts that aren't doubtful as idle candidates.
     pub fn start(table: &[u8], me: &Me, key: &[u8], concurrency: u64) -> (Lookup, Step) {
         let begun = contacts::nearest(table, me, key).and_then(|nearest| {
             if (1..=limits::CONCURRENCY).contains(&concurrency) {

@@ -60,6 +60,9 @@ pub enum Step {
     Remove {
         id: Vec<u8>,
     },
+    Doubt {
+        id: Vec<u8>,
+    },
     Nearest {
         key: Vec<u8>,
     },
@@ -143,6 +146,8 @@ pub enum Outcome {
     Settled(Result<Settled, Refusal>),
     /// The slot that was freed.
     Removed(Result<usize, Refusal>),
+    /// The slot of the contact that is doubtful now.
+    Doubted(Result<usize, Refusal>),
     /// The slots of the nearest.
     Nearest(Result<Vec<usize>, Refusal>),
     Put(Result<(), Refusal>),
@@ -167,7 +172,7 @@ impl Outcome {
         let refusal = match self {
             Outcome::Seen(seen) => seen.refusal(),
             Outcome::Settled(r) => r.err(),
-            Outcome::Removed(r) => r.err(),
+            Outcome::Removed(r) | Outcome::Doubted(r) => r.err(),
             Outcome::Nearest(r) => r.as_ref().err().copied(),
             Outcome::Put(r) | Outcome::Ended(r) => r.err(),
             Outcome::Found(r) => r.as_ref().err().copied(),
@@ -243,6 +248,7 @@ impl World {
                 Outcome::Settled(contacts::settle(&mut self.contacts, &self.me, head, newcomer, *answered))
             }
             Step::Remove { id } => Outcome::Removed(contacts::remove(&mut self.contacts, &self.me, id)),
+            Step::Doubt { id } => Outcome::Doubted(contacts::doubt(&mut self.contacts, &self.me, id)),
             Step::Nearest { key } => Outcome::Nearest(contacts::nearest(&self.contacts, &self.me, key)),
             Step::Put { key, value } => Outcome::Put(records::put(&mut self.records, key, value)),
             Step::Find { key } => Outcome::Found(records::find(&self.records, key)),

@@ -1,4 +1,4 @@
-//! Every bench example of document 01, and the sizes and old mistakes it names.
+//! Every bench example of document 01, and the sizes and old mistakes it names; of document 02 (x), what a doubtful requester is told.
 
 use starterbell_model::contacts::{self, Newcomer, Seen, Settled};
 use starterbell_model::gen::{place_in, Rng};
@@ -221,7 +221,7 @@ fn the_extra_entry_of_find_node() {
     let mut table: Vec<u8> = (0..25)
         .flat_map(|n| {
             let place = place_in(&mut rng, &me.place, n);
-            contacts::slot_bytes(&contacts::Contact { rank: 0, place, id: vec![n as u8 + 1], addresses: vec![] })
+            contacts::slot_bytes(&contacts::Contact { rank: 0, doubtful: false, place, id: vec![n as u8 + 1], addresses: vec![] })
         })
         .collect();
     let (ours, _) = find_node(&me, &mut table, b"this box", Mode::Client);
@@ -237,6 +237,26 @@ fn the_extra_entry_of_find_node() {
     assert_eq!(find_node(&me, &mut table, b"asker", Mode::Server).1, Some(Seen::Joined { slot: 25 }));
     let (held, sighting) = find_node(&me, &mut table, b"asker", Mode::Server);
     assert_eq!((held.len(), &held[0].id[..], sighting), (20, &b"asker"[..], Some(Seen::Moved { slot: 25 })), "it is there already");
+}
+
+/// Document 02 (x): the extra entry stands even if its peer is doubtful, and a sighting ends the doubt.
+#[test]
+fn a_doubtful_requester_is_the_last_entry() {
+    let me = me();
+    let mut table = vec![0; 3 * limits::CONTACT_SLOT];
+    for id in [&b"asker"[..], b"x", b"y"] {
+        contacts::seen(&mut table, &me, id, Mode::Server, &[1, 0, 7]);
+    }
+    contacts::doubt(&mut table, &me, b"asker").expect("held");
+    contacts::doubt(&mut table, &me, b"x").expect("held");
+    let ids = |peers: &[Peer]| peers.iter().map(|p| p.id.clone()).collect::<Vec<_>>();
+    assert_eq!(ids(&find_node(&me, &mut table, b"x", Mode::Client).0), [b"y".to_vec()], "another who asks for it doesn't get it");
+    let (theirs, _) = find_node(&me, &mut table, b"asker", Mode::Client);
+    assert_eq!((ids(&theirs), &theirs[1].addresses), (vec![b"y".to_vec(), b"asker".to_vec()], &vec![vec![1, 2, 3]]), "with the addresses of the open");
+    let (theirs, sighting) = find_node(&me, &mut table, b"asker", Mode::Server);
+    assert_eq!((ids(&theirs), sighting), (vec![b"y".to_vec(), b"asker".to_vec()], Some(Seen::Moved { slot: 0 })), "a client's request has cleared nothing");
+    let (theirs, _) = find_node(&me, &mut table, b"asker", Mode::Server);
+    assert_eq!((ids(&theirs), &theirs[0].addresses), (vec![b"asker".to_vec(), b"y".to_vec()], &vec![vec![1, 2, 3]]));
 }
 
 #[test]

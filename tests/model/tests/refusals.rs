@@ -85,7 +85,7 @@ fn value(sequence: u64, note: &[u8]) -> Vec<u8> {
 }
 
 fn held(rank: usize, id: &[u8]) -> Vec<u8> {
-    contacts::slot_bytes(&Contact { rank, place: place_of(id), id: id.to_vec(), addresses: vec![vec![1]] })
+    contacts::slot_bytes(&Contact { rank, doubtful: false, place: place_of(id), id: id.to_vec(), addresses: vec![vec![1]] })
 }
 
 #[test]
@@ -100,7 +100,7 @@ fn refusal_0_of_contacts() {
     assert!(one(&|_| {}));
     for (at, good, bad) in [
         (0, vec![0, 1], vec![2, 20, 21, 255]),
-        (1, vec![0], vec![1, 255]),
+        (1, vec![0, 1], vec![2, 3, 128, 255]),
         (2, vec![1, 64], vec![0, 65, 255]),
         (3, vec![0, 1], vec![2, 5, 255]),
         (4, vec![1, 128], vec![0, 129, 255]),
@@ -135,7 +135,7 @@ fn refusal_0_of_ranks() {
     let me = me();
     let mut rng = Rng::new(3);
     let mut table = |ranks: &[usize], number: usize| -> Vec<u8> {
-        let contact = |(rank, place)| contacts::slot_bytes(&Contact { rank, place, id: vec![1], addresses: vec![] });
+        let contact = |(rank, place)| contacts::slot_bytes(&Contact { rank, doubtful: rank == 1, place, id: vec![1], addresses: vec![] });
         ranks.iter().map(|r| (*r, place_in(&mut rng, &me.place, number))).flat_map(contact).collect()
     };
     for number in [0, 7, 100, 240] {
@@ -238,6 +238,8 @@ fn our_own_id_is_judged_after_0_to_2() {
     assert_eq!(bench.refused(&[0x80, 0]), (2, 0));
     let nobody = &bench.me;
     assert_eq!(open(nobody, b"x", Mode::Server, &[], Side::Serving).1, Some(Refusal::BadPeer));
+    assert_eq!(contacts::doubt(&mut [], nobody, b"x"), Err(Refusal::BadPeer));
+    assert_eq!(contacts::doubt(&mut [0xff; limits::CONTACT_SLOT], nobody, b"x"), Err(Refusal::OutOfForm));
     assert_eq!(contacts::nearest(&[], nobody, &[]), Err(Refusal::BreaksRules));
     assert_eq!(contacts::nearest(&[], nobody, &[1]), Err(Refusal::BadPeer));
     assert_eq!(Lookup::start(&[], nobody, &[], 0).1, Step::Refused(Refusal::BreaksRules));
@@ -556,6 +558,7 @@ fn refusal_12() {
     for id in [&b""[..], &[1; 65], b"this box"] {
         assert_eq!(contacts::seen(&mut table, &me, id, Mode::Client, &[]), Seen::Refused(Refusal::BadPeer), "12 before 18");
         assert_eq!(contacts::remove(&mut table, &me, id), Err(Refusal::BadPeer));
+        assert_eq!(contacts::doubt(&mut table, &me, id), Err(Refusal::BadPeer));
         assert_eq!(contacts::settle(&mut table, &me, id, server(b"x"), true), Err(Refusal::BadPeer));
         assert_eq!(contacts::settle(&mut table, &me, b"x", Newcomer { id, ..server(b"") }, true), Err(Refusal::BadPeer));
         let (conn, refusal) = open(&me, id, Mode::Server, &[1, 0, 5], Side::Serving);
@@ -565,6 +568,7 @@ fn refusal_12() {
     }
     table[0] = 9;
     assert_eq!(contacts::seen(&mut table, &me, b"", Mode::Client, &[]), Seen::Refused(Refusal::OutOfForm));
+    assert_eq!(contacts::doubt(&mut table, &me, b""), Err(Refusal::OutOfForm));
     assert_eq!(open(&me, &[1; 64], Mode::Server, &[], Side::Serving).1, None);
 }
 
@@ -615,6 +619,7 @@ fn refusal_15() {
         assert_eq!(settle(&ids[0], Newcomer { mode: Mode::Client, ..server(&ids[20]) }), Err(Refusal::Client));
     }
     assert_eq!(contacts::remove(&mut table, &me, &ids[20]), Err(Refusal::NoLongerFits));
+    assert_eq!(contacts::doubt(&mut table, &me, &ids[20]), Err(Refusal::NoLongerFits));
     assert_eq!(table, before);
     assert_eq!(contacts::remove(&mut table, &me, &ids[7]), Ok(7));
     assert_eq!(contacts::settle(&mut table, &me, &ids[0], server(&ids[20]), true), Err(Refusal::NoLongerFits), "no longer full");
@@ -637,19 +642,79 @@ fn addresses_of_a_sighting() {
     assert_eq!(contacts::contact(&table, 0).addresses, usable(&list), "none usable: the old ones stay");
     contacts::seen(&mut table, &me, b"x", Mode::Server, &[1, 0, 7, 9]);
     assert_eq!(contacts::contact(&table, 0).addresses, [vec![7]]);
-    assert_eq!(table, contacts::slot_bytes(&Contact { rank: 0, place: place_of(b"x"), id: b"x".to_vec(), addresses: vec![vec![7]] }));
+    assert_eq!(table, contacts::slot_bytes(&Contact { rank: 0, doubtful: false, place: place_of(b"x"), id: b"x".to_vec(), addresses: vec![vec![7]] }));
     assert_eq!(addresses_of(&[1, 0, 7, 0, 0, 2, 0, 7]), [vec![7], vec![]], "what runs past the end ends the list");
 }
 
 #[test]
 fn a_held_place_keeps_its_stored_id() {
     let me = me();
-    let mut table = contacts::slot_bytes(&Contact { rank: 0, place: place_of(b"true"), id: b"stored".to_vec(), addresses: vec![] });
+    let mut table = contacts::slot_bytes(&Contact { rank: 0, doubtful: true, place: place_of(b"true"), id: b"stored".to_vec(), addresses: vec![] });
     assert_eq!(contacts::seen(&mut table, &me, b"true", Mode::Server, &[1, 0, 7]), Seen::Moved { slot: 0 });
     assert_eq!(contacts::contact(&table, 0).id, b"stored");
     assert_eq!(contacts::remove(&mut table, &me, b"stored"), Err(Refusal::NoLongerFits));
+    assert_eq!(contacts::doubt(&mut table, &me, b"stored"), Err(Refusal::NoLongerFits));
     assert_eq!(contacts::remove(&mut table, &me, b"true"), Ok(0));
     assert_eq!(table, vec![0; limits::CONTACT_SLOT]);
+}
+
+/// Which slots hold a doubtful contact.
+fn doubtful(table: &[u8], me: &Me) -> Vec<usize> {
+    let all = contacts::entries(table, &me.place).expect("in form");
+    (0..all.len()).filter(|i| all[*i].is_some_and(|e| e.doubtful)).collect()
+}
+
+#[test]
+fn a_mark_of_doubt_stays_until_its_contact_is_seen_or_answers() {
+    let (me, mut table, ids) = full(22);
+    let before = table.clone();
+    for i in [0, 5, 6, 7, 5] {
+        assert_eq!(contacts::doubt(&mut table, &me, &ids[i]), Ok(i), "twice is fine");
+    }
+    assert_eq!(doubtful(&table, &me), [0, 5, 6, 7]);
+    let changed = |now: &[u8]| (0..now.len()).filter(|at| now[*at] != before[*at]).collect::<Vec<_>>();
+    assert_eq!(changed(&table), [0, 5, 6, 7].map(|i| i * limits::CONTACT_SLOT + 1), "nothing else changes");
+    let marked = table.clone();
+    contacts::seen(&mut table, &me, &ids[5], Mode::Client, &[]);
+    let server = |id| Newcomer { id, mode: Mode::Server, addresses: &[] };
+    assert_eq!(contacts::settle(&mut table, &me, &ids[0], server(&ids[5]), true), Err(Refusal::NoLongerFits));
+    assert_eq!(contacts::settle(&mut table, &me, &ids[0], Newcomer { mode: Mode::Client, ..server(&ids[20]) }, true), Err(Refusal::Client));
+    assert_eq!(table, marked, "15 and 18 leave it, even if the head did answer");
+    let full = contacts::seen(&mut table, &me, &ids[20], Mode::Server, &[]);
+    assert_eq!(full, Seen::BucketFull { head_slot: 0, head_id: ids[0].clone() }, "a doubtful head is named for a probe");
+    assert_eq!(contacts::settle(&mut table, &me, &ids[0], server(&ids[20]), true), Ok(Settled::Kept));
+    assert_eq!(doubtful(&table, &me), [5, 6, 7], "the head answered, and those behind it keep their marks");
+    contacts::seen(&mut table, &me, &ids[5], Mode::Server, &[]);
+    contacts::seen(&mut table, &me, &ids[6], Mode::Server, &[1, 0, 9]);
+    assert_eq!(doubtful(&table, &me), [7], "with new addresses or without");
+    contacts::doubt(&mut table, &me, &ids[1]).expect("held");
+    assert_eq!(contacts::settle(&mut table, &me, &ids[1], server(&ids[20]), false), Ok(Settled::Swapped));
+    assert_eq!((contacts::contact(&table, 1).id, doubtful(&table, &me)), (ids[20].clone(), vec![7]), "a newcomer is unmarked");
+    contacts::remove(&mut table, &me, &ids[7]).expect("held");
+    table[7 * limits::CONTACT_SLOT + 1] = 1;
+    assert_eq!(contacts::seen(&mut table, &me, &ids[7], Mode::Server, &[]), Seen::Joined { slot: 7 });
+    assert_eq!(doubtful(&table, &me), [0; 0], "so is one that was removed, whatever stood in its free slot");
+}
+
+/// Document 02 (x): marked ones are passed over before the 20 are chosen.
+#[test]
+fn of_25_with_the_8_nearest_doubtful_17_are_nearest() {
+    let me = me();
+    let ids = [ids_of_bucket(&me, 0, 15), ids_of_bucket(&me, 1, 10)].concat();
+    let mut table = vec![0; 25 * limits::CONTACT_SLOT];
+    ids.iter().for_each(|id| drop(contacts::seen(&mut table, &me, id, Mode::Server, &[])));
+    let mut by_distance: Vec<usize> = (0..25).collect();
+    by_distance.sort_by_key(|i| distance(&place_of(&ids[*i]), &place_of(b"key")));
+    let nearest = |table: &[u8]| contacts::nearest(table, &me, b"key").expect("in form");
+    assert_eq!(nearest(&table), by_distance[..20]);
+    for (marked, i) in by_distance.iter().enumerate() {
+        assert_eq!(nearest(&table), by_distance[marked..25.min(20 + marked)], "{marked} are doubtful");
+        contacts::doubt(&mut table, &me, &ids[*i]).expect("held");
+    }
+    assert_eq!(nearest(&table), [0; 0]);
+    assert!(matches!(Lookup::start(&table, &me, b"key", 3).1, Step::Over(over) if over.complete && over.sent == 0));
+    contacts::seen(&mut table, &me, &ids[3], Mode::Server, &[]);
+    assert_eq!(Lookup::start(&table, &me, b"key", 3).0.candidates.len(), 1);
 }
 
 /// A lookup with three candidates of which one is in flight.

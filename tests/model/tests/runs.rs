@@ -84,6 +84,7 @@ fn label(outcome: &Outcome, world: &World) -> String {
     match outcome {
         Outcome::Seen(seen) => format!("{seen:?}").split([' ', '(']).next().unwrap_or("").to_string(),
         Outcome::Settled(Ok(settled)) => format!("{settled:?}"),
+        Outcome::Doubted(Ok(_)) => "Doubted".to_string(),
         Outcome::Found(Ok(found)) => format!("found: {}", found.is_some()),
         Outcome::Received(Received { answer: Answer::Replied { sighting, length }, .. }) => {
             let body = &world.reply[if world.reply[0] < 0x80 { 1 } else { 2 }..*length];
@@ -118,8 +119,9 @@ fn many_calls() {
     let find_nodes = ["reply of type 4, record: false, 21 peers: true, seen: true", "reply of type 4, record: false, 21 peers: false, seen: false"];
     let get_values = ["reply of type 1, record: true", "reply of type 1, record: false"];
     let overs = ["over, complete: true, answered: true", "over, complete: false, answered: true"];
-    let others = ["Moved", "Joined", "BucketFull", "Kept", "Swapped", "found: true", "found: false", "type 0, record: true", "type 5", "given", "Ask", "Wait"];
-    for part in [&find_nodes[..], &get_values, &overs, &others].concat() {
+    let on_contacts = ["Moved", "Joined", "BucketFull", "Kept", "Swapped", "Doubted"];
+    let others = ["found: true", "found: false", "type 0, record: true", "type 5", "given", "Ask", "Wait"];
+    for part in [&find_nodes[..], &get_values, &overs, &on_contacts, &others].concat() {
         assert!(reached(part), "{part} isn't reached: {labels:#?}");
     }
 }
@@ -239,6 +241,7 @@ fn script(source: &mut Source, world: &World) -> Script {
         order.push(Err(Step::Put { key, value: gen::recipe_value(&mut source.rng) }));
         let id = source.rng.pick(&source.network.ids).clone();
         order.push(Err(Step::Seen { id, mode: Mode::Server, addresses: gen::address_list(&mut source.rng) }));
+        order.push(Err(Step::Doubt { id: source.rng.pick(&source.network.ids).clone() }));
     }
     source.rng.shuffle(&mut order);
     Script { streams, places, order }

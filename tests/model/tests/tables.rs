@@ -16,20 +16,22 @@ fn start(rng: &mut Rng) -> (Me, Vec<Vec<u8>>) {
 #[test]
 fn made_up_memory_is_in_form() {
     let mut rng = Rng::new(21);
-    let mut leapers = 0;
-    for round in 0..300 {
+    let (mut leapers, mut doubtful, mut trusted) = (0, 0, 0);
+    for round in 0..600 {
         let (me, ids) = start(&mut rng);
         let slots = rng.size(0, 120);
         let clean = rng.one_in(2);
         let table = gen::table(&mut rng, &me.place, &ids, slots, clean);
-        assert!(contacts::in_form(&table, &me.place), "round {round}");
+        let all = contacts::entries(&table, &me.place).unwrap_or_else(|_| panic!("round {round}"));
+        doubtful += all.iter().flatten().filter(|e| e.doubtful).count();
+        trusted += all.iter().flatten().filter(|e| !e.doubtful).count();
         let keys: Vec<Vec<u8>> = (0..9).map(|_| gen::wind_key(&mut rng)).collect();
         let slots = rng.size(0, 20);
         let store = gen::store(&mut rng, &keys, slots, clean);
         let held = records::entries(&store).expect("in form").into_iter().flatten();
         leapers += held.filter(|e| keys.iter().any(|key| key == e.key) && recipe::is_leaper(e.value)).count();
     }
-    assert!(leapers > 100, "{leapers}");
+    assert!(leapers > 100 && doubtful > 1_000 && trusted > 2_000, "{leapers} {doubtful} {trusted}");
 }
 
 #[test]
@@ -44,6 +46,7 @@ fn spoiled_memory_gives_0_and_stays() {
             let before = table.clone();
             assert_eq!(contacts::seen(&mut table, &me, &ids[0], Mode::Server, &[]), Seen::Refused(Refusal::OutOfForm));
             assert_eq!(contacts::remove(&mut table, &me, &ids[0]), Err(Refusal::OutOfForm));
+            assert_eq!(contacts::doubt(&mut table, &me, &ids[0]), Err(Refusal::OutOfForm));
             let newcomer = Newcomer { id: &ids[1], mode: Mode::Server, addresses: &[] };
             assert_eq!(contacts::settle(&mut table, &me, &ids[0], newcomer, true), Err(Refusal::OutOfForm));
             assert_eq!(contacts::nearest(&table, &me, &[1]), Err(Refusal::OutOfForm));
@@ -63,11 +66,11 @@ fn spoiled_memory_gives_0_and_stays() {
     assert!(spoiled_tables > 300 && spoiled_stores > 200, "{spoiled_tables} {spoiled_stores}");
 }
 
-/// The table as document 01 speaks of it: buckets from head to tail, nothing of slots.
-type Buckets = BTreeMap<usize, Vec<(Vec<u8>, Vec<Vec<u8>>)>>;
+/// The table as the documents speak of it: buckets from head to tail, nothing of slots. A contact is an id, addresses, and whether it is doubtful.
+type Buckets = BTreeMap<usize, Vec<(Vec<u8>, Vec<Vec<u8>>, bool)>>;
 
 fn as_buckets(table: &[u8], me: &Me) -> Buckets {
-    let plain = |c: &Contact| (c.id.clone(), c.addresses.clone());
+    let plain = |c: &Contact| (c.id.clone(), c.addresses.clone(), c.doubtful);
     contacts::buckets(table, &me.place).iter().map(|(n, b)| (*n, b.iter().map(plain).collect())).collect()
 }
 
@@ -75,15 +78,15 @@ fn plain_seen(buckets: &mut Buckets, slots: usize, me: &Me, id: &[u8], addresses
     let used: usize = buckets.values().map(Vec::len).sum();
     let of_bucket = buckets.entry(bucket(&place_of(id), &me.place)).or_default();
     let outcome = if let Some(i) = of_bucket.iter().position(|c| c.0 == id) {
-        let (_, old) = of_bucket.remove(i);
-        of_bucket.push((id.to_vec(), if addresses.is_empty() { old } else { addresses }));
+        let (_, old, _) = of_bucket.remove(i);
+        of_bucket.push((id.to_vec(), if addresses.is_empty() { old } else { addresses }, false));
         None
     } else if of_bucket.len() == 20 {
         Some(13)
     } else if used == slots {
         Some(14)
     } else {
-        of_bucket.push((id.to_vec(), addresses));
+        of_bucket.push((id.to_vec(), addresses, false));
         None
     };
     buckets.retain(|_, b| !b.is_empty());
@@ -94,8 +97,8 @@ fn plain_settle(buckets: &mut Buckets, me: &Me, head: &[u8], id: &[u8], addresse
     let same_bucket = bucket(&place_of(id), &me.place) == bucket(&place_of(head), &me.place);
     match buckets.get_mut(&bucket(&place_of(head), &me.place)) {
         Some(b) if b.len() == 20 && b[0].0 == head && same_bucket && !b.iter().any(|c| c.0 == id) => {
-            let old_head = b.remove(0);
-            b.push(if answered { old_head } else { (id.to_vec(), addresses) });
+            let (head, old, _) = b.remove(0);
+            b.push(if answered { (head, old, false) } else { (id.to_vec(), addresses, false) });
             None
         }
         _ => Some(15),
@@ -116,6 +119,13 @@ fn plain_remove(buckets: &mut Buckets, me: &Me, id: &[u8]) -> Option<u8> {
     }
 }
 
+fn plain_doubt(buckets: &mut Buckets, id: &[u8]) -> Option<u8> {
+    let found = buckets.values_mut().flatten().find(|c| c.0 == id);
+    let refusal = if found.is_some() { None } else { Some(15) };
+    found.into_iter().for_each(|c| c.2 = true);
+    refusal
+}
+
 #[test]
 fn the_calls_do_what_the_buckets_say() {
     let mut rng = Rng::new(23);
@@ -130,6 +140,10 @@ fn the_calls_do_what_the_buckets_say() {
             let got = match rng.below(10) {
                 0 => {
                     assert_eq!(contacts::remove(&mut table, &me, &id).err().map(|r| r.number()), plain_remove(&mut plain, &me, &id));
+                    None
+                }
+                3..=4 => {
+                    assert_eq!(contacts::doubt(&mut table, &me, &id).err().map(|r| r.number()), plain_doubt(&mut plain, &id));
                     None
                 }
                 1..=2 => {
@@ -177,8 +191,10 @@ fn nearest_leaves_nobody_nearer_out() {
         let target = place_of(&key);
         let away = |i: usize| distance(&contacts::contact(&table, i).place, &target);
         let all: Vec<usize> = contacts::entries(&table, &me.place).unwrap().iter().enumerate().filter(|(_, e)| e.is_some()).map(|(i, _)| i).collect();
+        let all: Vec<usize> = all.into_iter().filter(|i| !contacts::contact(&table, *i).doubtful).collect();
         let near = contacts::nearest(&table, &me, &key).unwrap();
         assert_eq!(near.len(), all.len().min(20));
+        assert!(near.iter().all(|i| all.contains(i)));
         assert!(near.windows(2).all(|w| away(w[0]) < away(w[1])));
         assert!(all.iter().filter(|i| !near.contains(i)).all(|i| away(*i) > away(near[19])));
     }

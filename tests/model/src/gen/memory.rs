@@ -16,6 +16,7 @@ pub fn table(rng: &mut Rng, ours: &Place, ids: &[Vec<u8>], slots: usize, clean: 
     let mut held: BTreeMap<usize, Vec<Contact>> = BTreeMap::new();
     let mut places = BTreeSet::from([*ours]);
     let wanted = rng.size(0, slots);
+    let doubtful_in_ten = *rng.pick(&[0, 0, 1, 3, 6, 10]);
     for _ in 0..wanted {
         let (id, place) = if rng.one_in(2) && !ids.is_empty() {
             let id = rng.pick(ids).clone();
@@ -28,7 +29,8 @@ pub fn table(rng: &mut Rng, ours: &Place, ids: &[Vec<u8>], slots: usize, clean: 
         };
         let of_bucket = held.entry(bucket(&place, ours)).or_default();
         if id_fits(&id) && of_bucket.len() < limits::NEAREST && places.insert(place) {
-            of_bucket.push(Contact { rank: of_bucket.len(), place, id, addresses: usable_addresses(rng) });
+            let doubtful = rng.below(10) < doubtful_in_ten;
+            of_bucket.push(Contact { rank: of_bucket.len(), doubtful, place, id, addresses: usable_addresses(rng) });
         }
     }
     let mut contacts: Vec<Option<Contact>> = held.into_values().flatten().map(Some).collect();
@@ -37,11 +39,12 @@ pub fn table(rng: &mut Rng, ours: &Place, ids: &[Vec<u8>], slots: usize, clean: 
     contacts.iter().flat_map(|c| contact_slot(rng, c, clean)).collect()
 }
 
-/// A table of contacts as large as they can be: ids of 64 bytes and four addresses of 128. Buckets fill from the first.
+/// A table of contacts as large as they can be: ids of 64 bytes and four addresses of 128. Buckets fill from the first, and few are doubtful.
 pub fn largest_table(rng: &mut Rng, ours: &Place, slots: usize) -> Vec<u8> {
     let contact = |rng: &mut Rng, i: usize| {
         let addresses = (0..limits::ADDRESSES).map(|_| rng.bytes(limits::ADDRESS)).collect();
-        Contact { rank: i % limits::NEAREST, place: place_in(rng, ours, i / limits::NEAREST), id: rng.bytes(limits::ID), addresses }
+        let place = place_in(rng, ours, i / limits::NEAREST);
+        Contact { rank: i % limits::NEAREST, doubtful: rng.one_in(20), place, id: rng.bytes(limits::ID), addresses }
     };
     (0..slots).flat_map(|i| slot_bytes(&contact(rng, i))).collect()
 }
@@ -76,7 +79,7 @@ pub fn table_damage(rng: &mut Rng, table: &[u8]) -> (usize, u8) {
     let base = rng.below(slots) * limits::CONTACT_SLOT;
     match rng.below(7) {
         0 => (base, rng.below(23) as u8),
-        1 => (base + 1, rng.below(3) as u8),
+        1 => (base + 1, *rng.pick(&[0, 1, 1, 2, 255])),
         2 => (base + 2, *rng.pick(&[0, 1, 64, 65, 255])),
         3 => (base + 3, *rng.pick(&[0, 1, 4, 5, 255])),
         4 => (base + rng.between(4, 7), *rng.pick(&[0, 1, 128, 129, 255])),

@@ -266,14 +266,30 @@ impl Source {
 
     fn on_contacts(&mut self, world: &World) -> Step {
         let (id, mode, addresses) = (self.id(world), self.mode(), address_list(&mut self.rng));
-        match self.rng.below(12) {
-            0 => Step::Nearest { key: self.any_key(world) },
-            1 => Step::Remove { id },
-            2..=4 => {
+        match self.rng.below(16) {
+            0..=1 => Step::Nearest { key: self.any_key(world) },
+            2 => Step::Remove { id },
+            3..=4 => Step::Doubt { id: self.held(world).unwrap_or(id) },
+            5..=7 => {
                 let (head, newcomer) = self.head_and_newcomer(world).unwrap_or((self.id(world), id));
                 Step::Settle { head, newcomer, mode, addresses, answered: self.rng.one_in(2) }
             }
             _ => Step::Seen { id, mode, addresses },
+        }
+    }
+
+    /// Mostly somebody who is held, now and then the head of a bucket.
+    fn held(&mut self, world: &World) -> Option<Vec<u8>> {
+        if !in_form(&world.contacts, &world.me.place) || self.rng.one_in(4) {
+            return None;
+        }
+        let of_buckets: Vec<Vec<Contact>> = buckets(&world.contacts, &world.me.place).into_values().collect();
+        let heads = self.rng.one_in(4);
+        let some: Vec<&Contact> = of_buckets.iter().flat_map(|b| if heads { &b[..1] } else { &b[..] }).collect();
+        if some.is_empty() {
+            None
+        } else {
+            Some(self.rng.pick(&some).id.clone())
         }
     }
 
