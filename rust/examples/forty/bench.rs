@@ -18,6 +18,15 @@ pub enum Role {
     Liar(Liar),
 }
 
+/// What benches make of a request that went unanswered.
+#[derive(Clone, Copy, PartialEq)]
+pub enum Habit {
+    /// They mark whom they asked as doubtful, and send nobody there until it is seen again.
+    Doubts,
+    /// They mark nobody: what marking saves shows beside such a run.
+    Trusts,
+}
+
 /// A peer as the host keeps it.
 #[derive(Clone)]
 struct Known {
@@ -58,11 +67,10 @@ pub struct Bench {
     /// What came of the goals to get something.
     pub got: Vec<(Vec<u8>, Option<Vec<u8>>)>,
     number: usize,
+    habit: Habit,
     job: Option<Job>,
     jobs: u64,
     links: BTreeMap<Link, End>,
-    /// Who failed, and until when it isn't asked again.
-    resting: BTreeMap<Vec<u8>, u64>,
     probing: bool,
 }
 
@@ -73,23 +81,16 @@ fn with_peer<T>(known: &Known, act: impl FnOnce(Peer<'_>) -> T) -> T {
 }
 
 impl Bench {
-    pub fn new(number: usize, node: Node, role: Role) -> Bench {
-        Bench {
-            node,
-            role,
-            goals: VecDeque::new(),
-            got: Vec::new(),
-            number,
-            job: None,
-            jobs: 0,
-            links: BTreeMap::new(),
-            resting: BTreeMap::new(),
-            probing: false,
-        }
+    pub fn new(number: usize, node: Node, role: Role, habit: Habit) -> Bench {
+        Bench { node, role, goals: VecDeque::new(), got: Vec::new(), number, habit, job: None, jobs: 0, links: BTreeMap::new(), probing: false }
     }
 
     pub fn is_honest(&self) -> bool {
         matches!(self.role, Role::Honest)
+    }
+
+    pub fn is_silent(&self) -> bool {
+        matches!(self.role, Role::Silent)
     }
 
     pub fn is_idle(&self) -> bool {
@@ -137,7 +138,7 @@ impl Bench {
     /// Who connects says its id and address, each with its length before it. In a workshop that is what encryption and identification give.
     fn greeted(&mut self, link: Link, so_far: Vec<u8>, around: &mut Around) -> Option<End> {
         let Some((id, address, rest)) = read_greeting(&so_far) else { return Some(End::Greeting(so_far)) };
-        if matches!(self.role, Role::Silent) {
+        if self.is_silent() {
             return Some(End::Mute);
         }
         let opened = self.node.accept(Peer::server(id, &[address]));
@@ -232,9 +233,6 @@ impl Bench {
         match end {
             End::Asking(mut asking) => {
                 self.end(&mut asking.connection, around);
-                if !asking.waiting.is_empty() {
-                    self.rest(&asking.peer, around);
-                }
                 for waiting in asking.waiting {
                     self.failed(&asking.peer, waiting, around);
                 }
@@ -252,21 +250,14 @@ impl Bench {
         }
     }
 
-    /// Who failed isn't asked for a while, and what would be asked of it fails at once.
-    fn rest(&mut self, peer: &Known, around: &Around) {
-        self.resting.insert(peer.id.clone(), around.net.now() + 20 * around.net.patience());
-    }
-
-    fn rests(&self, peer: &Known, around: &Around) -> bool {
-        self.resting.get(&peer.id).is_some_and(|until| around.net.now() < *until)
-    }
-
     fn failed(&mut self, peer: &Known, waiting: Waiting, around: &mut Around) {
         around.tally.failures += 1;
         match waiting {
             Waiting::Job(number, why) => {
-                // it may be no contact: then there is nothing to take out
-                let _ = self.node.remove(&peer.id);
+                if self.habit == Habit::Doubts {
+                    // it may be no contact: then there is nothing to mark
+                    let _ = self.node.doubt(&peer.id);
+                }
                 if let (Some(job), true) = (&mut self.job, number == self.jobs) {
                     job.failed(&self.node, &peer.id, why, around);
                 }
@@ -322,14 +313,8 @@ impl Bench {
 
     /// Sends a request, on a connection that is there or on a new one.
     fn send(&mut self, peer: Known, message: &[u8], waiting: Waiting, around: &mut Around) {
-        if self.rests(&peer, around) {
-            return self.failed(&peer, waiting, around);
-        }
-        let Some(link) = self.link_to(&peer, around) else {
-            self.rest(&peer, around);
-            return self.failed(&peer, waiting, around);
-        };
-        around.send(link, message);
+        let Some(link) = self.link_to(&peer, around) else { return self.failed(&peer, waiting, around) };
+        around.ask(link, &peer.id, message);
         if let Some(End::Asking(asking)) = self.links.get_mut(&link) {
             if asking.waiting.is_empty() {
                 asking.since = around.net.now();

@@ -12,6 +12,7 @@ mod tally;
 mod tcp;
 mod world;
 
+use bench::Habit;
 use net::Net;
 use starterbell::Refusal;
 use std::io::{IsTerminal, Write};
@@ -25,6 +26,8 @@ usage: forty [--tcp] [--seed N] [--benches N] [--svg FILE]
 
 Forty boxes join over time, put winding recipes at the boxes nearest to their keys, put newer versions, and then every honest one finds every recipe.
 One in eight never answers; one in eight lies: it makes up peers, sends broken bytes, recipes that don't check or are old, or more than it was asked for.
+A box marks as doubtful who left a request unanswered, and sends nobody there until it is seen again. All of it then runs once more with boxes that mark
+nobody, so that the summary can say how many requests to silent boxes the marks save.
 Bytes come in pieces of random size. In the end each honest box is offered every recipe in both versions, in an order of its own, and all hold the same.
 The exit status is 0 where every recipe was found as it was put, every lookup has ended, and all honest boxes hold the same records.
 
@@ -98,25 +101,40 @@ fn run(wanted: &Wanted) -> Result<ExitCode, String> {
     let start = Instant::now();
     let draw = |picture: &str| std::fs::write(&wanted.svg, picture).map_err(|why| format!("{} can't be written: {why}", wanted.svg.display()));
     draw("")?; // now, not after the run
+    let world = play(wanted, Habit::Doubts, |world| draw(&svg::draw(&world.benches, &kinds(world))))?;
+    let trusting = play(wanted, Habit::Trusts, |_| Ok(()))?;
+    let mut problems = world.problems();
+    problems.extend(trusting.problems().iter().map(|problem| format!("{}{problem}", before(Habit::Trusts))));
+    let said = summary(wanted, &world, &trusting, start.elapsed()) + &verdict(&problems);
+    // a reader that has gone away is no failure of the run
+    let _ = std::io::stdout().write_all(said.as_bytes());
+    Ok(if problems.is_empty() { ExitCode::SUCCESS } else { ExitCode::FAILURE })
+}
+
+/// A run from the first bench to the last phase. `look` is called before every bench holds every recipe.
+fn play(wanted: &Wanted, habit: Habit, look: impl FnOnce(&World) -> Result<(), String>) -> Result<World, String> {
     let net: Box<dyn Net> = if wanted.tcp {
         Box::new(tcp::Tcp::new(wanted.benches, wanted.seed).map_err(|why| format!("no sockets to listen on: {why}"))?)
     } else {
         Box::new(memory::Memory::new(wanted.benches, wanted.seed))
     };
-    let mut world = World::new(wanted.benches, wanted.seed, net).map_err(|refusal| format!("a box can't be started: {refusal}"))?;
-    let mut tell = progress();
+    let mut world = World::new(wanted.benches, wanted.seed, habit, net).map_err(|refusal| format!("a box can't be started: {refusal}"))?;
+    let mut tell = progress(habit);
     world.run(&mut tell);
-    let kinds = kinds(&world);
-    draw(&svg::draw(&world.benches, &kinds))?; // before every bench holds every recipe
+    look(&world)?;
     if world.phase == Phase::Agreeing {
         world.agree();
         tell(&world);
     }
-    let problems = world.problems();
-    let said = summary(wanted, &world, &kinds, start.elapsed()) + &verdict(&problems);
-    // a reader that has gone away is no failure of the run
-    let _ = std::io::stdout().write_all(said.as_bytes());
-    Ok(if problems.is_empty() { ExitCode::SUCCESS } else { ExitCode::FAILURE })
+    Ok(world)
+}
+
+/// What stands before all that is told of such a run.
+fn before(habit: Habit) -> &'static str {
+    match habit {
+        Habit::Doubts => "",
+        Habit::Trusts => "with nobody marked, ",
+    }
 }
 
 fn verdict(problems: &[String]) -> String {
@@ -128,7 +146,8 @@ fn verdict(problems: &[String]) -> String {
 }
 
 /// On a terminal a line that changes; else a line for each phase.
-fn progress() -> impl FnMut(&World) {
+fn progress(habit: Habit) -> impl FnMut(&World) {
+    let before = before(habit);
     let terminal = std::io::stderr().is_terminal();
     let mut told = None;
     let mut last = Instant::now();
@@ -138,29 +157,29 @@ fn progress() -> impl FnMut(&World) {
         if terminal && (new || last.elapsed() > Duration::from_millis(100)) {
             last = Instant::now();
             let end = if world.phase == Phase::Over { "\n" } else { "" };
-            eprint!("\r\x1b[K{}: {} lookups, {} recipes found{end}", world.phase.says(), world.tally.lookups, world.found());
+            eprint!("\r\x1b[K{before}{}: {} lookups, {} recipes found{end}", world.phase.says(), world.tally.lookups, world.found());
         } else if new && !terminal {
-            eprintln!("{}", world.phase.says());
+            eprintln!("{before}{}", world.phase.says());
         }
     }
 }
 
 fn kinds(world: &World) -> String {
-    let silent = world.benches.iter().filter(|bench| matches!(bench.role, bench::Role::Silent)).count();
-    let (all, honest) = (world.benches.len(), world.honest());
+    let (all, honest, silent) = (world.benches.len(), world.honest(), world.silent());
     let liars = all - honest - silent;
     format!("{all} benches: {honest} honest, {silent} silent, {liars} {}", if liars == 1 { "liar" } else { "liars" })
 }
 
-fn summary(wanted: &Wanted, world: &World, kinds: &str, took: Duration) -> String {
+fn summary(wanted: &Wanted, world: &World, trusting: &World, took: Duration) -> String {
     let (tally, traffic) = (&world.tally, world.net.traffic());
     let carried = if wanted.tcp { "over TCP" } else { "in memory" };
     let each = tally.requests as f64 / tally.ended().max(1) as f64;
     let lines = [
-        format!("{kinds}; {carried}, seed {}", wanted.seed),
+        format!("{}; {carried}, seed {}", kinds(world), wanted.seed),
         format!("recipes    {} in two versions, {} puts accepted; {} finds by {} benches", world.recipes(), tally.stored, world.found(), world.honest()),
         format!("lookups    {} begun, {} complete, {} cut short", tally.lookups, tally.complete, tally.cut_short),
         format!("requests   {each:.1} for each lookup, at most {}; {} of all requests unanswered", tally.most_requests, tally.failures),
+        format!("dead       {}", dead(tally.dead, trusting.tally.dead)),
         format!("messages   {} on {} connections; {} bytes in {} pieces", tally.messages, traffic.connections, traffic.bytes, traffic.pieces),
         format!("contacts   {} heads of full buckets probed, {} swapped", tally.probes, tally.swaps),
         format!("lies       {} messages nobody asked for, {} bad recipes, {} old ones outranked", tally.unasked, tally.broken, tally.outranked),
@@ -170,6 +189,12 @@ fn summary(wanted: &Wanted, world: &World, kinds: &str, took: Duration) -> Strin
         format!("picture    {}", wanted.svg.display()),
     ];
     lines.join("\n") + "\n"
+}
+
+/// What the marks save: the requests to benches that never answer, with marks and without.
+fn dead(with: u64, without: u64) -> String {
+    let saved = if with < without { format!("{} saved", without - with) } else { "none saved".into() };
+    format!("{with} requests to silent benches; {without} where nobody is marked as doubtful: {saved}")
 }
 
 fn agreement(world: &World) -> String {

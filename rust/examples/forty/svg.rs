@@ -1,12 +1,13 @@
 //! The picture: who knows whom.
 
 use crate::bench::{Bench, Role};
+use starterbell::Contact;
 use std::collections::BTreeMap;
 use std::f64::consts::TAU;
 use std::fmt::Write;
 
 const WIDTH: f64 = 1200.0;
-const HEIGHT: f64 = 1290.0;
+const HEIGHT: f64 = 1320.0;
 const MIDDLE: (f64, f64) = (600.0, 650.0);
 /// Where the benches stand.
 const RING: f64 = 440.0;
@@ -18,7 +19,8 @@ const SILENT: &str = "#c98a1b";
 const LIAR: &str = "#c23b33";
 const PAPER: &str = "#fbfaf6";
 
-const TEXT: &str = "text { font-family: 'Helvetica Neue', Helvetica, Arial, sans-serif; fill: #22313a; } .edge { fill: none; stroke-width: 1.1; }";
+const TEXT: &str = "text { font-family: 'Helvetica Neue', Helvetica, Arial, sans-serif; fill: #22313a; } .edge { fill: none; stroke-width: 1.1; } \
+    .doubtful { stroke-dasharray: 5 4; }";
 
 /// The colours of lines: the fewer there are, the stronger.
 fn style(benches: usize) -> String {
@@ -47,13 +49,13 @@ fn order(benches: &[Bench]) -> Vec<usize> {
 }
 
 /// Who has whom as a contact.
-fn knows(benches: &[Bench]) -> Vec<Vec<bool>> {
+fn knows(benches: &[Bench]) -> Vec<Vec<Option<Contact<'_>>>> {
     let numbers: BTreeMap<&[u8], usize> = benches.iter().enumerate().map(|(n, bench)| (bench.node.id(), n)).collect();
-    let mut knows = vec![vec![false; benches.len()]; benches.len()];
+    let mut knows = vec![vec![None; benches.len()]; benches.len()];
     for (row, bench) in knows.iter_mut().zip(benches) {
         for contact in bench.node.contacts() {
             if let Some(other) = numbers.get(contact.id()) {
-                row[*other] = true;
+                row[*other] = Some(contact);
             }
         }
     }
@@ -84,13 +86,14 @@ fn edges(svg: &mut String, benches: &[Bench], angles: &BTreeMap<usize, f64>) {
     let knows = knows(benches);
     let mut lines: Vec<(u8, String)> = Vec::new();
     for a in 0..benches.len() {
-        for b in (0..benches.len()).filter(|b| knows[a][*b]) {
+        for (b, contact) in (0..benches.len()).filter_map(|b| Some((b, knows[a][b]?))) {
             let (rank, class) = match (&benches[a].role, &benches[b].role) {
                 (Role::Silent, _) | (_, Role::Silent) => (1, "silent"),
                 (Role::Liar(_), _) | (_, Role::Liar(_)) => (2, "liar"),
                 _ => (0, "honest"),
             };
-            lines.push((rank, half_line(angles[&a], angles[&b], class)));
+            let doubtful = if contact.is_doubtful() { " doubtful" } else { "" };
+            lines.push((rank, half_line(angles[&a], angles[&b], &format!("{class}{doubtful}"))));
         }
     }
     lines.sort();
@@ -134,6 +137,9 @@ fn legend(svg: &mut String) {
         let _ = writeln!(svg, r#"<path class="edge {class}" style="stroke-opacity:.9;stroke-width:2" d="M70 {y} h44"/>"#);
         let _ = writeln!(svg, r#"<circle cx="60" cy="{y}" r="9" fill="{colour}"/><text x="128" y="{}" font-size="16">{words}</text>"#, y + 5.5);
     }
+    let y = 1188.0 + kinds.len() as f64 * 30.0;
+    let _ = writeln!(svg, r#"<path class="edge silent doubtful" style="stroke-opacity:.9;stroke-width:2" d="M51 {y} h63"/>"#);
+    let _ = writeln!(svg, r#"<text x="128" y="{}" font-size="16">doubtful: it left a request unanswered</text>"#, y + 5.5);
     let words = [
         "A line starts at who knows another. Where both do, two halves meet.",
         "Benches stand in the order of their places: neighbours are near.",

@@ -3,6 +3,7 @@
 use crate::net::{Link, Net};
 use crate::rng::Rng;
 use starterbell::Refusal;
+use std::collections::BTreeSet;
 
 #[derive(Default)]
 pub struct Tally {
@@ -17,6 +18,8 @@ pub struct Tally {
     pub most_requests: u64,
     /// Peers that failed to answer in time, or at all.
     pub failures: u64,
+    /// Requests to benches that never answer.
+    pub dead: u64,
     /// Messages that nobody had asked for.
     pub unasked: u64,
     /// Recipes that honest benches got and threw away, since they don't check or are of another key.
@@ -42,12 +45,20 @@ pub struct Around<'a> {
     pub net: &'a mut dyn Net,
     pub rng: &'a mut Rng,
     pub tally: &'a mut Tally,
+    /// The ids of the benches that never answer. No bench looks at it: it is for counting.
+    pub silent: &'a BTreeSet<Vec<u8>>,
 }
 
 impl Around<'_> {
     pub fn send(&mut self, link: Link, message: &[u8]) {
         self.tally.messages += 1;
         self.net.send(link, message);
+    }
+
+    /// Sends a request.
+    pub fn ask(&mut self, link: Link, id: &[u8], message: &[u8]) {
+        self.tally.dead += u64::from(self.silent.contains(id));
+        self.send(link, message);
     }
 
     pub fn refused(&mut self, refusal: Refusal) {

@@ -1,7 +1,7 @@
 //! The run: benches join over time, put recipes, put newer ones, and then each finds all of them. In the end each is offered them all, and all hold the same.
 
 use crate::agree;
-use crate::bench::{Bench, Role};
+use crate::bench::{Bench, Habit, Role};
 use crate::job::Goal;
 use crate::liar::{Liar, Trick};
 use crate::net::Net;
@@ -10,6 +10,7 @@ use crate::tally::{Around, Tally};
 use starterbell::message::Record;
 use starterbell::recipe::{Recipe, Setpoint};
 use starterbell::{Node, Peer, Refusal, Room};
+use std::collections::BTreeSet;
 use std::time::{Duration, Instant};
 
 /// Each honest bench owns so many recipes.
@@ -67,28 +68,34 @@ pub struct World {
     pub phase: Phase,
     rng: Rng,
     recipes: Vec<Owned>,
+    silent: BTreeSet<Vec<u8>>,
     joined: usize,
     next_bother: u64,
 }
 
 impl World {
-    pub fn new(count: usize, seed: u64, net: Box<dyn Net>) -> Result<World, Refusal> {
+    pub fn new(count: usize, seed: u64, habit: Habit, net: Box<dyn Net>) -> Result<World, Refusal> {
         let mut rng = Rng(seed ^ 0xf0f0);
         let mut benches = Vec::new();
         for (number, role) in roles(count, &mut rng).into_iter().enumerate() {
             // libp2p's id of an Ed25519 key: the key itself, with what it is before it
             let id = [&[0, 36, 8, 1, 18, 32][..], &rng.bytes::<32>()].concat();
             let node = Node::start(&id, &[&net.address(number)], Room { contacts: 64, records: RECIPES_EACH * count })?;
-            benches.push(Bench::new(number, node, role));
+            benches.push(Bench::new(number, node, role, habit));
         }
         let honest: Vec<usize> = (0..count).filter(|bench| benches[*bench].is_honest()).collect();
         let owners = honest.iter().flat_map(|owner| std::iter::repeat_n(*owner, RECIPES_EACH));
         let recipes = owners.enumerate().map(|(n, owner)| make_recipe(n, owner, &mut rng)).collect::<Result<_, _>>()?;
-        Ok(World { benches, tally: Tally::default(), net, phase: Phase::Joining, rng, recipes, joined: 0, next_bother: 0 })
+        let silent = benches.iter().filter(|bench| bench.is_silent()).map(|bench| bench.node.id().to_vec()).collect();
+        Ok(World { benches, tally: Tally::default(), net, phase: Phase::Joining, rng, recipes, silent, joined: 0, next_bother: 0 })
     }
 
     pub fn recipes(&self) -> usize {
         self.recipes.len()
+    }
+
+    pub fn silent(&self) -> usize {
+        self.silent.len()
     }
 
     pub fn honest(&self) -> usize {
@@ -110,9 +117,9 @@ impl World {
     }
 
     fn step(&mut self) {
-        let World { benches, tally, net, rng, .. } = self;
+        let World { benches, tally, net, rng, silent, .. } = self;
         let news = net.poll();
-        let mut around = Around { net: net.as_mut(), rng, tally };
+        let mut around = Around { net: net.as_mut(), rng, tally, silent };
         for news in news {
             benches[news.bench].on(news, &mut around);
         }
@@ -179,11 +186,11 @@ impl World {
 
     /// The last phase, past the net: every honest bench is offered both versions of every recipe.
     pub fn agree(&mut self) {
-        let World { benches, tally, net, rng, recipes, .. } = self;
+        let World { benches, tally, net, rng, recipes, silent, .. } = self;
         let ids: Vec<Vec<u8>> = benches.iter().map(|bench| bench.node.id().to_vec()).collect();
         let offers = recipes.iter().flat_map(|recipe| recipe.versions.iter().map(|value| Record { key: &recipe.key, value }));
         let offers: Vec<Record> = offers.collect();
-        let mut around = Around { net: net.as_mut(), rng, tally };
+        let mut around = Around { net: net.as_mut(), rng, tally, silent };
         for bench in benches.iter_mut().filter(|bench| bench.is_honest()) {
             agree::offer_all(&mut bench.node, &ids, &offers, &mut around);
         }
