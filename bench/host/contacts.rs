@@ -196,6 +196,7 @@ fn move_to_tail(table: &mut [u8], ours: &[u8; 32], i: usize) {
         }
     }
     table[i * SLOT] = tail;
+    table[i * SLOT + 1] = 0;
 }
 
 fn plain_sighting(table: &mut [u8], ours: &[u8; 32], id: &[u8], p: &[u8; 32], addresses: &[u8]) -> (u8, usize) {

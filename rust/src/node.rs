@@ -153,7 +153,7 @@ impl Node {
         answer(raw::remove(&self.me, &mut self.contacts, id)).map(|_| ())
     }
 
-    /// Marks a contact as doubtful, until it is seen or answers a probe. Refused where it is none.
+    /// Marks a contact as doubtful, until it is seen or answers a probe: `nearest`, replies and new lookups pass over it. Refused where it is none.
     pub fn doubt(&mut self, id: &[u8]) -> Result<(), Refusal> {
         answer(raw::doubt(&self.me, &mut self.contacts, id)).map(|_| ())
     }

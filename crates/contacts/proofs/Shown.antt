@@ -1,7 +1,7 @@
 -- Laws of the slots that are shown. Assumes nothing.
 use Prim.Native.Nat.{ℕ}
-use mathlib.Core.Path.{_≡_, refl, sym, ap, _∙_}
-use mathlib.Core.Bool.{Bool, true, false, not}
+use mathlib.Core.Path.{_≡_, sym, ap, _∙_}
+use mathlib.Core.Bool.{true, false, not, Bool·not-not}
 use mathlib.Core.List.{List}
 use lib.Dec.{eqb}
 use borrow.Author.Tests.{not-true}
@@ -9,11 +9,6 @@ use Rattle.octets.proofs.Bools.{and-l, and-r, and-i, and-on, and-off, and-fails
 use Rattle.contacts.specs.Table.{mark, used, doubt, doubtful}
 use Rattle.contacts.specs.Near.{shown}
 use Rattle.contact_table.proofs.Cuts.{mark-used, mark-free}
-
--- for octets
-not-not : (b : Bool) → not (not b) ≡ b
-not-not true = refl
-not-not false = refl
 
 module _ (s : List ℕ) where
   pub shown-used : shown s ≡ true → used s ≡ true
@@ -40,4 +35,4 @@ module _ (s : List ℕ) where
 
   pub used-shown : (m d : ℕ) → m ≡ mark s → (m ≡ 0 → ⊥) → d ≡ doubt s → eqb d 0 ≡ shown s
   unfolding shown doubtful
-  used-shown m d e z g = ap (λ (n : ℕ). eqb n 0) g ∙ sym (and-on (used s) (not (doubtful s)) (mark-used s (λ w. z (e ∙ w))) ∙ not-not (eqb (doubt s) 0))
+  used-shown m d e z g = ap (λ (n : ℕ). eqb n 0) g ∙ sym (and-on (used s) (not (doubtful s)) (mark-used s (λ w. z (e ∙ w))) ∙ Bool·not-not (eqb (doubt s) 0))

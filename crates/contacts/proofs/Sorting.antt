@@ -1,4 +1,4 @@
--- Sorting by insertion, the used slots sorted, and the twenty nearest as `pass` keeps them. Assumes nothing.
+-- Sorting by insertion, the slots that are shown sorted, and the twenty nearest as `pass` keeps them. Assumes nothing.
 use mathlib.Core.Path.{_≡_, refl, sym, ap, ap₂, _∙_, subst}
 use mathlib.Core.Bool.{Bool, true, false, cond}
 use mathlib.Core.List.{List, [], _∷_, _++_, append-nil}

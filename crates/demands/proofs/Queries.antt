@@ -10,6 +10,7 @@ use Rattle.octets.proofs.Searching.{some-at, some-intro}
 use Rattle.octets.proofs.Strings.{same-eq, same-yes, same-refl, same-no}
 use Rattle.place.specs.Place.{placeOf}
 use Rattle.peer.specs.declared.Peer.{Peer}
+use Rattle.contact_form.proofs.Claims.{claims as formed}
 use Rattle.contacts.specs.Table.{slotsOf, slot, used, doubtful, place}
 use Rattle.contacts.specs.Form.{inForm}
 use Rattle.contacts.specs.Near.{nearestSlots, nearestOf}
@@ -55,6 +56,12 @@ listed-already me who t i b y l u e d =
     (cond-yes (listed t (place (slot t i))) [] _
     (some-intro (λ k. same (place (slot t (getD (nearestSlots t (place (slot t i))) k 0))) (place (slot t i))) _ 0 (g .0) (same-yes _ (place (slot t i)) (ap (λ (j : ℕ). place (slot t j)) (g .1)))))
 
+told-of-us : (me who : Peer) (t : List ℕ) → inForm t (me .place) ≡ true → lastEntry me who t (me .place) ≡ peerEntry me ∷ []
+unfolding lastEntry
+told-of-us me who t y =
+    cond-no (listed t (me .place)) [] _ (unlisted t (me .place) (λ i l u e. absurd (formed .follows t (me .place) y .others i l u e)))
+    ∙ cond-yes (same (me .place) (me .place)) _ _ (same-refl (me .place))
+
 no-other : (me who : Peer) (t x : List ℕ) → (x ≡ me .place → ⊥) → (x ≡ who .place → ⊥) → lastEntry me who t x ≡ []
 unfolding lastEntry
 no-other me who t x m w =
@@ -83,5 +90,6 @@ module _ (me : Peer) (own : ownFits me ≡ true) where
         find = λ who m t k e f. (findNodeReply me who t (m .key), find-is who m t k e f, refl);
         extra = told-of-itself me;
         there = listed-already me;
+        ours = told-of-us me;
         noOther = no-other me;
       }

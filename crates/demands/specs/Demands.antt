@@ -149,11 +149,12 @@ pub record Queries (me : Peer) : Type 0 where
       → (r : Message) × (verdictOf me who m t k ≡ replies r)
       × (r .closer ≡ map (λ i. contactEntry (slot t i)) (nearestSlots t (placeOf (m .key))) ++ lastEntry me who t (placeOf (m .key)))
   -- who asks for itself is told of itself: "The extra FIND_NODE entry stands even if its peer is doubtful" (document 02, x), or is no contact; one that is given has no
-  -- second entry. And nobody is told of another this way
+  -- second entry. Who asks for us is told of us. And nobody is told of another this way
   pub extra : (who : Peer) (t : List ℕ) → (who .place ≡ me .place → ⊥)
       → ((i : ℕ) → i < slotsOf t → used (slot t i) ≡ true → place (slot t i) ≡ who .place → doubtful (slot t i) ≡ true) → lastEntry me who t (who .place) ≡ peerEntry who ∷ []
   pub there : (who : Peer) (t : List ℕ) (i : ℕ) → Bytes t → contactsForm t (me .place) ≡ true → i < slotsOf t → used (slot t i) ≡ true → place (slot t i) ≡ who .place
       → doubtful (slot t i) ≡ false → lastEntry me who t (who .place) ≡ []
+  pub ours : (who : Peer) (t : List ℕ) → contactsForm t (me .place) ≡ true → lastEntry me who t (me .place) ≡ peerEntry me ∷ []
   pub noOther : (who : Peer) (t x : List ℕ) → (x ≡ me .place → ⊥) → (x ≡ who .place → ⊥) → lastEntry me who t x ≡ []
 
 -- as a host begins: memory cleared, every connection shut, buffers that 1 doesn't refuse

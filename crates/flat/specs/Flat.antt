@@ -1,4 +1,4 @@
--- The box and a connection as plain bytes that the host lends. The box is a peer, and a peer has the bytes of a contact's slot (crates/contacts, specs/Table), with 0 for rank and mark of doubt.
+-- The box and a connection as plain bytes that the host lends. The box is a peer, and a peer has the bytes of a contact's slot (crates/contacts, specs/Table), of rank 0 and not doubtful.
 -- A connection has 640:
 --
 --   bytes       what stands there

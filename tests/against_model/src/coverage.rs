@@ -157,9 +157,7 @@ impl Coverage {
                 self.meet("seen: 20 in the bucket of a joined one")
             }
             Step::Seen { .. } if answer.code == 14 && contacts::slots(&world.contacts) == 0 => self.meet("contacts: no slot at all"),
-            Step::Seen { .. } | Step::Doubt { .. } | Step::Nearest { .. } if answer.code >= 64 && contacts::slots(&world.contacts) == 5_120 => {
-                self.meet("contacts: 5,120 slots or more")
-            }
+            Step::Seen { .. } if answer.code >= 64 && contacts::slots(&world.contacts) == 5_120 => self.meet("contacts: 5,120 slots or more"),
             Step::Put { value, .. } if answer.code == 64 && value.len() == 2_048 => self.meet("put: a value of 2,048 bytes is taken"),
             Step::Put { .. } if answer.code != 0 && records::slots(&world.records) == 256 => self.meet("records: 256 slots or more"),
             Step::Read { body } => self.note_read(body, answer),
