@@ -11,7 +11,7 @@
      A box, a connection and a lookup are bytes that only these functions write. The host may copy them; there are no pointers in them.
      Contacts and records are lists of slots, cleared by the host once before their first use (all zeros), and then written by these functions alone.
      Calls that are lent none of the same memory may run at the same time.
-     No call has used more than 16 KB of stack, measured on Arm, and on x86-64 under an emulator (README.md has the figures).
+     No call has used more than 16 KB of stack, measured on Arm and on x86-64 (README.md has the figures).
 
    What a call returns
      A refusal's number, 0 to 21 (enum starterbell_refusal), or an answer from 64 up (enum starterbell_answer).
