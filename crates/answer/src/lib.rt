@@ -1,22 +1,24 @@
 // Which reply a request gets, by its type. Every function takes any bytes: callers test form and sizes first.
+use message::FIND_NODE;
 use message::Fields;
+use message::GET_VALUE;
+use message::PING;
+use message::PUT_VALUE;
 use peer::Peer;
 use refusal::Refusal;
 use replies::Answered;
-use replies::FIND_NODE;
-use replies::GET_VALUE;
-use replies::PING;
-use replies::PUT_VALUE;
 use wire::Span;
 ghost use mathlib.Core.Path.{_≡_};
-ghost use Prim.Native.Nat.{_≤_};
+ghost use mathlib.Core.List.{List};
+ghost use Prim.Native.Nat.{ℕ, _≤_};
 ghost use lib.ListN.{length};
 ghost use Rattle.octets.specs.Octets.{part};
 ghost use Rattle.message.specs.Message.{messageOf};
 ghost use Rattle.message.specs.View.{readingOf};
 ghost use Rattle.message.specs.declared.Reading.the-variants.{Whole};
-ghost use Rattle.answer.specs.Answers.{dealOf, verdictOf, recordsAfter};
-ghost use Rattle.replies.specs.Verdicts.{Gives, putVerdict, putAfter, byVerdict};
+ghost use Rattle.answer.specs.Answers.{dealOf, byRequest};
+ghost use Rattle.replies.specs.Lent.{lent};
+ghost use Rattle.replies.specs.Verdicts.{Gives, putDealt};
 
 // The bytes of a body at a span.
 fn cut(body: &[u8], p: Span) -> &[u8]
@@ -28,10 +30,10 @@ fn cut(body: &[u8], p: Span) -> &[u8]
     &body[from..end]
 }
 
-// Answers PUT_VALUE: there has to be a record.
+// Answers PUT_VALUE: there has to be a record. Whatever contacts t are lent beside.
 fn serve_put(m: Fields, body: &[u8], records: &mut [u8], reply: &mut [u8]) -> Answered
     requires { ⌜ readingOf (now body) ≡ Whole m ⌝ }
-    ensures { λ r. ⌜ Gives (byVerdict (putVerdict (messageOf (now (body .entry)) .key) (messageOf (now (body .entry)) .held) (now (records .entry))) (now (records .entry)) (putAfter (messageOf (now (body .entry)) .key) (messageOf (now (body .entry)) .held) (now (records .entry))) (now (reply .entry))) r (now (records .exit)) (now (reply .exit)) ⌝ }
+    ensures { λ r. ⌜ ((t : List ℕ) → Gives (putDealt (messageOf (now (body .entry)) .key) (messageOf (now (body .entry)) .held) (lent t (now (records .entry)) (now (reply .entry)))) r (now (records .exit)) (now (reply .exit))) ⌝ }
 {
     let key = m.key;
     let held = m.held;
@@ -58,7 +60,7 @@ fn serve(
     reply: &mut [u8],
 ) -> Answered
     requires { ⌜ readingOf (now body) ≡ Whole m ⌝ }
-    ensures { λ r. ⌜ Gives (byVerdict (verdictOf me who (messageOf (now (body .entry))) (now (contacts .entry)) (now (records .entry))) (now (records .entry)) (recordsAfter (messageOf (now (body .entry))) (now (records .entry))) (now (reply .entry))) r (now (records .exit)) (now (reply .exit)) ⌝ }
+    ensures { λ r. ⌜ Gives (byRequest me who (messageOf (now (body .entry))) (lent (now (contacts .entry)) (now (records .entry)) (now (reply .entry)))) r (now (records .exit)) (now (reply .exit)) ⌝ }
 {
     let kind = m.kind;
     if kind == PUT_VALUE {
@@ -86,7 +88,7 @@ pub fn answer(
     records: &mut [u8],
     reply: &mut [u8],
 ) -> Answered
-    ensures { λ r. ⌜ Gives (dealOf me who (now (body .entry)) (now (contacts .entry)) (now (records .entry)) (now (reply .entry))) r (now (records .exit)) (now (reply .exit)) ⌝ }
+    ensures { λ r. ⌜ Gives (dealOf me who (now (body .entry)) (lent (now (contacts .entry)) (now (records .entry)) (now (reply .entry)))) r (now (records .exit)) (now (reply .exit)) ⌝ }
 {
     match message::read(body) {
         message::Reading::Refused(r) => Answered::Refused(r),

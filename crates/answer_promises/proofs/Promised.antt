@@ -6,25 +6,25 @@ use mathlib.Core.List.{List, [], _∷_, _++_, map}
 use mathlib.Core.Option.{Option, none, some}
 use native.Mathlib.Omega.{arith}
 use lib.ListN.{length, take, length-append, length-map}
-use lib.Seq.{sets, take-all}
+use lib.Seq.{sets}
 use lib.Dec.{leb, ltb, eqb}
 use borrow.Author.Tests.{le-leb, leb-true, le-ltb}
 use Rattle.octets.specs.Octets.{part, same}
 use Rattle.octets.specs.Search.{every}
 use Rattle.octets.proofs.Bools.{cond-ind, and-i, and-r, all-none, all-one-more}
-use Rattle.octets.proofs.Searching.{every-nil, every-cons, every-head, every-tail, every-append}
+use Rattle.octets.proofs.Searching.{every-nil, every-cons, every-append}
 use Rattle.octets.proofs.Stores.{drop-sets, part-sets}
 use Rattle.octets.proofs.Strings.{same-yes}
+use Rattle.limits.specs.Limits.{mostId, mostKey, mostBody, leastReply, mostKind}
 use Rattle.place.specs.Place.{placeOf}
 use Rattle.contacts.specs.Table.{slot}
 use Rattle.contacts.specs.Near.{nearestSlots}
 use Rattle.refusal.specs.declared.Refusal.{Refusal}
 use Rattle.refusal.specs.declared.Refusal.the-variants.{Malformed, UnknownType}
 use Rattle.peer.specs.declared.Peer as peers
-use Rattle.peer.specs.Addresses.{idRoom, addressRoom, mostAddresses, keptOf}
 use Rattle.peer.specs.Peers.{idFits}
-use Rattle.peer.proofs.Lists.{isUsable, size-most, kept-few, kept-usable}
-use Rattle.peer.proofs.Meaning.{id-whole, addresses-said}
+use Rattle.peer.proofs.Meaning.{id-whole}
+use Rattle.peer.proofs.Tidy.{made-usable}
 use Rattle.records.specs.Store.{inForm, found, offerAnswer, offerAfter}
 use Rattle.records.specs.declared.Answer as stored
 use Rattle.records.specs.declared.Answer.the-variants as store
@@ -37,7 +37,6 @@ use Rattle.records_history.proofs.Holding.{held-key, held-found}
 use Rattle.wire.specs.Items.{num, minimal, written, written1, single, repeated}
 use Rattle.wire_put.proofs.Digits.{minimal-one, minimal-three}
 use Rattle.wire_put.proofs.Putting.{number-length, single-full, bytes-short}
-use Rattle.message.specs.Limits.{mostKey, mostBody, mostKind, leastReply}
 use Rattle.message.specs.Message.{Peer, Record, Message, messageOf, wellMessage, decode, encodePeer, heldItems, encode, frame}
 use Rattle.pieces.specs.Writable.{peerFits, heldFits, recordWith, writable}
 use Rattle.message.specs.View.{fieldsOf, readingOf}
@@ -46,30 +45,33 @@ use Rattle.message.specs.declared.Reading.the-variants as read
 use Rattle.pieces.proofs.Sizes.{message-length, held-most, entries-most}
 use Rattle.message.proofs.Meaning.{kind-meant}
 use Rattle.round_trip.proofs.RoundTrip.{round-trip}
-use Rattle.replies.specs.Replies.{putValue, getValue, findNode, ping, closerPeers, listed, lastEntry, findNodeReply, recordAt, getValueReply, putValueReply, pingReply}
+use Rattle.message.specs.Kinds.{putValue, getValue, findNode, ping, keyFits}
+use Rattle.replies.specs.Replies.{closerPeers, listed, lastEntry, findNodeReply, recordAt, getValueReply, putValueReply, pingReply}
 use Rattle.entries.specs.Entries.{contactEntry, peerEntry}
-use Rattle.replies.specs.Verdicts.{Verdict, replies, refuses, keyFits, keyed, echoed, putVerdict, putAfter, Dealt, refused, replied, byVerdict}
-use Rattle.answer.specs.Answers.{verdictOf, recordsAfter, byReading, dealOf}
-use Rattle.answer_promises.specs.Promises.{RefusedChangesNothing, ReadsBack, Roomed, RepliesReadBack, AnsweredByVerdict, AnsweredByFields, SentAsTyped, HeldIsServed, EntryIsPeer, RecordsStayInForm}
+use Rattle.replies.specs.Lent.{Lent, withRecords}
+use Rattle.replies.specs.Verdicts.{Verdict, replies, refuses, keyed, echoed, putVerdict, putAfter, Dealt, refused, replied, byVerdict}
+use Rattle.answer.specs.Answers.{verdictOf, recordsAfter, byRequest, byReading, dealOf}
+use Rattle.answer.proofs.Serving.{deal-contacts}
+use Rattle.answer_promises.specs.Promises.{RefusedChangesNothing, ReadsBack, Roomed, RepliesReadBack, AnsweredByVerdict, AnsweredByFields, SentAsTyped, HeldIsServed, EntryIsPeer, ContactsStay, RecordsStayInForm}
 use Rattle.replies.specs.declared.Answered.the-variants.{Reply, Refused}
-use Rattle.entries.proofs.Entries.{own-fits, id-most}
+use Rattle.entries.proofs.Entries.{entry-fits}
 use Rattle.replies.proofs.Runs.{entries-fit}
 use Rattle.replies.proofs.Whole.{record-fits, nearest-few}
 use Rattle.replies.proofs.Serving.{held-lies, value-short, taken-fits}
+use Rattle.pieces.specs.Sizes.{mostPeerField, mostRecordField, mostReply}
 
 -- ---- a refusal
-verdict-refused : (v : Verdict) (k after y : List ℕ) (r : Refusal) → byVerdict v k after y .told ≡ Refused r → (byVerdict v k after y .records ≡ k) × (byVerdict v k after y .reply ≡ y)
-verdict-refused (replies m) k after y r e = absurd (let z : _≡_ {A = ℕ} 0 1 = cc in omega arith)
-verdict-refused (refuses f) k after y r e = (refl, refl)
+verdict-refused : (v : Verdict) (after l : Lent) (r : Refusal) → byVerdict v after l .told ≡ Refused r → byVerdict v after l .left ≡ l
+verdict-refused (replies m) after l r e = absurd (let z : _≡_ {A = ℕ} 0 1 = cc in omega arith)
+verdict-refused (refuses f) after l r e = refl
 
-reading-refused : (a : Reading) (me who : peers.Peer) (m : Message) (t k y : List ℕ) (r : Refusal) → byReading a me who m t k y .told ≡ Refused r
-    → (byReading a me who m t k y .records ≡ k) × (byReading a me who m t k y .reply ≡ y)
-reading-refused (read.Refused f) me who m t k y r e = (refl, refl)
-reading-refused (read.Whole f) me who m t k y r e = verdict-refused (verdictOf me who m t k) k (recordsAfter m k) y r e
+reading-refused : (a : Reading) (me who : peers.Peer) (m : Message) (l : Lent) (r : Refusal) → byReading a me who m l .told ≡ Refused r → byReading a me who m l .left ≡ l
+reading-refused (read.Refused f) me who m l r e = refl
+reading-refused (read.Whole f) me who m l r e = verdict-refused (verdictOf me who m l) (withRecords l (recordsAfter m (l .records))) l r e
 
 pub refused-changes-nothing : RefusedChangesNothing
 unfolding dealOf
-refused-changes-nothing me who body t k y r e = reading-refused (readingOf body) me who (messageOf body) t k y r e
+refused-changes-nothing me who body l r e = reading-refused (readingOf body) me who (messageOf body) l r e
 
 -- ---- the records
 put-form : (key : List ℕ) (held : Option Record) (k : List ℕ) → inForm k ≡ true → inForm (putAfter key held k) ≡ true
@@ -82,40 +84,38 @@ after-form : (m : Message) (k : List ℕ) → inForm k ≡ true → inForm (reco
 unfolding recordsAfter
 after-form m k f = cond-ind (λ (x : List ℕ). inForm x ≡ true) (eqb (m .kind) putValue) (putAfter (m .key) (m .held) k) k (λ e. put-form (m .key) (m .held) k f) (λ e. f)
 
-verdict-form : (v : Verdict) (k after y : List ℕ) → inForm k ≡ true → inForm after ≡ true → inForm (byVerdict v k after y .records) ≡ true
-verdict-form (replies m) k after y f g = g
-verdict-form (refuses r) k after y f g = f
+verdict-form : (v : Verdict) (after l : Lent) → inForm (l .records) ≡ true → inForm (after .records) ≡ true → inForm (byVerdict v after l .left .records) ≡ true
+verdict-form (replies m) after l f g = g
+verdict-form (refuses r) after l f g = f
 
-reading-form : (a : Reading) (me who : peers.Peer) (m : Message) (t k y : List ℕ) → inForm k ≡ true → inForm (byReading a me who m t k y .records) ≡ true
-reading-form (read.Refused f) me who m t k y h = h
-reading-form (read.Whole f) me who m t k y h = verdict-form (verdictOf me who m t k) k (recordsAfter m k) y h (after-form m k h)
+reading-form : (a : Reading) (me who : peers.Peer) (m : Message) (l : Lent) → inForm (l .records) ≡ true → inForm (byReading a me who m l .left .records) ≡ true
+reading-form (read.Refused f) me who m l h = h
+reading-form (read.Whole f) me who m l h = verdict-form (verdictOf me who m l) (withRecords l (recordsAfter m (l .records))) l h (after-form m (l .records) h)
+
+pub contacts-stay : ContactsStay
+contacts-stay me who body l = deal-contacts me who body l
 
 pub records-stay-in-form : RecordsStayInForm
 unfolding dealOf
-records-stay-in-form me who body t k y h = reading-form (readingOf body) me who (messageOf body) t k y h
+records-stay-in-form me who body l h = reading-form (readingOf body) me who (messageOf body) l h
 
 -- ---- the entry of a peer
-whole-rooms : (l : List (List ℕ)) → every isUsable l ≡ true → map (take addressRoom) l ≡ l
-whole-rooms [] e = refl
-whole-rooms (a ∷ l) e =
-    ap₂ (λ (x : List ℕ) (m : List (List ℕ)). x ∷ m) (take-all addressRoom a (size-most (length a) (every-head isUsable a l e))) (whole-rooms l (every-tail isUsable a l e))
-
 pub entry-is-peer : EntryIsPeer
 unfolding peerEntry idFits
 entry-is-peer id place addresses e = (
-  id-whole id place addresses (leb-true (length id) idRoom (and-r (leb 1 (length id)) (leb (length id) idRoom) e)),
-  rw (addresses-said id place addresses, take-all mostAddresses (keptOf addresses) (kept-few addresses)) (whole-rooms (keptOf addresses) (kept-usable addresses)),
+  id-whole id place addresses (leb-true (length id) mostId (and-r (leb 1 (length id)) (leb (length id) mostId) e)),
+  made-usable id place addresses,
 )
 
 -- ---- replies are within the limits
 record Good (m : Message) : Type 0 where
   pub fits : writable m ≡ true
-  pub short : length (encode m) ≤ 14087
+  pub short : length (encode m) ≤ mostReply
 
 two-bytes : (kind : ℕ) → kind ≤ 5 → length (written1 (num 1 kind)) ≡ 2
 two-bytes kind h = omega (arith, number-length 1 kind (omega arith), minimal-one kind (omega arith))
 
-good : (m : Message) → m .kind ≤ 5 → length (m .key) ≤ 128 → heldFits (m .held) ≡ true → every peerFits (m .closer) ≡ true → m .providers ≡ [] → length (encode m) ≤ 14087 → Good m
+good : (m : Message) → m .kind ≤ 5 → length (m .key) ≤ 128 → heldFits (m .held) ≡ true → every peerFits (m .closer) ≡ true → m .providers ≡ [] → length (encode m) ≤ mostReply → Good m
 unfolding writable
 good m k l h c p b =
     let q : every peerFits (m .providers) ≡ true = rw p (every-nil peerFits) in
@@ -127,7 +127,7 @@ good m k l h c p b =
 
 -- the size of a reply with no key: type, record and closer peers
 size-of : (m : Message) → m .kind ≤ 5 → m .key ≡ [] → every peerFits (m .closer) ≡ true → m .providers ≡ []
-    → length (encode m) ≤ 2 + length (written (heldItems (m .held))) + 595 * length (m .closer)
+    → length (encode m) ≤ 2 + length (written (heldItems (m .held))) + mostPeerField * length (m .closer)
 unfolding single repeated written
 size-of m k ek c ep =
     let b : length (written (single 2 (m .key))) ≡ 0 = rw ek in
@@ -165,7 +165,7 @@ module _ (me who : peers.Peer) (h : Roomed me) (g : Roomed who) (t : List ℕ) w
       empty = (every-nil peerFits, omega arith)
 
       one : (p : peers.Peer) → Roomed p → (every peerFits (peerEntry p ∷ []) ≡ true) × (length (peerEntry p ∷ []) ≤ 1)
-      one p r = (every-cons peerFits (peerEntry p) [] (own-fits p (id-most p r)) (every-nil peerFits), omega arith)
+      one p r = (every-cons peerFits (peerEntry p) [] (entry-fits p r) (every-nil peerFits), omega arith)
 
   good-find : (key : List ℕ) → Good (findNodeReply me who t key)
   unfolding findNodeReply heldFits LastGood
@@ -199,7 +199,7 @@ good-put k key value e =
     let f = taken-fits k key value e in
     let r : heldFits (putValueReply key value .held) ≡ true = record-fits key value (f .1) (f .2) in
     let b : length (written (single 2 key)) ≤ 131 = rw (single-full 2 key (λ z. omega (arith, f .0))) (omega (arith, f .1, bytes-short 2 key (omega arith) (omega (arith, f .1)))) in
-    let h : length (written (heldItems (putValueReply key value .held))) ≤ 2185 = held-most (putValueReply key value .held) r in
+    let h : length (written (heldItems (putValueReply key value .held))) ≤ mostRecordField = held-most (putValueReply key value .held) r in
     good (putValueReply key value) (omega arith) (f .1) r (every-nil peerFits) refl
     (omega (arith, message-length (putValueReply key value), two-bytes 0 (omega arith), no-entries 8, no-entries 9))
 
@@ -221,20 +221,21 @@ keyed-good : (key : List ℕ) (m : Message) → (length key ≤ 128 → Good m) 
 unfolding keyed keyFits
 keyed-good key m g = cond-ind GoodVerdict (keyFits key) _ _ (λ e. g (leb-true (length key) mostKey (and-r (leb 1 (length key)) (leb (length key) mostKey) e))) (λ e. tt)
 
-verdict-good : (me who : peers.Peer) → Roomed me → Roomed who → (m : Message) (t k : List ℕ) → GoodVerdict (verdictOf me who m t k)
+verdict-good : (me who : peers.Peer) → Roomed me → Roomed who → (m : Message) (l : Lent) → GoodVerdict (verdictOf me who m l)
 unfolding verdictOf
-verdict-good me who h g m t k =
-    cond-ind GoodVerdict (eqb (m .kind) putValue) _ _ (λ e. put-good (m .key) (m .held) k)
-    (λ e. cond-ind GoodVerdict (eqb (m .kind) getValue) _ _ (λ e. keyed-good (m .key) (getValueReply t k (m .key)) (good-get t k (m .key)))
-    (λ e. cond-ind GoodVerdict (eqb (m .kind) findNode) _ _ (λ e. keyed-good (m .key) (findNodeReply me who t (m .key)) (λ l. good-find me who h g t (m .key)))
+verdict-good me who h g m l =
+    cond-ind GoodVerdict (eqb (m .kind) putValue) _ _ (λ e. put-good (m .key) (m .held) (l .records))
+    (λ e. cond-ind GoodVerdict (eqb (m .kind) getValue) _ _ (λ e. keyed-good (m .key) (getValueReply (l .contacts) (l .records) (m .key)) (good-get (l .contacts) (l .records) (m .key)))
+    (λ e. cond-ind GoodVerdict (eqb (m .kind) findNode) _ _ (λ e. keyed-good (m .key) (findNodeReply me who (l .contacts) (m .key)) (λ w. good-find me who h g (l .contacts) (m .key)))
     (λ e. cond-ind GoodVerdict (eqb (m .kind) ping) _ _ (λ e. good-ping) (λ e. tt))))
 
-frame-short : (m : Message) → length (encode m) ≤ 14087 → length (frame (encode m)) ≤ leastReply
+frame-short : (m : Message) → length (encode m) ≤ mostReply → length (frame (encode m)) ≤ leastReply
 unfolding frame
 frame-short m h = omega (arith, length-append (minimal (length (encode m))) (encode m), minimal-three (length (encode m)) (omega arith))
 
-replied-back : (m : Message) (k y : List ℕ) (n : ℕ) → Good m → leastReply ≤ length y → replied m k y .told ≡ Reply n → ReadsBack (replies m) (replied m k y) y n
-replied-back m k y n g l e =
+replied-back : (m : Message) (l : Lent) (n : ℕ) → Good m → leastReply ≤ length (l .reply) → replied m l .told ≡ Reply n → ReadsBack (replies m) (replied m l) (l .reply) n
+replied-back m l n g w e =
+    let y = l .reply in
     let q : length (frame (encode m)) ≡ n = cc in
     let f = frame-short m (g .short) in
     let z : 0 + length (frame (encode m)) - 0 ≡ n = omega arith in
@@ -249,61 +250,64 @@ replied-back m k y n g l e =
       rest = drop-sets n y 0 (frame (encode m)) (omega arith);
     }
 
-verdict-back : (v : Verdict) (k after y : List ℕ) (n : ℕ) → GoodVerdict v → leastReply ≤ length y → byVerdict v k after y .told ≡ Reply n → ReadsBack v (byVerdict v k after y) y n
-verdict-back (replies m) k after y n g l e = replied-back m after y n g l e
-verdict-back (refuses r) k after y n g l e = absurd (let z : _≡_ {A = ℕ} 0 1 = cc in omega arith)
+verdict-back : (v : Verdict) (l : Lent) (k : List ℕ) (n : ℕ) → GoodVerdict v → leastReply ≤ length (l .reply) → byVerdict v (withRecords l k) l .told ≡ Reply n
+    → ReadsBack v (byVerdict v (withRecords l k) l) (l .reply) n
+verdict-back (replies m) l k n g w e = replied-back m (withRecords l k) n g w e
+verdict-back (refuses r) l k n g w e = absurd (let z : _≡_ {A = ℕ} 0 1 = cc in omega arith)
 
-reading-back : (a : Reading) (me who : peers.Peer) → Roomed me → Roomed who → (m : Message) (t k y : List ℕ) (n : ℕ) → leastReply ≤ length y → byReading a me who m t k y .told ≡ Reply n
-    → ReadsBack (verdictOf me who m t k) (byReading a me who m t k y) y n
-reading-back (read.Refused r) me who h g m t k y n l e = absurd (let z : _≡_ {A = ℕ} 0 1 = cc in omega arith)
-reading-back (read.Whole f) me who h g m t k y n l e = verdict-back (verdictOf me who m t k) k (recordsAfter m k) y n (verdict-good me who h g m t k) l e
+reading-back : (a : Reading) (me who : peers.Peer) → Roomed me → Roomed who → (m : Message) (l : Lent) (n : ℕ) → leastReply ≤ length (l .reply) → byReading a me who m l .told ≡ Reply n
+    → ReadsBack (verdictOf me who m l) (byReading a me who m l) (l .reply) n
+reading-back (read.Refused r) me who h g m l n w e = absurd (let z : _≡_ {A = ℕ} 0 1 = cc in omega arith)
+reading-back (read.Whole f) me who h g m l n w e = verdict-back (verdictOf me who m l) l (recordsAfter m (l .records)) n (verdict-good me who h g m l) w e
 
 pub replies-read-back : RepliesReadBack
 unfolding dealOf
-replies-read-back me who h g body t k y l n e = reading-back (readingOf body) me who h g (messageOf body) t k y n l e
+replies-read-back me who h g body l w n e = reading-back (readingOf body) me who h g (messageOf body) l n w e
 
 -- ---- what a body says
-module _ (me who : peers.Peer) (t k y : List ℕ) where
+module _ (me who : peers.Peer) (l : Lent) where
   byDecoding : Option Message → Dealt
-  byDecoding none = refused Malformed k y
-  byDecoding (some m) = cond (ltb mostKind (m .kind)) (refused UnknownType k y) (byVerdict (verdictOf me who m t k) k (recordsAfter m k) y)
+  byDecoding none = refused Malformed l
+  byDecoding (some m) = cond (ltb mostKind (m .kind)) (refused UnknownType l) (byRequest me who m l)
 
-  decoded : (s : List ℕ) → length s ≤ mostBody → dealOf me who s t k y ≡ byDecoding (decode s)
+  decoded : (s : List ℕ) → length s ≤ mostBody → dealOf me who s l ≡ byDecoding (decode s)
   unfolding dealOf readingOf decode byDecoding
-  decoded s l = rw (le-ltb mostBody (length s) l) (go (wellMessage s) (ltb mostKind (fieldsOf s .kind)) (ap (ltb mostKind) (sym (kind-meant s))))
+  decoded s w = rw (le-ltb mostBody (length s) w) (go (wellMessage s) (ltb mostKind (fieldsOf s .kind)) (ap (ltb mostKind) (sym (kind-meant s))))
     where
       go : (w u : Bool) → ltb mostKind (messageOf s .kind) ≡ u
-          → byReading (cond (not w) (read.Refused Malformed) (cond u (read.Refused UnknownType) (read.Whole (fieldsOf s)))) me who (messageOf s) t k y
+          → byReading (cond (not w) (read.Refused Malformed) (cond u (read.Refused UnknownType) (read.Whole (fieldsOf s)))) me who (messageOf s) l
           ≡ byDecoding (cond w (some (messageOf s)) none)
       go false u e = refl
       go true false e = rw e
       go true true e = rw e
 
 pub answered-by-fields : (me : peers.Peer) → AnsweredByFields me
-answered-by-fields me who a b la lb e t k y = decoded me who t k y a la ∙ ap (byDecoding me who t k y) e ∙ sym (decoded me who t k y b lb)
+answered-by-fields me who a b la lb e l = decoded me who l a la ∙ ap (byDecoding me who l) e ∙ sym (decoded me who l b lb)
 
 -- ---- puts that are sent, and values that are asked for
-module _ (me who : peers.Peer) (t k y : List ℕ) (body : List ℕ) (l : length body ≤ mostBody) (m : Message) (d : decode body ≡ some m) where
-  by-type : ltb mostKind (m .kind) ≡ false → dealOf me who body t k y ≡ byVerdict (verdictOf me who m t k) k (recordsAfter m k) y
+module _ (me who : peers.Peer) (l : Lent) (body : List ℕ) (w : length body ≤ mostBody) (m : Message) (d : decode body ≡ some m) where
+  by-type : ltb mostKind (m .kind) ≡ false → dealOf me who body l ≡ byRequest me who m l
   unfolding byDecoding
-  by-type e = decoded me who t k y body l ∙ ap (byDecoding me who t k y) d ∙ rw e refl
+  by-type e = decoded me who l body w ∙ ap (byDecoding me who l) d ∙ rw e refl
 
   by-put : m .kind ≡ putValue → (r : Record) → m .held ≡ some r → r .key ≡ m .key
-      → dealOf me who body t k y ≡ byVerdict (echoed (offerAnswer k (m .key) (r .value)) (putValueReply (m .key) (r .value))) k (offerAfter k (m .key) (r .value)) y
+      → dealOf me who body l
+      ≡ byVerdict (echoed (offerAnswer (l .records) (m .key) (r .value)) (putValueReply (m .key) (r .value))) (withRecords l (offerAfter (l .records) (m .key) (r .value))) l
   unfolding verdictOf recordsAfter putVerdict putAfter
   by-put e r h q = by-type (ap (ltb mostKind) e) ∙ rw (e, h, same-yes (r .key) (m .key) q) refl
 
-  by-get : m .kind ≡ getValue → keyFits (m .key) ≡ true → dealOf me who body t k y ≡ replied (getValueReply t k (m .key)) k y
+  by-get : m .kind ≡ getValue → keyFits (m .key) ≡ true → dealOf me who body l ≡ replied (getValueReply (l .contacts) (l .records) (m .key)) (withRecords l (l .records))
   unfolding verdictOf recordsAfter keyed
   by-get e f = by-type (ap (ltb mostKind) e) ∙ rw (e, f) refl
 
 pub answered-by-verdict : (me : peers.Peer) → AnsweredByVerdict me
-answered-by-verdict me who body t k y m l d h = by-type me who t k y body l m d (le-ltb mostKind (m .kind) h)
+answered-by-verdict me who body l m w d h = by-type me who l body w m d (le-ltb mostKind (m .kind) h)
 
 pub sent-as-typed : (me : peers.Peer) → SentAsTyped me
-sent-as-typed me who body t k y m r l d e h q form =
-    by-put me who t k y body l m d e r h q
-    ∙ sym (ap₂ (λ (a : stored.Answer) (x : List ℕ). byVerdict (echoed a (putValueReply (m .key) (r .value))) k x y) (put-is k (m .key) (r .value) form .0) (put-is k (m .key) (r .value) form .1))
+sent-as-typed me who body l m r w d e h q form =
+    let k = l .records in
+    by-put me who l body w m d e r h q
+    ∙ sym (ap₂ (λ (a : stored.Answer) (x : List ℕ). byVerdict (echoed a (putValueReply (m .key) (r .value))) (withRecords l x) l) (put-is k (m .key) (r .value) form .0) (put-is k (m .key) (r .value) form .1))
 
 record-held : (t k key u : List ℕ) → got k key ≡ Has u → getValueReply t k key .held ≡ some (record { key = key; value = u })
 unfolding getValueReply
@@ -311,11 +315,13 @@ record-held t k key u g = let f = held-found k key u g in rw (f .2, f .3) refl
 
 pub held-is-served : (me : peers.Peer) → HeldIsServed me
 unfolding keyFits
-held-is-served me who body t k y u m l d e form g room =
+held-is-served me who body l u m w d e form g room =
+    let t = l .contacts in
+    let k = l .records in
     let n = held-key k (m .key) u g form in
     let fits : keyFits (m .key) ≡ true = and-i (leb 1 (length (m .key))) _ (le-leb 1 (length (m .key)) (omega (arith, key-least (m .key) n))) (le-leb (length (m .key)) mostKey (key-most (m .key) n)) in
-    let b = replied-back (getValueReply t k (m .key)) k y (length (frame (encode (getValueReply t k (m .key))))) (good-get t k (m .key) (key-most (m .key) n)) room refl in
-    rw (by-get me who t k y body l m d e fits) (record {
+    let b = replied-back (getValueReply t k (m .key)) (withRecords l k) (length (frame (encode (getValueReply t k (m .key))))) (good-get t k (m .key) (key-most (m .key) n)) room refl in
+    rw (by-get me who l body w m d e fits) (record {
       size = length (frame (encode (getValueReply t k (m .key))));
       told = refl;
       says = getValueReply t k (m .key);

@@ -5,17 +5,19 @@ use mathlib.Core.Bool.{true}
 use mathlib.Core.List.{List}
 use mathlib.Core.Option.{some}
 use lib.ListN.{length, take, drop}
+use Rattle.limits.specs.Limits.{mostId, mostBody, leastReply, mostKind}
 use Rattle.refusal.specs.declared.Refusal.{Refusal}
 use Rattle.peer.specs.declared.Peer as peers
-use Rattle.peer.specs.Addresses.{idRoom, keptOf}
+use Rattle.peer.specs.Addresses.{keptOf}
 use Rattle.peer.specs.Peers.{idFits, peerOf}
 use Rattle.records.specs.Store.{inForm, putAnswer, putAfter}
 use Rattle.records_history.specs.History.{Has, got}
-use Rattle.message.specs.Limits.{mostBody, mostKind, leastReply}
 use Rattle.message.specs.Message.{Record, Message, messageOf, decode, encode, frame}
 use Rattle.pieces.specs.Writable.{writable}
 use Rattle.entries.specs.Entries.{peerEntry}
-use Rattle.replies.specs.Replies.{putValue, getValue, putValueReply}
+use Rattle.replies.specs.Lent.{Lent, withRecords}
+use Rattle.message.specs.Kinds.{putValue, getValue}
+use Rattle.replies.specs.Replies.{putValueReply}
 use Rattle.replies.specs.Verdicts.{Verdict, replies, echoed, Dealt, byVerdict}
 use Rattle.answer.specs.Answers.{verdictOf, recordsAfter, dealOf}
 use Rattle.replies.specs.declared.Answered.the-variants.{Reply, Refused}
@@ -23,8 +25,7 @@ use Rattle.replies.specs.declared.Answered.the-variants.{Reply, Refused}
 -- a request that is refused changes nothing
 abbrev pub RefusedChangesNothing : Type 0
 RefusedChangesNothing =
-    (me who : peers.Peer) (body t k y : List ℕ) (r : Refusal) → dealOf me who body t k y .told ≡ Refused r
-    → (dealOf me who body t k y .records ≡ k) × (dealOf me who body t k y .reply ≡ y)
+    (me who : peers.Peer) (body : List ℕ) (l : Lent) (r : Refusal) → dealOf me who body l .told ≡ Refused r → dealOf me who body l .left ≡ l
 
 -- a reply of n bytes stands in the buffer: the message that the verdict calls for, within the limits, with its prefix, which reads back as the same message;
 -- "bytes after a reply stay". 14,087 is document 01's largest reply body
@@ -33,39 +34,40 @@ pub record ReadsBack (v : Verdict) (d : Dealt) (y : List ℕ) (n : ℕ) : Type 0
   pub verdict : v ≡ replies says
   pub fits : writable says ≡ true
   pub size : n ≡ length (frame (encode says))
-  pub stands : take n (d .reply) ≡ frame (encode says)
+  pub stands : take n (d .left .reply) ≡ frame (encode says)
   pub back : decode (encode says) ≡ some says
   pub short : length (encode says) ≤ 14087
-  pub rest : drop n (d .reply) ≡ drop n y
+  pub rest : drop n (d .left .reply) ≡ drop n y
 
 -- the room for the id in the code's type of peers
 abbrev pub Roomed : peers.Peer → Type 0
-Roomed p = length (p .id) ≡ idRoom
+Roomed p = length (p .id) ≡ mostId
 
 abbrev pub RepliesReadBack : Type 0
 RepliesReadBack =
-    (me who : peers.Peer) → Roomed me → Roomed who → (body t k y : List ℕ) → leastReply ≤ length y → (n : ℕ) → dealOf me who body t k y .told ≡ Reply n
-    → ReadsBack (verdictOf me who (messageOf body) t k) (dealOf me who body t k y) y n
+    (me who : peers.Peer) → Roomed me → Roomed who → (body : List ℕ) (l : Lent) → leastReply ≤ length (l .reply) → (n : ℕ)
+    → dealOf me who body l .told ≡ Reply n → ReadsBack (verdictOf me who (messageOf body) l) (dealOf me who body l) (l .reply) n
 
 -- a request gets what its fields call for, refused or answered: the verdict's reply, and the records that it leaves
 abbrev pub AnsweredByVerdict : peers.Peer → Type 0
 AnsweredByVerdict me =
-    (who : peers.Peer) (body t k y : List ℕ) (m : Message) → length body ≤ mostBody → decode body ≡ some m → m .kind ≤ mostKind
-    → dealOf me who body t k y ≡ byVerdict (verdictOf me who m t k) k (recordsAfter m k) y
+    (who : peers.Peer) (body : List ℕ) (l : Lent) (m : Message) → length body ≤ mostBody → decode body ≡ some m → m .kind ≤ mostKind
+    → dealOf me who body l ≡ byVerdict (verdictOf me who m l) (withRecords l (recordsAfter m (l .records))) l
 
 -- answer, records and reply go by what a body says, not by how it is written: two bodies of the same fields get the same. So a message whose record comes in
 -- several fields is answered, stored and echoed as the same message with its record in one
 abbrev pub AnsweredByFields : peers.Peer → Type 0
 AnsweredByFields me =
-    (who : peers.Peer) (a b : List ℕ) → length a ≤ mostBody → length b ≤ mostBody → decode a ≡ decode b → (t k y : List ℕ) → dealOf me who a t k y ≡ dealOf me who b t k y
+    (who : peers.Peer) (a b : List ℕ) → length a ≤ mostBody → length b ≤ mostBody → decode a ≡ decode b → (l : Lent) → dealOf me who a l ≡ dealOf me who b l
 
 -- document 02, (ix), "a local or remote put": a PUT_VALUE whose record has the message's key gets what the host's own put of that record is told, an echo where it
 -- is taken, and leaves the same records
 abbrev pub SentAsTyped : peers.Peer → Type 0
 SentAsTyped me =
-    (who : peers.Peer) (body t k y : List ℕ) (m : Message) (r : Record) → length body ≤ mostBody → decode body ≡ some m → m .kind ≡ putValue → m .held ≡ some r
-    → r .key ≡ m .key → inForm k ≡ true
-    → dealOf me who body t k y ≡ byVerdict (echoed (putAnswer k (m .key) (r .value)) (putValueReply (m .key) (r .value))) k (putAfter k (m .key) (r .value)) y
+    (who : peers.Peer) (body : List ℕ) (l : Lent) (m : Message) (r : Record) → length body ≤ mostBody → decode body ≡ some m → m .kind ≡ putValue → m .held ≡ some r
+    → r .key ≡ m .key → inForm (l .records) ≡ true
+    → dealOf me who body l
+    ≡ byVerdict (echoed (putAnswer (l .records) (m .key) (r .value)) (putValueReply (m .key) (r .value))) (withRecords l (putAfter (l .records) (m .key) (r .value))) l
 
 -- a reply that carries the value u under a key: it stands in the buffer and reads back with that record
 pub record Serves (d : Dealt) (y key u : List ℕ) : Type 0 where
@@ -78,8 +80,8 @@ pub record Serves (d : Dealt) (y key u : List ℕ) : Type 0 where
 -- "Records already held .. are still served": a GET_VALUE for a key gets the value that is held under it, whatever the recipe rules say of that value
 abbrev pub HeldIsServed : peers.Peer → Type 0
 HeldIsServed me =
-    (who : peers.Peer) (body t k y u : List ℕ) (m : Message) → length body ≤ mostBody → decode body ≡ some m → m .kind ≡ getValue → inForm k ≡ true
-    → got k (m .key) ≡ Has u → leastReply ≤ length y → Serves (dealOf me who body t k y) y (m .key) u
+    (who : peers.Peer) (body : List ℕ) (l : Lent) (u : List ℕ) (m : Message) → length body ≤ mostBody → decode body ≡ some m → m .kind ≡ getValue
+    → inForm (l .records) ≡ true → got (l .records) (m .key) ≡ Has u → leastReply ≤ length (l .reply) → Serves (dealOf me who body l) (l .reply) (m .key) u
 
 -- the entry for us or the requester has the id and the usable addresses that were handed in
 abbrev pub EntryIsPeer : Type 0
@@ -87,6 +89,10 @@ EntryIsPeer =
     (id place addresses : List ℕ) → idFits id ≡ true
     → (peerEntry (peerOf id place addresses) .id ≡ id) × (peerEntry (peerOf id place addresses) .addrs ≡ keptOf addresses)
 
+-- an answer reads the contacts and leaves them: it is the sighting after it that writes them
+abbrev pub ContactsStay : Type 0
+ContactsStay = (me who : peers.Peer) (body : List ℕ) (l : Lent) → dealOf me who body l .left .contacts ≡ l .contacts
+
 -- the records stay in form
 abbrev pub RecordsStayInForm : Type 0
-RecordsStayInForm = (me who : peers.Peer) (body t k y : List ℕ) → inForm k ≡ true → inForm (dealOf me who body t k y .records) ≡ true
+RecordsStayInForm = (me who : peers.Peer) (body : List ℕ) (l : Lent) → inForm (l .records) ≡ true → inForm (dealOf me who body l .left .records) ≡ true

@@ -8,6 +8,7 @@ use lib.ListN.{length, take, length-take}
 use lib.Dec.{eqb, ltb, leb}
 use borrow.Author.Tests.{le-leb, lt-ltb, ltb-false, eqb-false, not-false}
 use Rattle.octets.proofs.Bools.{cond-ind, and-i, and-l}
+use Rattle.limits.specs.Limits.{mostBody}
 use Rattle.refusal.specs.declared.Refusal.{Refusal}
 use Rattle.refusal.specs.declared.Refusal.the-variants as no
 use Rattle.stream.specs.declared.Held.{Held}
@@ -20,17 +21,17 @@ use Rattle.stream.specs.declared.Lead.{Lead}
 use Rattle.stream.specs.declared.Lead.the-variants.{On, Length, Bad}
 use Rattle.stream.specs.declared.Ending.the-variants as ends
 use Rattle.stream.specs.declared.Received.{Received}
-use Rattle.stream.specs.Stream.{bodyLimit, isShut, heldForm, inForm, limited, minimal, prefixStep, Stepped, led, stepOf, storeOf, Out, after, runOf, stays, receiveOf, ended, endIn, endOf}
+use Rattle.stream.specs.Stream.{isShut, heldForm, inForm, limited, minimal, prefixStep, Stepped, led, stepOf, storeOf, Out, after, runOf, stays, receiveOf, ended, endIn, endOf}
 use Rattle.stream.proofs.Steps.{body-short, body-small}
 
 -- ---- a step
 LeadForm : Lead → Type 0
 LeadForm (On h) = heldForm h ≡ true
-LeadForm (Length n) = n ≤ bodyLimit
+LeadForm (Length n) = n ≤ mostBody
 LeadForm (Bad r) = Unit {0}
 
 Small : Answer → Type 0
-Small (Message n) = n ≤ bodyLimit
+Small (Message n) = n ≤ mostBody
 Small (Refused r) = Unit {0}
 Small More = Unit {0}
 
@@ -43,7 +44,7 @@ StepFits s = Fits (s .framing) (s .answer)
 
 limited-form : (n : ℕ) → LeadForm (limited n)
 unfolding limited LeadForm
-limited-form n = cond-ind LeadForm (ltb bodyLimit n) _ _ (λ h. tt) (λ h. ltb-false bodyLimit n h)
+limited-form n = cond-ind LeadForm (ltb mostBody n) _ _ (λ h. tt) (λ h. ltb-false mostBody n h)
 
 minimal-form : (z n : ℕ) → LeadForm (minimal z n)
 unfolding minimal LeadForm
@@ -63,7 +64,7 @@ led-fits : (l : Lead) → LeadForm l → StepFits (led l)
 unfolding StepFits Fits Small LeadForm
 led-fits (On h) g = (g, tt)
 led-fits (Length n) g =
-    cond-ind StepFits (eqb n 0) _ _ (λ h. (refl, omega arith)) (λ h. (and-i (leb n bodyLimit) (ltb 0 n) (le-leb n bodyLimit g) (lt-ltb 0 n (some-length n h)), tt))
+    cond-ind StepFits (eqb n 0) _ _ (λ h. (refl, omega arith)) (λ h. (and-i (leb n mostBody) (ltb 0 n) (le-leb n mostBody g) (lt-ltb 0 n (some-length n h)), tt))
 led-fits (Bad r) g = (refl, tt)
 
 step-fits : (f : Framing) (b : ℕ) → inForm f ≡ true → StepFits (stepOf f b)
@@ -74,7 +75,7 @@ step-fits (Body want have) b g =
     let l : have < want = body-short want have g in
     cond-ind StepFits (eqb (suc have) want) _ _ (λ h. (refl, body-small want have g))
     (λ h. let n : suc have ≡ want → ⊥ = eqb-false (suc have) want h in
-    (and-i (leb want bodyLimit) (ltb (suc have) want) (and-l (leb want bodyLimit) (ltb have want) g) (lt-ltb (suc have) want (omega arith)), tt))
+    (and-i (leb want mostBody) (ltb (suc have) want) (and-l (leb want mostBody) (ltb have want) g) (lt-ltb (suc have) want (omega arith)), tt))
 
 -- ---- a run
 RunFits : Out → Type 0
@@ -97,18 +98,18 @@ run-fits (b ∷ bs) f m h =
 -- ---- a call
 module _ (f : Framing) (m bs : List ℕ) where
   call-ind : (C : Out → Type 0) → C (stays f m no.OutOfForm) → C (stays f m no.SmallBuffer) → C (stays f m no.Shut)
-      → (inForm f ≡ true → bodyLimit ≤ length m → C (runOf f m bs)) → C (receiveOf f m bs)
+      → (inForm f ≡ true → mostBody ≤ length m → C (runOf f m bs)) → C (receiveOf f m bs)
   unfolding receiveOf
   call-ind C a b d e =
       cond-ind C (not (inForm f)) _ _ (λ g. a)
-      (λ g. cond-ind C (ltb (length m) bodyLimit) _ _ (λ h. b)
-      (λ h. cond-ind C (isShut f) _ _ (λ s. d) (λ s. e (not-false (inForm f) g) (ltb-false (length m) bodyLimit h))))
+      (λ g. cond-ind C (ltb (length m) mostBody) _ _ (λ h. b)
+      (λ h. cond-ind C (isShut f) _ _ (λ s. d) (λ s. e (not-false (inForm f) g) (ltb-false (length m) mostBody h))))
 
   pub framing-kept : inForm f ≡ true → inForm (receiveOf f m bs .got .framing) ≡ true
   unfolding RunFits Fits
   framing-kept h = call-ind (λ (o : Out). inForm (o .got .framing) ≡ true) h h h (λ g w. run-fits bs f m g .0)
 
-  small-message : (a : Answer) (n : ℕ) → Small a → a ≡ Message n → n ≤ bodyLimit
+  small-message : (a : Answer) (n : ℕ) → Small a → a ≡ Message n → n ≤ mostBody
   unfolding Small
   small-message a n s e = rw e at s
 
@@ -119,7 +120,7 @@ module _ (f : Framing) (m bs : List ℕ) where
   unfolding RunFits Fits
   message-short n =
       call-ind (λ (o : Out). o .got .answer ≡ Message n → n ≤ length m) (no-message no.OutOfForm n) (no-message no.SmallBuffer n) (no-message no.Shut n)
-      (λ g w e. let l : n ≤ bodyLimit = small-message (runOf f m bs .got .answer) n (run-fits bs f m g .1) e in omega arith)
+      (λ g w e. let l : n ≤ mostBody = small-message (runOf f m bs .got .answer) n (run-fits bs f m g .1) e in omega arith)
 
   -- as the code has it: by what was handed back
   pub message-there : (r : Received) (n : ℕ) → r ≡ receiveOf f m bs .got → r .answer ≡ Message n → n ≤ length m

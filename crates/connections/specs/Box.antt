@@ -2,14 +2,14 @@
 use Prim.Native.Nat.{ℕ}
 use mathlib.Core.Bool.{Bool, cond, not, _&&_, _||_}
 use mathlib.Core.List.{List, [], _∷_}
-use lib.ListN.{replicate, getD}
+use lib.ListN.{replicate}
 use lib.Dec.{leb}
 use Rattle.octets.specs.Octets.{same}
-use Rattle.octets.specs.Search.{all, allOf}
+use Rattle.octets.specs.Search.{allOf}
+use Rattle.limits.specs.Limits.{mostId}
 use Rattle.refusal.specs.declared.Refusal.the-variants.{OutOfForm, BadPeer}
 use Rattle.place.specs.Place.{placeOf}
 use Rattle.peer.specs.declared.Peer.{Peer}
-use Rattle.peer.specs.Addresses.{idRoom, addressRoom, mostAddresses}
 use Rattle.peer.specs.Peers.{badPeer, idFits, peerOf}
 use Rattle.stream.specs.declared.Framing.{Framing}
 use Rattle.stream.specs.declared.Framing.the-variants.{Shut}
@@ -22,9 +22,9 @@ use Rattle.connections.specs.declared.Ended.{Ended}
 use Rattle.connections.specs.declared.Told.the-variants.{Fine, Refused}
 
 -- ---- the box: our id, our place and our first four usable addresses
--- "12 if our id isn't 1 to 64 bytes": also where a box is handed in whose numbers no start gave
+-- "12 if our id isn't 1 to 64 bytes": also where a box is handed in whose numbers no start gave. It is asked of a connection's peer too
 unfoldable pub ownFits : Peer → Bool
-ownFits me = leb 1 (me .size) && leb (me .size) idRoom
+ownFits me = leb 1 (me .size) && leb (me .size) mostId
 
 -- nobody, with no id and no addresses
 unfoldable pub nobody : Peer
@@ -45,17 +45,10 @@ openOf me id server asking addresses =
     (record { conn = record { peer = nobody; framing = Shut; server = server; asking = asking }; told = Refused BadPeer })
     (record { conn = record { peer = peerOf id (placeOf id) addresses; framing = fresh; server = server; asking = asking }; told = Fine })
 
--- "up to four addresses of 1 to 128"
-unfoldable pub sizeFits : Peer → ℕ → Bool
-sizeFits p k = leb 1 (getD (p .lens) k 0) && leb (getD (p .lens) k 0) addressRoom
-
--- a peer as an open gives it: an id of 1 to 64 bytes, up to four addresses of 1 to 128
-unfoldable pub peerForm : Peer → Bool
-peerForm p = allOf (leb 1 (p .size) ∷ leb (p .size) idRoom ∷ leb (p .count) mostAddresses ∷ all (p .count) (sizeFits p) ∷ [])
-
--- "open connections a peer 12 allows, 0 to 2 prefix bytes with set top bits, and any begun body short of its length": form is asked of open ones
+-- "open connections a peer 12 allows, 0 to 2 prefix bytes with set top bits, and any begun body short of its length": form is asked of open ones.
+-- 12 goes by id and place, so addresses don't count
 unfoldable pub connForm : Peer → Conn → Bool
-connForm me c = isShut (c .framing) || allOf (peerForm (c .peer) ∷ not (same (c .peer .place) (me .place)) ∷ inForm (c .framing) ∷ [])
+connForm me c = isShut (c .framing) || allOf (ownFits (c .peer) ∷ not (same (c .peer .place) (me .place)) ∷ inForm (c .framing) ∷ [])
 
 -- "An end shuts the connection": 0, 2, 19
 unfoldable pub endConn : Peer → Conn → Ended

@@ -6,10 +6,8 @@ use stream::Ending;
 use stream::Framing;
 ghost use mathlib.Core.Path.{_≡_};
 ghost use mathlib.Core.Bool.{true, false};
-ghost use Prim.Native.Nat.{_≤_};
-ghost use Rattle.peer.specs.Addresses.{usableSize};
-ghost use Rattle.connections.specs.Box.{ownFits, nobody, startOf, withFraming, openOf, peerForm, connForm, endConn};
-ghost use Rattle.connections.specs.Inner.{startsShut, usableSizes};
+ghost use Rattle.connections.specs.Box.{ownFits, nobody, startOf, withFraming, openOf, connForm, endConn};
+ghost use Rattle.connections.specs.Inner.{startsShut};
 
 // A connection: its peer, where its framing stands, whether the peer is a server, and whether we are the side that asks.
 pub struct Conn {
@@ -40,7 +38,7 @@ pub struct Ended {
     pub answer: Ending,
 }
 
-// Whether the box handed in has an id that a start gives.
+// Whether the box handed in, or a connection's peer, has an id that a start gives, or an open.
 pub fn own_fits(me: Peer) -> bool
     ensures { λ r. ⌜ r ≡ ownFits me ⌝ }
 {
@@ -48,7 +46,7 @@ pub fn own_fits(me: Peer) -> bool
     if n == 0 {
         return false;
     }
-    n <= peer::ID
+    n <= limits::MOST_ID
 }
 
 // Nobody: no id and no addresses.
@@ -120,48 +118,7 @@ pub fn open(me: Peer, id: &[u8], server: bool, asking: bool, addresses: &[u8]) -
     Opened { conn, told }
 }
 
-// Whether an address may have so many bytes: 1 to 128.
-fn size_fits(size: u8) -> bool
-    ensures { λ r. ⌜ r ≡ usableSize size ⌝ }
-{
-    let n = size as usize;
-    if n == 0 {
-        return false;
-    }
-    n <= peer::ADDRESS
-}
-
-// Whether the first of these lengths are those of addresses.
-fn sizes_fit(lens: [u8; 4], count: usize) -> bool
-    requires { ⌜ count ≤ 4 ⌝ }
-    ensures { λ r. ⌜ r ≡ usableSizes lens count ⌝ }
-{
-    let mut k: usize = 0;
-    while k < count {
-        if !size_fits(lens[k]) {
-            return false;
-        }
-        k += 1;
-    }
-    true
-}
-
-// Whether a peer is one that an open gives.
-fn peer_form(p: Peer) -> bool
-    ensures { λ r. ⌜ r ≡ peerForm p ⌝ }
-{
-    if !own_fits(p) {
-        return false;
-    }
-    let count = p.count as usize;
-    if peer::ADDRESSES < count {
-        return false;
-    }
-    let lens = p.lens;
-    sizes_fit(lens, count)
-}
-
-// Whether a connection is in form. A shut one is.
+// Whether a connection is in form. A shut one is. Of its peer that goes by id and place: its addresses are judged where they are used.
 pub fn conn_form(me: Peer, conn: Conn) -> bool
     ensures { λ r. ⌜ r ≡ connForm me conn ⌝ }
 {
@@ -170,7 +127,7 @@ pub fn conn_form(me: Peer, conn: Conn) -> bool
         return true;
     }
     let p = conn.peer;
-    if !peer_form(p) {
+    if !own_fits(p) {
         return false;
     }
     let there = p.place;

@@ -13,9 +13,9 @@ ghost use lib.ListN.{length};
 pub const PIECE: usize = 4096;
 
 // The memory that the box is lent: room for 20 contacts, which stays empty, since a client is no contact, and for 64 records.
-pub const CONTACTS: usize = 12320;
+pub const CONTACTS: usize = 20 * contacts::SLOT;
 
-pub const RECORDS: usize = 139776;
+pub const RECORDS: usize = 64 * record_slots::SLOT;
 
 fn say(text: &[u8]) {
     io::write_all(libc::STDERR_FILENO, text);
@@ -230,7 +230,7 @@ fn finish(me: Peer, conn: Conn) {
 pub fn serve(size: usize) {
     let mut contacts = [0u8; CONTACTS];
     let mut records = [0u8; RECORDS];
-    let mut buffer = [0u8; 16384];
+    let mut buffer = [0u8; limits::MOST_BODY];
     let mut reply = [0u8; 16387];
     let nowhere = [0u8; 0];
     let started = node::start(b"starterbell", &nowhere);

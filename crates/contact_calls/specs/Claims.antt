@@ -12,18 +12,18 @@ use Rattle.contacts.specs.Form.{inForm}
 use Rattle.contacts.specs.Claims.{Gives, GivesFirst}
 use Rattle.peer.specs.Addresses.{keptOf}
 use Rattle.peer.specs.Peers.{badPeer, peerOf}
+use Rattle.sightings.specs.declared.Sighting.{Sighting}
+use Rattle.sightings.specs.declared.Sighting.the-variants as seen
+use Rattle.sightings.specs.declared.Settled.{Settled}
+use Rattle.sightings.specs.declared.Settled.the-variants as settle
+use Rattle.sightings.specs.declared.Removed.{Removed}
+use Rattle.sightings.specs.declared.Removed.the-variants as remove
+use Rattle.sightings.specs.declared.Doubted.{Doubted}
+use Rattle.sightings.specs.declared.Doubted.the-variants as doubt
 use Rattle.sightings.specs.Order.{isHead, heldAt}
 use Rattle.sightings.specs.Sightings.{held, sightingOf, seenTable}
 use Rattle.sightings_kept.specs.Promises.{SameContact, HeldSeen, NewSeen, Freed, HeadKept, HeadGone, StillFits, OnlyMarked, holds}
-use Rattle.contact_calls.specs.declared.SeenOutcome.{SeenOutcome}
-use Rattle.contact_calls.specs.declared.SeenOutcome.the-variants as seen
-use Rattle.contact_calls.specs.declared.SettleOutcome.{SettleOutcome}
-use Rattle.contact_calls.specs.declared.SettleOutcome.the-variants as settle
-use Rattle.contact_calls.specs.declared.RemoveOutcome.{RemoveOutcome}
-use Rattle.contact_calls.specs.declared.RemoveOutcome.the-variants as remove
-use Rattle.contact_calls.specs.declared.DoubtOutcome.{DoubtOutcome}
-use Rattle.contact_calls.specs.declared.DoubtOutcome.the-variants as doubt
-use Rattle.contact_calls.specs.Calls.{outcomeOf, seenCall, seenCallTable, settleCall, settleCallTable, removeCall, removeCallTable, doubtCall, doubtCallTable, seenNumber, settleNumber, removeNumber, doubtNumber}
+use Rattle.contact_calls.specs.Calls.{seenCall, seenCallTable, settleCall, settleCallTable, removeCall, removeCallTable, doubtCall, doubtCallTable, seenNumber, settleNumber, removeNumber, doubtNumber}
 
 -- ---- the number that a host is told: document 01, 'Refusal numbers', "Given exactly when". In each record the cases leave none out
 
@@ -78,69 +78,71 @@ Neither13Nor14 n = (n ≡ 13 → ⊥) × (n ≡ 14 → ⊥)
 
 -- ---- what each answer makes of the table t: u. In each, nobody else's id, place, addresses, order or mark of doubt changes
 -- "takes the new addresses if any is usable (..; the first four usable)"; a newcomer has the id that was handed in
-abbrev pub SeenDoes : List ℕ → List ℕ → List ℕ → List ℕ → SeenOutcome → List ℕ → Type 0
+abbrev pub SeenDoes : List ℕ → List ℕ → List ℕ → List ℕ → Sighting → List ℕ → Type 0
 SeenDoes t ours id addresses (seen.Moved i) u = HeldSeen t ours (placeOf id) (keptOf addresses) i u
 SeenDoes t ours id addresses (seen.Joined i) u = NewSeen t ours (placeOf id) id (keptOf addresses) i u
 -- "its head is named for a probe"
 SeenDoes t ours id addresses (seen.Probe h) u = (h < slotsOf t) × (isHead ours (bucketOf (placeOf id) ours) (slot t h) ≡ true) × (u ≡ t)
 SeenDoes t ours id addresses (seen.Refused r) u = u ≡ t
 
-abbrev pub SettleDoes : List ℕ → List ℕ → List ℕ → List ℕ → List ℕ → SettleOutcome → List ℕ → Type 0
+abbrev pub SettleDoes : List ℕ → List ℕ → List ℕ → List ℕ → List ℕ → Settled → List ℕ → Type 0
 SettleDoes t ours head id addresses settle.Kept u = HeadKept t ours (placeOf head) u
 SettleDoes t ours head id addresses settle.Swapped u = HeadGone t ours (placeOf head) (placeOf id) id (keptOf addresses) u
 SettleDoes t ours head id addresses (settle.Refused r) u = u ≡ t
 
-abbrev pub RemoveDoes : List ℕ → List ℕ → List ℕ → RemoveOutcome → List ℕ → Type 0
+abbrev pub RemoveDoes : List ℕ → List ℕ → List ℕ → Removed → List ℕ → Type 0
 RemoveDoes t ours id remove.Gone u = Freed t ours (placeOf id) (heldAt t (placeOf id)) u
 RemoveDoes t ours id (remove.Refused r) u = u ≡ t
 
-abbrev pub DoubtDoes : List ℕ → List ℕ → DoubtOutcome → List ℕ → Type 0
+abbrev pub DoubtDoes : List ℕ → List ℕ → Doubted → List ℕ → Type 0
 DoubtDoes t id doubt.Marked u = OnlyMarked t (heldAt t (placeOf id)) u
 DoubtDoes t id (doubt.Refused r) u = u ≡ t
 
 -- ---- the claims
 pub record Claims : Type 0 where
   -- each number is given exactly when document 01, and 02 of doubt, say so
-  pub seenTold : (t ours id : List ℕ) (client : Bool) → SeenTold t ours id client (seenNumber (seenCall t ours id client))
-  pub settleTold : (t ours head id : List ℕ) (client answered : Bool) → SettleTold t ours head id client answered (settleNumber (settleCall t ours head id client answered))
+  pub seenTold : (t ours id : List ℕ) (client : Bool) (addresses : List ℕ) → SeenTold t ours id client (seenNumber (seenCall t ours id client addresses))
+  pub settleTold : (t ours head id : List ℕ) (client : Bool) (addresses : List ℕ) (answered : Bool)
+      → SettleTold t ours head id client answered (settleNumber (settleCall t ours head id client addresses answered))
   pub removeTold : (t ours id : List ℕ) → RemoveTold t ours id (removeNumber (removeCall t ours id))
   pub doubtTold : (t ours id : List ℕ) → DoubtTold t ours id (doubtNumber (doubtCall t ours id))
   -- "a peer already held is never 13 or 14", and neither is a client: whatever the table
-  pub heldNever : (t ours id : List ℕ) (client : Bool) → held t (placeOf id) ≡ true → Neither13Nor14 (seenNumber (seenCall t ours id client))
-  pub clientNever : (t ours id : List ℕ) (client : Bool) → client ≡ true → Neither13Nor14 (seenNumber (seenCall t ours id client))
+  pub heldNever : (t ours id : List ℕ) (client : Bool) (addresses : List ℕ) → held t (placeOf id) ≡ true → Neither13Nor14 (seenNumber (seenCall t ours id client addresses))
+  pub clientNever : (t ours id : List ℕ) (client : Bool) (addresses : List ℕ) → client ≡ true → Neither13Nor14 (seenNumber (seenCall t ours id client addresses))
   -- a refusal, 13 too, changes nothing
-  pub seenRefused : (t ours id : List ℕ) (client : Bool) (addresses : List ℕ) → seenNumber (seenCall t ours id client) < 64 → seenCallTable t ours id client addresses ≡ t
-  pub settleRefused : (t ours head id : List ℕ) (client : Bool) (addresses : List ℕ) (answered : Bool) → settleNumber (settleCall t ours head id client answered) < 64
+  pub seenRefused : (t ours id : List ℕ) (client : Bool) (addresses : List ℕ) → seenNumber (seenCall t ours id client addresses) < 64 → seenCallTable t ours id client addresses ≡ t
+  pub settleRefused : (t ours head id : List ℕ) (client : Bool) (addresses : List ℕ) (answered : Bool) → settleNumber (settleCall t ours head id client addresses answered) < 64
       → settleCallTable t ours head id client addresses answered ≡ t
   pub removeRefused : (t ours id : List ℕ) → removeNumber (removeCall t ours id) < 64 → removeCallTable t ours id ≡ t
   pub doubtRefused : (t ours id : List ℕ) → doubtNumber (doubtCall t ours id) < 64 → doubtCallTable t ours id ≡ t
   -- each answer does what it says; those of seen and settle, where ours is a place
   pub seenDoes : (t ours id : List ℕ) (client : Bool) (addresses : List ℕ) → length ours ≡ 32 → Bytes ours
-      → SeenDoes t ours id addresses (seenCall t ours id client) (seenCallTable t ours id client addresses)
+      → SeenDoes t ours id addresses (seenCall t ours id client addresses) (seenCallTable t ours id client addresses)
   pub settleDoes : (t ours head id : List ℕ) (client : Bool) (addresses : List ℕ) (answered : Bool) → length ours ≡ 32 → Bytes ours
-      → SettleDoes t ours head id addresses (settleCall t ours head id client answered) (settleCallTable t ours head id client addresses answered)
+      → SettleDoes t ours head id addresses (settleCall t ours head id client addresses answered) (settleCallTable t ours head id client addresses answered)
   pub removeDoes : (t ours id : List ℕ) → RemoveDoes t ours id (removeCall t ours id) (removeCallTable t ours id)
   pub doubtDoes : (t ours id : List ℕ) → DoubtDoes t id (doubtCall t ours id) (doubtCallTable t ours id)
   -- what a message makes of the table where its sender is a server (node_promises, `MessageDone`) is a seen of that peer, as an open gave it
   pub beside : (t ours id addresses : List ℕ) → Admits t ours id
-      → (outcomeOf (sightingOf t ours (placeOf id)) ≡ seenCall t ours id false) × (seenTable t ours (peerOf id (placeOf id) addresses) ≡ seenCallTable t ours id false addresses)
+      → (sightingOf t ours (peerOf id (placeOf id) addresses) ≡ seenCall t ours id false addresses) × (seenTable t ours (peerOf id (placeOf id) addresses) ≡ seenCallTable t ours id false addresses)
   -- "Evicting a head that answered" can't be: every contact is still there, whatever the table
   pub unevicted : (t ours head id : List ℕ) (client : Bool) (addresses : List ℕ) (j : ℕ) → j < slotsOf t
       → SameContact (slot (settleCallTable t ours head id client addresses true) j) (slot t j)
   -- "Freed slots are used again": after a remove nobody gets 14
-  pub reused : (t ours id other : List ℕ) (client : Bool) → removeNumber (removeCall t ours id) ≡ 64
-      → seenNumber (seenCall (removeCallTable t ours id) ours other client) ≡ 14 → ⊥
+  pub reused : (t ours id other : List ℕ) (client : Bool) (addresses : List ℕ) → removeNumber (removeCall t ours id) ≡ 64
+      → seenNumber (seenCall (removeCallTable t ours id) ours other client addresses) ≡ 14 → ⊥
   -- "Bucket order, probes and room ignore the mark": of a marked table seen and settle are told what they would have been told
-  pub seenIgnores : (t ours id other : List ℕ) (client : Bool) → seenCall (doubtCallTable t ours id) ours other client ≡ seenCall t ours other client
-  pub settleIgnores : (t ours id head other : List ℕ) (client answered : Bool)
-      → settleCall (doubtCallTable t ours id) ours head other client answered ≡ settleCall t ours head other client answered
+  pub seenIgnores : (t ours id other : List ℕ) (client : Bool) (addresses : List ℕ)
+      → seenCall (doubtCallTable t ours id) ours other client addresses ≡ seenCall t ours other client addresses
+  pub settleIgnores : (t ours id head other : List ℕ) (client : Bool) (addresses : List ℕ) (answered : Bool)
+      → settleCall (doubtCallTable t ours id) ours head other client addresses answered ≡ settleCall t ours head other client addresses answered
   -- "The nearest-contacts query .. passes over doubtful ones": who was marked isn't given, as near as it may be
   pub hidden : (t ours id x : List ℕ) → doubtNumber (doubtCall t ours id) ≡ 64 → Gives (doubtCallTable t ours id) x (heldAt t (placeOf id)) → ⊥
   -- "being seen, or answering a probe, clears the mark": it is the first for its own place. Lent memory has bytes alone
   pub seenGiven : (t ours id : List ℕ) (client : Bool) (addresses : List ℕ) → length ours ≡ 32 → Bytes ours → Bytes (seenCallTable t ours id client addresses) → (i : ℕ)
-      → (seenCall t ours id client ≡ seen.Moved i) ⊎ (seenCall t ours id client ≡ seen.Joined i) → GivesFirst (seenCallTable t ours id client addresses) (placeOf id) i
+      → (seenCall t ours id client addresses ≡ seen.Moved i) ⊎ (seenCall t ours id client addresses ≡ seen.Joined i) → GivesFirst (seenCallTable t ours id client addresses) (placeOf id) i
   pub answererGiven : (t ours head id : List ℕ) (client : Bool) (addresses : List ℕ) (answered : Bool) → length ours ≡ 32 → Bytes ours
-      → Bytes (settleCallTable t ours head id client addresses answered) → settleCall t ours head id client answered ≡ settle.Kept
+      → Bytes (settleCallTable t ours head id client addresses answered) → settleCall t ours head id client addresses answered ≡ settle.Kept
       → GivesFirst (settleCallTable t ours head id client addresses answered) (placeOf head) (heldAt t (placeOf head))
   -- "memory once cleared" is in form, and each call keeps it so; seen and settle, where ours is a place
   pub cleared : (t ours : List ℕ) → ((k : ℕ) → getD t k 0 ≡ 0) → inForm t ours ≡ true

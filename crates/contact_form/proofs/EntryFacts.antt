@@ -7,7 +7,8 @@ use native.Mathlib.Omega.{arith}
 use lib.ListN.{length, length-take}
 use lib.Seq.{take-all}
 use Rattle.octets.proofs.Parts.{part-size}
-use Rattle.contact_table.specs.Table.{slotsOf, slot, used, idSize, addressCount, addressSize, id, address, addressesTo, addresses, longestId, longestAddress, addressRooms}
+use Rattle.limits.specs.Limits.{mostId, mostAddress, mostAddresses}
+use Rattle.contact_table.specs.Table.{slotSize, slotsOf, slot, used, idSize, addressCount, addressSize, id, address, addressesTo, addresses}
 use Rattle.contact_form.specs.Form.{inForm}
 use Rattle.contact_table.specs.Contact.{entryId, entryAddress, entryCount, entryAddressesTo, entryAddresses}
 use Rattle.contact_table.proofs.Cuts.{slot-whole, slot-size}
@@ -15,20 +16,20 @@ use Rattle.contact_form.specs.Claims.{Fields, Entry}
 use Rattle.contact_form.proofs.FormFacts.{form-elim}
 
 -- what is never over its limit
-pub entry-id-most : (s : List ℕ) → length (entryId s) ≤ longestId
+pub entry-id-most : (s : List ℕ) → length (entryId s) ≤ mostId
 unfolding entryId
-entry-id-most s = omega (arith, length-take longestId (id s))
+entry-id-most s = omega (arith, length-take mostId (id s))
 
-pub entry-address-most : (s : List ℕ) (k : ℕ) → length (entryAddress s k) ≤ longestAddress
+pub entry-address-most : (s : List ℕ) (k : ℕ) → length (entryAddress s k) ≤ mostAddress
 unfolding entryAddress
-entry-address-most s k = omega (arith, length-take longestAddress (address s k))
+entry-address-most s k = omega (arith, length-take mostAddress (address s k))
 
-pub entry-count-most : (s : List ℕ) → entryCount s ≤ addressRooms
+pub entry-count-most : (s : List ℕ) → entryCount s ≤ mostAddresses
 unfolding entryCount
 entry-count-most s = omega arith
 
 -- sizes of the parts of a whole slot
-module _ (s : List ℕ) (whole : length s ≡ 616) (f : Fields s) where
+module _ (s : List ℕ) (whole : length s ≡ slotSize) (f : Fields s) where
   pub id-size : length (id s) ≡ idSize s
   unfolding id
   id-size = part-size s 40 (idSize s) (omega (arith, f .idMost))
@@ -39,11 +40,11 @@ module _ (s : List ℕ) (whole : length s ≡ 616) (f : Fields s) where
 
   pub entry-id-whole : entryId s ≡ id s
   unfolding entryId
-  entry-id-whole = take-all longestId (id s) (omega (arith, id-size, f .idMost))
+  entry-id-whole = take-all mostId (id s) (omega (arith, id-size, f .idMost))
 
   pub entry-address-whole : (k : ℕ) → k < addressCount s → entryAddress s k ≡ address s k
   unfolding entryAddress
-  entry-address-whole k l = take-all longestAddress (address s k) (omega (arith, address-size k l, f .sizes k l .1))
+  entry-address-whole k l = take-all mostAddress (address s k) (omega (arith, address-size k l, f .sizes k l .1))
 
   pub entry-count-whole : entryCount s ≡ addressCount s
   unfolding entryCount
@@ -62,7 +63,7 @@ module _ (s : List ℕ) (whole : length s ≡ 616) (f : Fields s) where
 pub form-entry : (t o : List ℕ) → inForm t o ≡ true → (i : ℕ) → i < slotsOf t → used (slot t i) ≡ true → Entry (slot t i)
 form-entry t o y i l u =
     let f : Fields (slot t i) = form-elim t o y .fields i l u in
-    let w : length (slot t i) ≡ 616 = slot-size t i (slot-whole t i l) in
+    let w : length (slot t i) ≡ slotSize = slot-size t i (slot-whole t i l) in
     record {
       sameId = entry-id-whole (slot t i) w f;
       sameAddresses = entry-addresses-whole (slot t i) w f;

@@ -13,25 +13,26 @@ use Rattle.octets.specs.Search.{some}
 use Rattle.octets.proofs.Bools.{and-l, and-r, and-i, or-off, or-skip, not-no, not-yes, not-both, to-false, eq-or-ne, all-head, all-rest, all-none, all-one-more}
 use Rattle.octets.proofs.Searching.{all-at, all-intro, some-at, some-intro}
 use Rattle.octets.proofs.Strings.{same-eq, same-yes}
+use Rattle.limits.specs.Limits.{mostId, mostAddress, mostAddresses, bucketSize}
 use Rattle.place.specs.Place.{bucketOf}
 use Rattle.place.proofs.Buckets.{bucket-self, bucket-lt}
-use Rattle.contact_table.specs.Table.{bucketSize, slotsOf, slot, mark, used, doubt, idSize, addressCount, addressSize, place, longestId, longestAddress, addressRooms}
+use Rattle.contact_table.specs.Table.{slotsOf, slot, mark, used, doubt, idSize, addressCount, addressSize, place}
 use Rattle.contact_form.specs.Form.{buckets, rank, slotBucket, addressFits, fieldsFit, tied, justBelow, apart, leads, good, goodOrFree, inForm}
 use Rattle.contact_form.specs.Claims.{Fields, InForm}
 use Rattle.contact_table.proofs.Cuts.{slot-whole, place-size, bytes-place, used-mark}
 
 -- ---- the fields of a slot
 module _ (s : List ℕ) where
-  address-elim : (k : ℕ) → addressFits s k ≡ true → (1 ≤ addressSize s k) × (addressSize s k ≤ longestAddress)
+  address-elim : (k : ℕ) → addressFits s k ≡ true → (1 ≤ addressSize s k) × (addressSize s k ≤ mostAddress)
   unfolding addressFits
   address-elim k h = (
-    leb-true 1 (addressSize s k) (and-l (leb 1 (addressSize s k)) (leb (addressSize s k) longestAddress) h),
-    leb-true (addressSize s k) longestAddress (and-r (leb 1 (addressSize s k)) (leb (addressSize s k) longestAddress) h),
+    leb-true 1 (addressSize s k) (and-l (leb 1 (addressSize s k)) (leb (addressSize s k) mostAddress) h),
+    leb-true (addressSize s k) mostAddress (and-r (leb 1 (addressSize s k)) (leb (addressSize s k) mostAddress) h),
   )
 
-  address-intro : (k : ℕ) → (1 ≤ addressSize s k) × (addressSize s k ≤ longestAddress) → addressFits s k ≡ true
+  address-intro : (k : ℕ) → (1 ≤ addressSize s k) × (addressSize s k ≤ mostAddress) → addressFits s k ≡ true
   unfolding addressFits
-  address-intro k h = and-i (leb 1 (addressSize s k)) (leb (addressSize s k) longestAddress) (le-leb 1 (addressSize s k) (h .0)) (le-leb (addressSize s k) longestAddress (h .1))
+  address-intro k h = and-i (leb 1 (addressSize s k)) (leb (addressSize s k) mostAddress) (le-leb 1 (addressSize s k) (h .0)) (le-leb (addressSize s k) mostAddress (h .1))
 
   pub fields-elim : fieldsFit s ≡ true → Fields s
   unfolding fieldsFit
@@ -45,8 +46,8 @@ module _ (s : List ℕ) where
         ranked = leb-true (mark s) bucketSize (all-head _ _ h0);
         doubted = leb-true (doubt s) 1 (all-head _ _ h1);
         idLeast = leb-true 1 (idSize s) (all-head _ _ h2);
-        idMost = leb-true (idSize s) longestId (all-head _ _ h3);
-        few = leb-true (addressCount s) addressRooms (all-head _ _ h4);
+        idMost = leb-true (idSize s) mostId (all-head _ _ h3);
+        few = leb-true (addressCount s) mostAddresses (all-head _ _ h4);
         sizes = λ k l. address-elim k (all-at (addressFits s) (addressCount s) k (all-head _ _ h5) l);
       }
 
@@ -56,8 +57,8 @@ module _ (s : List ℕ) where
       all-one-more _ _ (le-leb (mark s) bucketSize (f .ranked))
       (all-one-more _ _ (le-leb (doubt s) 1 (f .doubted))
       (all-one-more _ _ (le-leb 1 (idSize s) (f .idLeast))
-      (all-one-more _ _ (le-leb (idSize s) longestId (f .idMost))
-      (all-one-more _ _ (le-leb (addressCount s) addressRooms (f .few))
+      (all-one-more _ _ (le-leb (idSize s) mostId (f .idMost))
+      (all-one-more _ _ (le-leb (addressCount s) mostAddresses (f .few))
       (all-one-more _ _ (all-intro (addressFits s) (addressCount s) (λ k l. address-intro k (f .sizes k l)))
       all-none)))))
 

@@ -11,13 +11,15 @@ use lib.Dec.{ltb, eqb}
 use lib.ListN.{length, getD, set, length-set, replicate}
 use lib.Seq.{getD-set-same, getD-set-other}
 use borrow.Author.Tests.{lt-ltb, ltb-true, ltb-false, eq-eqb, ne-eqb, eqb-false, not-true}
+use Rattle.octets.proofs.Lists.{zeros}
 use Rattle.octets.specs.Octets.{part, same}
 use Rattle.octets.specs.Search.{all}
 use Rattle.octets.proofs.Bools.{either, and-l, and-r, and-i, or-l, or-off, or-skip, not-no, not-both, to-false, same-way, eq-or-ne, cond-yes, cond-no, and-off, and-fails}
 use Rattle.octets.proofs.Searching.{all-at, all-intro}
 use Rattle.octets.proofs.Strings.{same-eq, same-yes, three}
+use Rattle.limits.specs.Limits.{bucketSize}
 use Rattle.place.specs.Place.{bucketOf}
-use Rattle.contact_table.specs.Table.{bucketSize, slotsOf, slot, mark, used, place}
+use Rattle.contact_table.specs.Table.{slotsOf, slot, mark, used, place}
 use Rattle.contact_form.specs.Form.{buckets, rank, slotBucket, fieldsFit, inForm}
 use Rattle.contact_form.specs.Inner.{indexSize, fine, keyOf, keyOr, Indexed, otherPlace, otherBefore, entryFits}
 use Rattle.contact_table.proofs.Cuts.{used-mark, mark-used, mark-free}
@@ -105,12 +107,6 @@ unfolding keyOf
 key-prev s v o k p q e = omega arith
 
 -- ---- the index, a slot at a time
--- for octets
-pub zeros : (n k : ℕ) → _≡_ {A = ℕ} (getD (replicate n 0) k 0) 0
-zeros zero k = refl
-zeros (suc n) zero = refl
-zeros (suc n) (suc k) = zeros n k
-
 pub index-none : (t o a : List ℕ) → length a ≡ indexSize → ((k : ℕ) → getD a k 0 ≡ 0) → Indexed t o 0 a
 index-none t o a e z = record {
   long = e;

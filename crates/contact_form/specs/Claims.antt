@@ -7,7 +7,8 @@ use lib.Dec.{eqb}
 use lib.ListN.{length}
 use Rattle.octets.specs.Octets.{Bytes}
 use Rattle.octets.specs.Search.{count}
-use Rattle.contact_table.specs.Table.{bucketSize, longestId, longestAddress, addressRooms, slotsOf, slot, mark, used, doubt, idSize, addressCount, addressSize, place, id, addresses}
+use Rattle.limits.specs.Limits.{mostId, mostAddress, mostAddresses, bucketSize}
+use Rattle.contact_table.specs.Table.{slotsOf, slot, mark, used, doubt, idSize, addressCount, addressSize, place, id, addresses}
 use Rattle.contact_table.specs.Contact.{entryId, entryAddresses}
 use Rattle.contact_form.specs.Form.{buckets, rank, slotBucket, inForm}
 
@@ -16,9 +17,9 @@ pub record Fields (s : List ℕ) : Type 0 where
   pub ranked : mark s ≤ bucketSize
   pub doubted : doubt s ≤ 1
   pub idLeast : 1 ≤ idSize s
-  pub idMost : idSize s ≤ longestId
-  pub few : addressCount s ≤ addressRooms
-  pub sizes : (k : ℕ) → k < addressCount s → (1 ≤ addressSize s k) × (addressSize s k ≤ longestAddress)
+  pub idMost : idSize s ≤ mostId
+  pub few : addressCount s ≤ mostAddresses
+  pub sizes : (k : ℕ) → k < addressCount s → (1 ≤ addressSize s k) × (addressSize s k ≤ mostAddress)
 
 -- and of the table t, where our place is o
 pub record InForm (t o : List ℕ) : Type 0 where

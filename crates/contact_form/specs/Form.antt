@@ -6,8 +6,9 @@ use mathlib.Core.List.{List, [], _∷_}
 use lib.Dec.{ltb, leb, eqb}
 use Rattle.octets.specs.Octets.{same}
 use Rattle.octets.specs.Search.{all, some, allOf}
+use Rattle.limits.specs.Limits.{mostId, mostAddress, mostAddresses, bucketSize}
 use Rattle.place.specs.Place.{bucketOf}
-use Rattle.contact_table.specs.Table.{bucketSize, longestId, longestAddress, addressRooms, slotsOf, slot, mark, used, doubt, idSize, addressCount, addressSize, place}
+use Rattle.contact_table.specs.Table.{slotsOf, slot, mark, used, doubt, idSize, addressCount, addressSize, place}
 
 -- buckets 0 to 255
 abbrev pub buckets : ℕ
@@ -24,7 +25,7 @@ slotBucket s o = bucketOf (place s) o
 
 -- "addresses of 1 to 128"
 unfoldable pub addressFits : List ℕ → ℕ → Bool
-addressFits s k = leb 1 (addressSize s k) && leb (addressSize s k) longestAddress
+addressFits s k = leb 1 (addressSize s k) && leb (addressSize s k) mostAddress
 
 -- "an id of 1 to 64 bytes and up to four addresses"; the rank is one of a bucket's twenty, and the mark of doubt is 0 or 1
 unfoldable pub fieldsFit : List ℕ → Bool
@@ -33,8 +34,8 @@ fieldsFit s =
     (leb (mark s) bucketSize
     ∷ leb (doubt s) 1
     ∷ leb 1 (idSize s)
-    ∷ leb (idSize s) longestId
-    ∷ leb (addressCount s) addressRooms
+    ∷ leb (idSize s) mostId
+    ∷ leb (addressCount s) mostAddresses
     ∷ all (addressCount s) (addressFits s)
     ∷ [])
 

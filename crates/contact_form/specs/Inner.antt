@@ -7,13 +7,14 @@ use lib.Dec.{ltb, eqb}
 use lib.ListN.{length, getD}
 use Rattle.octets.specs.Octets.{part, number, same}
 use Rattle.octets.specs.Search.{all}
-use Rattle.contact_table.specs.Table.{bucketSize, slot, used, place}
+use Rattle.limits.specs.Limits.{bucketSize}
+use Rattle.contact_table.specs.Table.{slot, used, place}
 use Rattle.contact_form.specs.declared.Words.{Words}
 use Rattle.contact_form.specs.Form.{buckets, rank, slotBucket, fieldsFit}
 
 -- the index: an entry for each rank of each bucket; 0, or the number of the slot that stands there plus 1
 abbrev pub indexSize : ℕ
-indexSize = 5120
+indexSize = buckets * bucketSize
 
 -- a slot that is fine by itself, and its entry; indexSize where it isn't fine
 unfoldable pub fine : List ℕ → List ℕ → Bool

@@ -1,9 +1,5 @@
 // The form test of the contact table, for a table of any bytes.
-use contact_table::ADDRESS;
-use contact_table::ADDRESSES;
-use contact_table::ID;
 use contact_table::ID_AT;
-use contact_table::PLACE;
 use contact_table::PLACE_AT;
 use contact_table::SLOT;
 ghost use mathlib.Core.Path.{_≡_};
@@ -12,16 +8,15 @@ ghost use Prim.Native.Nat.{ℕ, _+_, _*_, _-_, _<_, _≤_};
 ghost use lib.ListN.{length, getD};
 ghost use Rattle.octets.specs.Octets.{same};
 ghost use Rattle.octets.specs.Search.{all};
-ghost use Rattle.contact_table.specs.Table.{slotSize, addressRooms, slotsOf, slot, place};
+ghost use Rattle.limits.specs.Limits.{mostAddresses};
+ghost use Rattle.contact_table.specs.Table.{slotSize, slotsOf, slot, place};
 ghost use Rattle.contact_form.specs.Form.{addressFits, fieldsFit, inForm};
 ghost use Rattle.contact_form.specs.Inner.{indexSize, keyOr, Indexed, wordsOf, otherPlace, otherBefore, entryFits};
 
-// Buckets, the most contacts of one, and a place in the index for each.
+// Buckets, and a place in the index for each contact of each.
 const BUCKETS: usize = 256;
 
-const BUCKET: usize = 20;
-
-const INDEX: usize = 5120;
+const INDEX: usize = BUCKETS * limits::BUCKET;
 
 // A slot that stands in the table whole, and its place.
 fn slot_at(table: &[u8], i: usize) -> &[u8]
@@ -38,23 +33,23 @@ fn place_at(table: &[u8], i: usize) -> &[u8]
     ensures { λ r. ⌜ (now r ≡ place (slot (now (table .entry)) i)) × (length (now r) ≡ 32) ⌝ }
 {
     let a = i * SLOT + PLACE_AT;
-    let e = a + PLACE;
+    let e = a + limits::PLACE;
     &table[a..e]
 }
 
 fn address_fits(s: &[u8], k: usize) -> bool
-    requires { ⌜ (length (now s) ≡ slotSize) × (k < addressRooms) ⌝ }
+    requires { ⌜ (length (now s) ≡ slotSize) × (k < mostAddresses) ⌝ }
     ensures { λ r. ⌜ r ≡ addressFits (now (s .entry)) k ⌝ }
 {
     let n = s[4 + k] as usize;
     if n < 1 {
         return false;
     }
-    n <= ADDRESS
+    n <= limits::MOST_ADDRESS
 }
 
 fn addresses_fit(s: &[u8], count: usize) -> bool
-    requires { ⌜ (length (now s) ≡ slotSize) × (count ≤ addressRooms) ⌝ }
+    requires { ⌜ (length (now s) ≡ slotSize) × (count ≤ mostAddresses) ⌝ }
     ensures { λ r. ⌜ r ≡ all count (addressFits (now (s .entry))) ⌝ }
 {
     let mut k: usize = 0;
@@ -72,7 +67,7 @@ fn fields_fit(s: &[u8]) -> bool
     ensures { λ r. ⌜ r ≡ fieldsFit (now (s .entry)) ⌝ }
 {
     let mark = s[0] as usize;
-    if BUCKET < mark {
+    if limits::BUCKET < mark {
         return false;
     }
     if 1 < s[1] {
@@ -82,11 +77,11 @@ fn fields_fit(s: &[u8]) -> bool
     if id < 1 {
         return false;
     }
-    if ID < id {
+    if limits::MOST_ID < id {
         return false;
     }
     let count = s[3] as usize;
-    if ADDRESSES < count {
+    if limits::MOST_ADDRESSES < count {
         return false;
     }
     addresses_fit(s, count)
@@ -105,7 +100,7 @@ fn key_of(s: &[u8], ours: &[u8]) -> usize
         return INDEX;
     }
     let mark = s[0] as usize;
-    b * BUCKET + (mark - 1)
+    b * limits::BUCKET + (mark - 1)
 }
 
 // Puts each used slot's number, plus 1, where it goes; false where that shows that the table is out of form.
@@ -208,7 +203,7 @@ fn entry_fits(table: &[u8], at: &[u16], k: usize) -> bool
     if e < 1 {
         return true;
     }
-    let m = k % BUCKET;
+    let m = k % limits::BUCKET;
     if m == 0 {
         return true;
     }

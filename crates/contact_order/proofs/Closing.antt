@@ -13,13 +13,13 @@ use borrow.Author.Tests.{lt-ltb, le-ltb}
 use Rattle.octets.proofs.Bools.{and-i, and-off, and-fails, either, cond-yes, cond-no}
 use Rattle.place.specs.Place.{bucketOf}
 use Rattle.contact_table.proofs.Cuts.{mark-used}
-use Rattle.contacts.specs.Table.{slotsOf, slot, putSlot, mark, place}
+use Rattle.contacts.specs.Table.{slotSize, slotsOf, slot, putSlot, mark, place}
 use Rattle.contact_order.specs.Order.{ofBucket, withMark, withDoubt, lowered, each, closeUp, leave}
 use Rattle.contact_order.proofs.Slots.{slot-long, length-put, slot-put, slot-other, put-self, put-set}
 use Rattle.contact_order.proofs.Tests.{of-make, of-far}
 
 -- ---- every slot changed
-module _ (f : List ℕ → List ℕ) (long : (s : List ℕ) → length s ≡ 616 → length (f s) ≡ 616) (t : List ℕ) where
+module _ (f : List ℕ → List ℕ) (long : (s : List ℕ) → length s ≡ slotSize → length (f s) ≡ slotSize) (t : List ℕ) where
   each-suc : (n : ℕ) → each f (suc n) t ≡ putSlot (each f n t) n (f (slot t n))
   unfolding each
   each-suc n = refl
@@ -33,7 +33,7 @@ module _ (f : List ℕ → List ℕ) (long : (s : List ℕ) → length s ≡ 616
   unfolding slotsOf
   each-slots n = rw (each-length n)
 
-  changed-long : (n : ℕ) → n < slotsOf t → length (f (slot t n)) ≡ 616
+  changed-long : (n : ℕ) → n < slotsOf t → length (f (slot t n)) ≡ slotSize
   changed-long n l = long (slot t n) (slot-long t n l)
 
   each-later : (n j : ℕ) → n ≤ slotsOf t → n ≤ j → slot (each f n t) j ≡ slot t j
@@ -81,15 +81,15 @@ module _ (o : List ℕ) (b m : ℕ) (s : List ℕ) where
   lowered-is =
       ⊎-elim (λ e. inr (cond-yes (ltb m (mark s) && ofBucket o b s) _ _ e)) (λ e. inl (cond-no (ltb m (mark s) && ofBucket o b s) _ _ e)) (either (ltb m (mark s) && ofBucket o b s))
 
-  pub lowered-long : length s ≡ 616 → length (lowered o b m s) ≡ 616
+  pub lowered-long : length s ≡ slotSize → length (lowered o b m s) ≡ slotSize
   unfolding withMark
   lowered-long h = ⊎-elim (λ e. ap length e ∙ h) (λ e. ap length e ∙ length-set s 0 (mark s - 1) ∙ h) lowered-is
 
-pub put-mark : (t : List ℕ) (i m : ℕ) → i < slotsOf t → set t (i * 616) m ≡ putSlot t i (withMark m (slot t i))
+pub put-mark : (t : List ℕ) (i m : ℕ) → i < slotsOf t → set t (i * slotSize) m ≡ putSlot t i (withMark m (slot t i))
 unfolding withMark
-put-mark t i m l = let e : i * 616 + 0 ≡ i * 616 = omega arith in sym (put-set t i 0 m l (omega arith) ∙ ap (λ (k : ℕ). set t k m) e)
+put-mark t i m l = let e : i * slotSize + 0 ≡ i * slotSize = omega arith in sym (put-set t i 0 m l (omega arith) ∙ ap (λ (k : ℕ). set t k m) e)
 
-pub put-doubt : (t : List ℕ) (i d : ℕ) → i < slotsOf t → set t (i * 616 + 1) d ≡ putSlot t i (withDoubt d (slot t i))
+pub put-doubt : (t : List ℕ) (i d : ℕ) → i < slotsOf t → set t (i * slotSize + 1) d ≡ putSlot t i (withDoubt d (slot t i))
 unfolding withDoubt
 put-doubt t i d l = sym (put-set t i 1 d l (omega arith))
 
@@ -100,7 +100,7 @@ module _ (t : List ℕ) (i : ℕ) (l : i < slotsOf t) (o : List ℕ) (b m k : �
   pub lower-far : (r : ℕ) → r ≡ bucketOf (place (slot t i)) o → (r ≡ b → ⊥) → t ≡ putSlot t i (lowered o b m (slot t i))
   lower-far r g z = sym (ap (putSlot t i) (lowered-far o b m (slot t i) (of-far o b (slot t i) (λ q. z (g ∙ q)))) ∙ put-self t i l)
 
-  pub lower-on : m < k → (r : ℕ) → r ≡ bucketOf (place (slot t i)) o → r ≡ b → set t (i * 616) (k - 1) ≡ putSlot t i (lowered o b m (slot t i))
+  pub lower-on : m < k → (r : ℕ) → r ≡ bucketOf (place (slot t i)) o → r ≡ b → set t (i * slotSize) (k - 1) ≡ putSlot t i (lowered o b m (slot t i))
   lower-on h r g z =
       let f : ofBucket o b (slot t i) ≡ true = of-make o b (slot t i) (mark-used (slot t i) (λ q. bad q)) (sym g ∙ z) in
       put-mark t i (k - 1) l ∙ ap (λ (x : ℕ). putSlot t i (withMark (x - 1) (slot t i))) e ∙ sym (ap (putSlot t i) (lowered-on o b m (slot t i) (omega arith) f))

@@ -113,22 +113,6 @@ module _ (p s : List ℕ) where
   unfolding isAt
   at-make u e = and-i (used s) (same (place s) p) u (same-yes (place s) p e)
 
--- ---- a search from slot 0 on
-pub none-yet : (p : ℕ → Bool) (j : ℕ) → j < 0 → p j ≡ false
-none-yet p j l = absurd (not-suc-le-zero l)
-
-pub none-still : (p : ℕ → Bool) (i : ℕ) → ((j : ℕ) → j < i → p j ≡ false) → p i ≡ false → (j : ℕ) → j < i + 1 → p j ≡ false
-none-still p i h e j l = ⊎-elim (λ q. ap p q ∙ e) (λ lt. h j lt) (eq-or-lt-of-le below)
-  where
-    below : j ≤ i
-    below = omega arith
-
-pub found : (p : ℕ → Bool) (n m i : ℕ) → m ≡ n → i < m → ((j : ℕ) → j < i → p j ≡ false) → p i ≡ true → i ≡ first n p
-found p n m i e l h q = first-hit p n i (omega arith) h q
-
-pub not-found : (p : ℕ → Bool) (n m i : ℕ) → m ≡ n → m ≤ i → ((j : ℕ) → j < i → p j ≡ false) → m ≡ first n p
-not-found p n m i e l h = e ∙ first-miss p n (λ j lj. h j (omega arith))
-
 -- ---- who is held, and which slot is free
 module _ (t p : List ℕ) where
   pub held-lt : held t p ≡ true → heldAt t p < slotsOf t

@@ -8,6 +8,7 @@ use lib.Dec.{ltb, eqb}
 use Rattle.octets.specs.Octets.{same}
 use Rattle.octets.specs.Search.{first, largest}
 use Rattle.place.specs.Place.{bucketOf}
+use Rattle.contact_table.specs.Table.{doubtfulAt}
 use Rattle.contacts.specs.Table.{slotsOf, slot, putSlot, mark, used, place}
 
 -- ---- whom a slot holds
@@ -50,7 +51,7 @@ unfoldable pub withMark : ℕ → List ℕ → List ℕ
 withMark m s = set s 0 m
 
 unfoldable pub withDoubt : ℕ → List ℕ → List ℕ
-withDoubt d s = set s 1 d
+withDoubt d s = set s doubtfulAt d
 
 -- ---- the order closes up; "Bucket order, probes and room ignore the mark" of doubt, and who moves forward keeps it
 -- those of bucket b behind the mark m move one forward

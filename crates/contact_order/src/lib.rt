@@ -22,8 +22,8 @@ fn place_at(table: &[u8], i: usize) -> &[u8]
     requires { ⌜ i < slotsOf (now table) ⌝ }
     ensures { λ r. ⌜ (now r ≡ place (slot (now (table .entry)) i)) × (length (now r) ≡ 32) ⌝ }
 {
-    let from = i * SLOT + 8;
-    let to = from + 32;
+    let from = i * SLOT + contact_table::PLACE_AT;
+    let to = from + limits::PLACE;
     &table[from..to]
 }
 
@@ -45,7 +45,7 @@ fn sieve_of(ours: &[u8], b: usize) -> Sieve
     ensures { λ r. ⌜ Sieves (now (ours .entry)) b r ⌝ }
 {
     let word = octets::word(ours, 0);
-    if ours.len() != 32 {
+    if ours.len() != limits::PLACE {
         return Sieve { word, bits: 65 };
     }
     if 64 < b {

@@ -5,7 +5,7 @@ use mathlib.Core.List.{List, [], _∷_, _++_, append-nil}
 use native.Mathlib.Omega.{arith}
 use lib.ListN.{length, getD, take, length-append}
 use lib.Seq.{take-suc, take-length, drop-append-add}
-use Rattle.contacts.specs.Table.{slot}
+use Rattle.contacts.specs.Table.{slotSize, slot}
 use Rattle.sightings.specs.Order.{withDoubt, contactBytes}
 use Rattle.flat.specs.Flat.{field, peerBytes, peerIn}
 use Rattle.flat.specs.Promises.{Whole}
@@ -18,7 +18,7 @@ use Rattle.contact_slots.specs.Promises.{AllWhole, ReadsBack}
 use Rattle.contact_slots.proofs.Rows.{slot-next, slot-front}
 
 -- a slot has 616 bytes: as many as with any other first two
-pub length-slot : (c : Contact) → Whole (c .peer) → length (slotBytes c) ≡ 616
+pub length-slot : (c : Contact) → Whole (c .peer) → length (slotBytes c) ≡ slotSize
 unfolding slotBytes contactBytes withDoubt
 length-slot c w = length-peer (c .peer) w
 
@@ -29,26 +29,26 @@ any-first m d p = refl
 
 one-back : (c : Contact) → Whole (c .peer) → contactIn (slotBytes c) ≡ c
 unfolding contactIn slotBytes contactBytes withDoubt
-one-back c w = ap (λ (p : Peer). record { peer = p; rank = c .rank; doubt = c .doubt }) (any-first (c .rank) (c .doubt) (c .peer) ∙ ap peerIn (sym (append-nil (peerBytes (c .peer)))) ∙ reads-back .peer (c .peer) [] w)
+one-back c w = ap (λ (p : Peer). record { peer = p; mark = c .mark; doubt = c .doubt }) (any-first (c .mark) (c .doubt) (c .peer) ∙ ap peerIn (sym (append-nil (peerBytes (c .peer)))) ∙ reads-back .peer (c .peer) [] w)
 
-pub size-back : (t : List Contact) → AllWhole t → length (tableBytes t) ≡ length t * 616
+pub size-back : (t : List Contact) → AllWhole t → length (tableBytes t) ≡ length t * slotSize
 unfolding tableBytes AllWhole
 size-back [] w = refl
 size-back (c ∷ t) w = omega (arith, length-append (slotBytes c) (tableBytes t), length-slot c (w .0), size-back t (w .1))
 
 -- ---- slot n of a table is contact n
-slot-skip : (a b : List ℕ) (n : ℕ) → length a ≡ 616 → slot (a ++ b) (suc n) ≡ slot b n
+slot-skip : (a b : List ℕ) (n : ℕ) → length a ≡ slotSize → slot (a ++ b) (suc n) ≡ slot b n
 unfolding slot
 slot-skip a b n h =
-    let e : suc n * 616 + 616 - suc n * 616 ≡ n * 616 + 616 - n * 616 = omega arith in
-    let k : suc n * 616 ≡ length a + n * 616 = omega arith in
-    rw (e, k) (ap (take (n * 616 + 616 - n * 616)) (drop-append-add a b (n * 616)))
+    let e : suc n * slotSize + slotSize - suc n * slotSize ≡ n * slotSize + slotSize - n * slotSize = omega arith in
+    let k : suc n * slotSize ≡ length a + n * slotSize = omega arith in
+    rw (e, k) (ap (take (n * slotSize + slotSize - n * slotSize)) (drop-append-add a b (n * slotSize)))
 
 slot-is : (t : List Contact) (n : ℕ) (d : Contact) → AllWhole t → n < length t → slot (tableBytes t) n ≡ slotBytes (getD t n d)
 unfolding tableBytes AllWhole
 slot-is [] n d w h = absurd (omega arith)
 slot-is (c ∷ t) zero d w h =
-    let long : length (slotBytes c) ≡ 616 = length-slot c (w .0) in
+    let long : length (slotBytes c) ≡ slotSize = length-slot c (w .0) in
     slot-front (slotBytes c) (tableBytes t) 0 (omega arith) ∙ slot-next [] (slotBytes c) 0 refl long
 slot-is (c ∷ t) (suc n) d w h = slot-skip (slotBytes c) (tableBytes t) n (length-slot c (w .0)) ∙ slot-is t n d (w .1) (omega arith)
 

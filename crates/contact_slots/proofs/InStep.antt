@@ -13,21 +13,22 @@ use Rattle.place.specs.Place.{placeOf, bucketOf}
 use Rattle.peer.specs.declared.Peer.{Peer}
 use Rattle.peer.specs.Addresses.{padded}
 use Rattle.peer.specs.Peers.{peerOf}
-use Rattle.contacts.specs.Table.{slot}
+use Rattle.contacts.specs.Table.{slotSize, slot}
 use Rattle.sightings.specs.Order.{heldAt, freeAt, tailOf, withDoubt, contactBytes, freeBytes, renewed, leave, tailed, moveToTail, moveAndRenew, dropped, joinAt, join, doubtAt}
 use Rattle.contact_order.proofs.Slots.{length-put}
 use Rattle.contact_order.proofs.Closing.{leave-length}
 use Rattle.flat.specs.Flat.{field, peerIn}
 use Rattle.node.specs.Box.{ownFits}
-use Rattle.contact_calls.specs.declared.SeenOutcome.{SeenOutcome}
-use Rattle.contact_calls.specs.declared.SeenOutcome.the-variants as seen
-use Rattle.contact_calls.specs.declared.SettleOutcome.{SettleOutcome}
-use Rattle.contact_calls.specs.declared.SettleOutcome.the-variants as settle
-use Rattle.contact_calls.specs.declared.RemoveOutcome.{RemoveOutcome}
-use Rattle.contact_calls.specs.declared.RemoveOutcome.the-variants as remove
-use Rattle.contact_calls.specs.declared.DoubtOutcome.{DoubtOutcome}
-use Rattle.contact_calls.specs.declared.DoubtOutcome.the-variants as doubt
-use Rattle.contact_calls.specs.Calls.{seenCall, afterSeen, seenCallTable, settleCall, afterSettle, settleCallTable, removeCall, afterRemove, removeCallTable, doubtCall, afterDoubt, doubtCallTable}
+use Rattle.sightings.specs.declared.Sighting.{Sighting}
+use Rattle.sightings.specs.declared.Sighting.the-variants as seen
+use Rattle.sightings.specs.declared.Settled.{Settled}
+use Rattle.sightings.specs.declared.Settled.the-variants as settle
+use Rattle.sightings.specs.declared.Removed.{Removed}
+use Rattle.sightings.specs.declared.Removed.the-variants as remove
+use Rattle.sightings.specs.declared.Doubted.{Doubted}
+use Rattle.sightings.specs.declared.Doubted.the-variants as doubt
+use Rattle.sightings.specs.Sightings.{afterSighting, afterSettling, afterRemoval, afterMarking}
+use Rattle.contact_calls.specs.Calls.{seenCall, seenCallTable, settleCall, settleCallTable, removeCall, removeCallTable, doubtCall, doubtCallTable}
 use Rattle.host_calls.specs.Hosts.{seenAfter, settleAfter, removeAfter, doubtAfter}
 use Rattle.contact_slots.specs.declared.Contact.{Contact}
 use Rattle.contact_slots.specs.Slots.{slotBytes, contactIn, tableBytes, contactsIn}
@@ -63,51 +64,51 @@ module _ (t : List ℕ) where
 
   -- ---- the calls
   module _ (o : List ℕ) (p : Peer) where
-    seen-after : (a : SeenOutcome) → Same t (afterSeen t o p a)
-    unfolding afterSeen
+    seen-after : (a : Sighting) → Same t (afterSighting t o p a)
+    unfolding afterSighting
     seen-after (seen.Moved i) = renew-same o i p
     seen-after (seen.Joined i) = join-same t o i p refl
     seen-after (seen.Probe h) = refl
     seen-after (seen.Refused r) = refl
 
-    settle-after : (head : List ℕ) (a : SettleOutcome) → Same t (afterSettle t o head p a)
-    unfolding afterSettle join
+    settle-after : (head : List ℕ) (a : Settled) → Same t (afterSettling t o head p a)
+    unfolding afterSettling join
     settle-after head settle.Kept = move-same o (heldAt t head)
     settle-after head settle.Swapped = join-same (dropped t o (heldAt t head)) o (freeAt (dropped t o (heldAt t head))) p (dropped-same o (heldAt t head))
     settle-after head (settle.Refused r) = refl
 
-  remove-after : (o h : List ℕ) (a : RemoveOutcome) → Same t (afterRemove t o h a)
-  unfolding afterRemove
+  remove-after : (o h : List ℕ) (a : Removed) → Same t (afterRemoval t o h a)
+  unfolding afterRemoval
   remove-after o h remove.Gone = dropped-same o (heldAt t h)
   remove-after o h (remove.Refused r) = refl
 
-  doubt-after : (h : List ℕ) (a : DoubtOutcome) → Same t (afterDoubt t h a)
-  unfolding afterDoubt
+  doubt-after : (h : List ℕ) (a : Doubted) → Same t (afterMarking t h a)
+  unfolding afterMarking
   doubt-after h doubt.Marked = doubt-same-at (heldAt t h)
   doubt-after h (doubt.Refused r) = refl
 
   seen-same : (me : Peer) (id : List ℕ) (client : Bool) (addresses : List ℕ) → Same t (seenAfter me t id client addresses)
   unfolding seenAfter seenCallTable
   seen-same me id client addresses =
-      cond-ind (Same t) (ownFits me) (afterSeen t (me .place) (peerOf id (placeOf id) addresses) (seenCall t (me .place) id client)) t
-      (λ h. seen-after (me .place) (peerOf id (placeOf id) addresses) (seenCall t (me .place) id client)) (λ h. refl)
+      cond-ind (Same t) (ownFits me) (afterSighting t (me .place) (peerOf id (placeOf id) addresses) (seenCall t (me .place) id client addresses)) t
+      (λ h. seen-after (me .place) (peerOf id (placeOf id) addresses) (seenCall t (me .place) id client addresses)) (λ h. refl)
 
   settle-same : (me : Peer) (head id : List ℕ) (client : Bool) (addresses : List ℕ) (answered : Bool) → Same t (settleAfter me t head id client addresses answered)
   unfolding settleAfter settleCallTable
   settle-same me head id client addresses answered =
-      cond-ind (Same t) (ownFits me) (afterSettle t (me .place) (placeOf head) (peerOf id (placeOf id) addresses) (settleCall t (me .place) head id client answered)) t
-      (λ h. settle-after (me .place) (peerOf id (placeOf id) addresses) (placeOf head) (settleCall t (me .place) head id client answered)) (λ h. refl)
+      cond-ind (Same t) (ownFits me) (afterSettling t (me .place) (placeOf head) (peerOf id (placeOf id) addresses) (settleCall t (me .place) head id client addresses answered)) t
+      (λ h. settle-after (me .place) (peerOf id (placeOf id) addresses) (placeOf head) (settleCall t (me .place) head id client addresses answered)) (λ h. refl)
 
   remove-same : (me : Peer) (id : List ℕ) → Same t (removeAfter me t id)
   unfolding removeAfter removeCallTable
   remove-same me id =
-      cond-ind (Same t) (ownFits me) (afterRemove t (me .place) (placeOf id) (removeCall t (me .place) id)) t
+      cond-ind (Same t) (ownFits me) (afterRemoval t (me .place) (placeOf id) (removeCall t (me .place) id)) t
       (λ h. remove-after (me .place) (placeOf id) (removeCall t (me .place) id)) (λ h. refl)
 
   doubt-same : (me : Peer) (id : List ℕ) → Same t (doubtAfter me t id)
   unfolding doubtAfter doubtCallTable
   doubt-same me id =
-      cond-ind (Same t) (ownFits me) (afterDoubt t (placeOf id) (doubtCall t (me .place) id)) t (λ h. doubt-after (placeOf id) (doubtCall t (me .place) id)) (λ h. refl)
+      cond-ind (Same t) (ownFits me) (afterMarking t (placeOf id) (doubtCall t (me .place) id)) t (λ h. doubt-after (placeOf id) (doubtCall t (me .place) id)) (λ h. refl)
 
 -- ---- a slot is written as it was read
 head-is : (x : List ℕ) → 4 ≤ length x → _≡_ {A = List ℕ} (getD x 0 0 ∷ getD x 1 0 ∷ getD x 2 0 ∷ getD x 3 0 ∷ []) (part x 0 4)
@@ -123,29 +124,29 @@ field-is a n x h =
     let z : n - length (drop a x) ≡ 0 = omega (arith, length-drop a x) in
     ap (λ (k : ℕ). take n (drop a x) ++ replicate k 0) z ∙ append-nil (take n (drop a x)) ∙ sym (part-is x a n)
 
-slot-back : (x : List ℕ) → length x ≡ 616 → slotBytes (contactIn x) ≡ x
+slot-back : (x : List ℕ) → length x ≡ slotSize → slotBytes (contactIn x) ≡ x
 unfolding slotBytes contactIn contactBytes withDoubt peerIn
 slot-back x h =
     ap₂ (λ (a b : List ℕ). a ++ b) (head-is x (omega arith))
     (ap₂ (λ (a b : List ℕ). a ++ b) (field-is 4 4 x (omega arith))
     (ap₂ (λ (a b : List ℕ). a ++ b) (field-is 8 32 x (omega arith))
-    (ap₂ (λ (a b : List ℕ). a ++ b) (field-is 40 64 x (omega arith)) (field-is 104 512 x (omega arith)) ∙ part-join x 40 104 616 (omega arith) (omega arith))
-    ∙ part-join x 8 40 616 (omega arith) (omega arith))
-    ∙ part-join x 4 8 616 (omega arith) (omega arith))
-    ∙ part-join x 0 4 616 (omega arith) (omega arith) ∙ part-whole x 616 (omega arith)
+    (ap₂ (λ (a b : List ℕ). a ++ b) (field-is 40 64 x (omega arith)) (field-is 104 512 x (omega arith)) ∙ part-join x 40 104 slotSize (omega arith) (omega arith))
+    ∙ part-join x 8 40 slotSize (omega arith) (omega arith))
+    ∙ part-join x 4 8 slotSize (omega arith) (omega arith))
+    ∙ part-join x 0 4 slotSize (omega arith) (omega arith) ∙ part-whole x slotSize (omega arith)
 
-some-again : (n i : ℕ) (s : List ℕ) → length s ≡ n * 616 → i ≤ n → tableBytes (contactsIn i s) ≡ take (i * 616) s
+some-again : (n i : ℕ) (s : List ℕ) → length s ≡ n * slotSize → i ≤ n → tableBytes (contactsIn i s) ≡ take (i * slotSize) s
 unfolding contactsIn tableBytes slot
 some-again n zero s h l = refl
 some-again n (suc i) s h l =
-    let long : length (slot s i) ≡ 616 = part-size s (i * 616) 616 (omega arith) in
-    let next : suc i * 616 ≡ i * 616 + 616 = omega arith in
+    let long : length (slot s i) ≡ slotSize = part-size s (i * slotSize) slotSize (omega arith) in
+    let next : suc i * slotSize ≡ i * slotSize + slotSize = omega arith in
     table-more (contactsIn i s) (contactIn (slot s i))
-    ∙ ap₂ (λ (a b : List ℕ). a ++ b) (some-again n i s h (omega arith)) (slot-back (slot s i) long ∙ part-is s (i * 616) 616)
-    ∙ sym (take-add (i * 616) 616 s) ∙ ap (λ (k : ℕ). take k s) (sym next)
+    ∙ ap₂ (λ (a b : List ℕ). a ++ b) (some-again n i s h (omega arith)) (slot-back (slot s i) long ∙ part-is s (i * slotSize) slotSize)
+    ∙ sym (take-add (i * slotSize) slotSize s) ∙ ap (λ (k : ℕ). take k s) (sym next)
 
-again : (n : ℕ) (s : List ℕ) → length s ≡ n * 616 → tableBytes (contactsIn n s) ≡ s
-again n s h = some-again n n s h (omega arith) ∙ take-all (n * 616) s (omega arith)
+again : (n : ℕ) (s : List ℕ) → length s ≡ n * slotSize → tableBytes (contactsIn n s) ≡ s
+again n s h = some-again n n s h (omega arith) ∙ take-all (n * slotSize) s (omega arith)
 
 -- ---- the table of whole contacts
 kept : (t : List Contact) (u : List ℕ) → AllWhole t → Same (tableBytes t) u → tableBytes (contactsIn (length t) u) ≡ u

@@ -8,25 +8,25 @@ use lib.ListN.{length, getD, set, take, drop, length-append, length-drop}
 use lib.Seq.{sets-eq, take-append-le, drop-append-le, drop-at, take-at, take-suc, take-length, drop-length, drop-drop, set-at, drop-cons, append-snoc, set-getD}
 use mathlib.Core.Logic.{inl, inr}
 use Rattle.octets.proofs.Bools.{either, cond-yes, cond-no, cond-ind}
-use Rattle.contacts.specs.Table.{slot, putSlot}
+use Rattle.contacts.specs.Table.{slotSize, slot, putSlot}
 use Rattle.contact_slots.specs.declared.Contact.{Contact}
 use Rattle.contact_slots.specs.Slots.{slotBytes, contactIn, tableBytes, contactsIn, enough, withTable, contactFrom}
 use Rattle.contact_slots.proofs.Laws.{enough-fits, enough-same}
 
 -- ---- slots
 -- a slot that ends within the first part
-pub slot-front : (a b : List ℕ) (i : ℕ) → i * 616 + 616 ≤ length a → slot (a ++ b) i ≡ slot a i
+pub slot-front : (a b : List ℕ) (i : ℕ) → i * slotSize + slotSize ≤ length a → slot (a ++ b) i ≡ slot a i
 unfolding slot
 slot-front a b i h =
-    ap (take (i * 616 + 616 - i * 616)) (drop-append-le (i * 616) a b (omega arith))
-    ∙ take-append-le (i * 616 + 616 - i * 616) (drop (i * 616) a) b (omega (arith, length-drop (i * 616) a))
+    ap (take (i * slotSize + slotSize - i * slotSize)) (drop-append-le (i * slotSize) a b (omega arith))
+    ∙ take-append-le (i * slotSize + slotSize - i * slotSize) (drop (i * slotSize) a) b (omega (arith, length-drop (i * slotSize) a))
 
 -- the slot that is the second part
-pub slot-next : (a b : List ℕ) (i : ℕ) → length a ≡ i * 616 → length b ≡ 616 → slot (a ++ b) i ≡ b
+pub slot-next : (a b : List ℕ) (i : ℕ) → length a ≡ i * slotSize → length b ≡ slotSize → slot (a ++ b) i ≡ b
 unfolding slot
 slot-next a b i h g =
-    let e : i * 616 + 616 - i * 616 ≡ 616 = omega arith in
-    rw (drop-at a b (i * 616) h, e) (ap (λ (l : List ℕ). take 616 l) (sym (append-nil b)) ∙ take-at b [] 616 g)
+    let e : i * slotSize + slotSize - i * slotSize ≡ slotSize = omega arith in
+    rw (drop-at a b (i * slotSize) h, e) (ap (λ (l : List ℕ). take slotSize l) (sym (append-nil b)) ∙ take-at b [] slotSize g)
 
 -- ---- lists of contacts
 pub table-append : (t u : List Contact) → tableBytes (t ++ u) ≡ tableBytes t ++ tableBytes u
@@ -44,7 +44,7 @@ length-contacts zero s = refl
 length-contacts (suc n) s = omega (arith, length-append (contactsIn n s) (contactIn (slot s n) ∷ []), length-contacts n s)
 
 -- contacts that stand in the first part
-pub contacts-front : (n : ℕ) (a b : List ℕ) → n * 616 ≤ length a → contactsIn n (a ++ b) ≡ contactsIn n a
+pub contacts-front : (n : ℕ) (a b : List ℕ) → n * slotSize ≤ length a → contactsIn n (a ++ b) ≡ contactsIn n a
 unfolding contactsIn
 contacts-front zero a b h = refl
 contacts-front (suc n) a b h =
@@ -52,7 +52,7 @@ contacts-front (suc n) a b h =
 
 -- ---- a room with some of the contacts: those up to i are laid out
 abbrev pub laidTo : ℕ → List Contact → List ℕ → List ℕ
-laidTo i t room = cond (enough (length t) room) (tableBytes (take i t) ++ drop (i * 616) room) room
+laidTo i t room = cond (enough (length t) room) (tableBytes (take i t) ++ drop (i * slotSize) room) room
 
 module _ (t : List Contact) (room : List ℕ) where
   pub laid-none : room ≡ laidTo 0 t room
@@ -61,34 +61,34 @@ module _ (t : List Contact) (room : List ℕ) where
 
   pub laid-all : laidTo (length t) t room ≡ withTable (length t) room (tableBytes t)
   unfolding withTable
-  laid-all = ap (λ (u : List Contact). cond (enough (length t) room) (tableBytes u ++ drop (length t * 616) room) room) (take-length t)
+  laid-all = ap (λ (u : List Contact). cond (enough (length t) room) (tableBytes u ++ drop (length t * slotSize) room) room) (take-length t)
 
   -- one more slot
-  module _ (i : ℕ) (d : Contact) (l : i < length t) (size : length (tableBytes (take i t)) ≡ i * 616) (whole : length (slotBytes (getD t i d)) ≡ 616) where
+  module _ (i : ℕ) (d : Contact) (l : i < length t) (size : length (tableBytes (take i t)) ≡ i * slotSize) (whole : length (slotBytes (getD t i d)) ≡ slotSize) where
     abbrev c : Contact
     c = getD t i d
 
     more : tableBytes (take (suc i) t) ≡ tableBytes (take i t) ++ slotBytes c
     more = ap tableBytes (take-suc t i d l) ∙ table-more (take i t) c
 
-    pub size-more : length (tableBytes (take (suc i) t)) ≡ suc i * 616
+    pub size-more : length (tableBytes (take (suc i) t)) ≡ suc i * slotSize
     size-more = omega (arith, ap (λ (s : List ℕ). length s) more, length-append (tableBytes (take i t)) (slotBytes c), size, whole)
 
     stored : enough (length t) room ≡ true
-        → putSlot (tableBytes (take i t) ++ drop (i * 616) room) i (slotBytes c) ≡ tableBytes (take (suc i) t) ++ drop (suc i * 616) room
+        → putSlot (tableBytes (take i t) ++ drop (i * slotSize) room) i (slotBytes c) ≡ tableBytes (take (suc i) t) ++ drop (suc i * slotSize) room
     unfolding putSlot
     stored h =
         let f : List ℕ = tableBytes (take i t) in
-        let b : List ℕ = drop (i * 616) room in
-        let fits : length t * 616 ≤ length room = enough-fits (length t) room h in
-        let far : length (slotBytes c) ≤ length b = omega (arith, length-drop (i * 616) room) in
-        let long : i * 616 + length (slotBytes c) ≤ length (f ++ b) = omega (arith, length-append f b) in
-        let step : i * 616 + length (slotBytes c) ≡ i * 616 + 616 = omega arith in
-        let next : i * 616 + 616 ≡ suc i * 616 = omega arith in
-        sets-eq (slotBytes c) (f ++ b) (i * 616) long
-        ∙ ap₂ (λ (x y : List ℕ). (x ++ slotBytes c) ++ y) (take-at f b (i * 616) size)
-        (ap (λ (k : ℕ). drop k (f ++ b)) step ∙ sym (drop-drop 616 (i * 616) (f ++ b)) ∙ ap (drop 616) (drop-at f b (i * 616) size) ∙ drop-drop 616 (i * 616) room ∙ ap (λ (k : ℕ). drop k room) next)
-        ∙ ap (λ (x : List ℕ). x ++ drop (suc i * 616) room) (sym more)
+        let b : List ℕ = drop (i * slotSize) room in
+        let fits : length t * slotSize ≤ length room = enough-fits (length t) room h in
+        let far : length (slotBytes c) ≤ length b = omega (arith, length-drop (i * slotSize) room) in
+        let long : i * slotSize + length (slotBytes c) ≤ length (f ++ b) = omega (arith, length-append f b) in
+        let step : i * slotSize + length (slotBytes c) ≡ i * slotSize + slotSize = omega arith in
+        let next : i * slotSize + slotSize ≡ suc i * slotSize = omega arith in
+        sets-eq (slotBytes c) (f ++ b) (i * slotSize) long
+        ∙ ap₂ (λ (x y : List ℕ). (x ++ slotBytes c) ++ y) (take-at f b (i * slotSize) size)
+        (ap (λ (k : ℕ). drop k (f ++ b)) step ∙ sym (drop-drop slotSize (i * slotSize) (f ++ b)) ∙ ap (drop slotSize) (drop-at f b (i * slotSize) size) ∙ drop-drop slotSize (i * slotSize) room ∙ ap (λ (k : ℕ). drop k room) next)
+        ∙ ap (λ (x : List ℕ). x ++ drop (suc i * slotSize) room) (sym more)
 
     pub laid-more : (cur next : List ℕ) → length cur ≡ length room → cur ≡ laidTo i t room → next ≡ cond (enough (length t) cur) (putSlot cur i (slotBytes c)) cur
         → next ≡ laidTo (suc i) t room

@@ -10,25 +10,25 @@ use Rattle.sightings.specs.Order.{withDoubt, contactBytes}
 use Rattle.flat.specs.Flat.{peerIn}
 use Rattle.refusal.specs.declared.Refusal.the-variants.{OutOfForm}
 use Rattle.peer.specs.declared.Peer.{Peer}
-use Rattle.contact_calls.specs.declared.SeenOutcome.{SeenOutcome}
-use Rattle.contact_calls.specs.declared.SeenOutcome.the-variants as seen
-use Rattle.contact_calls.specs.declared.SettleOutcome.{SettleOutcome}
-use Rattle.contact_calls.specs.declared.SettleOutcome.the-variants as settle
-use Rattle.contact_calls.specs.declared.RemoveOutcome.{RemoveOutcome}
-use Rattle.contact_calls.specs.declared.RemoveOutcome.the-variants as remove
-use Rattle.contact_calls.specs.declared.DoubtOutcome.{DoubtOutcome}
-use Rattle.contact_calls.specs.declared.DoubtOutcome.the-variants as doubt
+use Rattle.sightings.specs.declared.Sighting.{Sighting}
+use Rattle.sightings.specs.declared.Sighting.the-variants as seen
+use Rattle.sightings.specs.declared.Settled.{Settled}
+use Rattle.sightings.specs.declared.Settled.the-variants as settle
+use Rattle.sightings.specs.declared.Removed.{Removed}
+use Rattle.sightings.specs.declared.Removed.the-variants as remove
+use Rattle.sightings.specs.declared.Doubted.{Doubted}
+use Rattle.sightings.specs.declared.Doubted.the-variants as doubt
 use Rattle.host_calls.specs.Hosts.{seenOf, settleOf, removeOf, doubtOf}
 use Rattle.contact_slots.specs.declared.Contact.{Contact}
 
 -- ---- one contact
--- its rank in its bucket plus 1 is its slot's first byte, 0 where the slot is free; the second says whether it is doubtful
+-- its mark, its rank in its bucket plus 1, is its slot's first byte, 0 where the slot is free; the second says whether it is doubtful
 unfoldable pub slotBytes : Contact → List ℕ
-slotBytes c = withDoubt (c .doubt) (contactBytes (c .rank) (c .peer))
+slotBytes c = withDoubt (c .doubt) (contactBytes (c .mark) (c .peer))
 
 -- the contact in a slot's bytes; what lies past their end reads as zeros
 unfoldable pub contactIn : List ℕ → Contact
-contactIn s = record { peer = peerIn s; rank = getD s 0 0; doubt = getD s 1 0 }
+contactIn s = record { peer = peerIn s; mark = getD s 0 0; doubt = getD s 1 0 }
 
 -- ---- a list of contacts: the table's slots, one after another
 unfoldable pub tableBytes : List Contact → List ℕ
@@ -58,14 +58,14 @@ unfoldable pub contactFrom : ℕ → List ℕ → ℕ → Contact → Contact
 contactFrom n room i c = cond (enough n room) (contactIn (slot room i)) c
 
 -- ---- the calls on the n contacts in a room, which are host_calls' on their bytes: 0 where the room is too short for them
-unfoldable pub seenIn : Peer → List ℕ → ℕ → List ℕ → Bool → SeenOutcome
-seenIn me room n id client = cond (enough n room) (seenOf me (tableIn n room) id client) (seen.Refused OutOfForm)
+unfoldable pub seenIn : Peer → List ℕ → ℕ → List ℕ → Bool → List ℕ → Sighting
+seenIn me room n id client addresses = cond (enough n room) (seenOf me (tableIn n room) id client addresses) (seen.Refused OutOfForm)
 
-unfoldable pub settleIn : Peer → List ℕ → ℕ → List ℕ → List ℕ → Bool → Bool → SettleOutcome
-settleIn me room n head id client answered = cond (enough n room) (settleOf me (tableIn n room) head id client answered) (settle.Refused OutOfForm)
+unfoldable pub settleIn : Peer → List ℕ → ℕ → List ℕ → List ℕ → Bool → List ℕ → Bool → Settled
+settleIn me room n head id client addresses answered = cond (enough n room) (settleOf me (tableIn n room) head id client addresses answered) (settle.Refused OutOfForm)
 
-unfoldable pub removeIn : Peer → List ℕ → ℕ → List ℕ → RemoveOutcome
+unfoldable pub removeIn : Peer → List ℕ → ℕ → List ℕ → Removed
 removeIn me room n id = cond (enough n room) (removeOf me (tableIn n room) id) (remove.Refused OutOfForm)
 
-unfoldable pub doubtIn : Peer → List ℕ → ℕ → List ℕ → DoubtOutcome
+unfoldable pub doubtIn : Peer → List ℕ → ℕ → List ℕ → Doubted
 doubtIn me room n id = cond (enough n room) (doubtOf me (tableIn n room) id) (doubt.Refused OutOfForm)

@@ -1,9 +1,10 @@
 // A contact as a struct, in the slot of a table of flat bytes, and the contact calls on a table that lies at the start of the room that a host
 // lends. Every function takes any numbers and any bytes; what lies past their end reads as zeros, and what would be written there is left out.
-use contact_calls::DoubtOutcome;
-use contact_calls::RemoveOutcome;
-use contact_calls::SeenOutcome;
-use contact_calls::SettleOutcome;
+use contact_calls::Doubted;
+use contact_calls::Removed;
+use contact_calls::Settled;
+use contact_calls::Sighting;
+pub use contacts::SLOT;
 use peer::Peer;
 use refusal::Refusal;
 ghost use mathlib.Core.Path.{_≡_};
@@ -13,15 +14,12 @@ ghost use Rattle.contacts.specs.Table.{slotSize, slot, putSlot};
 ghost use Rattle.host_calls.specs.Hosts.{seenAfter, settleAfter, removeAfter, doubtAfter};
 ghost use Rattle.contact_slots.specs.Slots.{slotBytes, contactIn, enough, tableIn, withTable, contactFrom, seenIn, settleIn, removeIn, doubtIn};
 
-// A contact: rank 0 where its slot is free, else its rank in its bucket plus 1; doubt 1 where it is doubtful, else 0.
+// A contact: mark 0 where its slot is free, else its rank in its bucket plus 1; doubt 1 where it is doubtful, else 0.
 pub struct Contact {
     pub peer: Peer,
-    pub rank: u8,
+    pub mark: u8,
     pub doubt: u8,
 }
-
-// The bytes of a slot.
-pub const SLOT: usize = 616;
 
 // ---- one contact
 
@@ -41,9 +39,9 @@ pub fn contact_in(bytes: &[u8], i: usize) -> Contact
 {
     let s = contacts::slot_of(bytes, i);
     let peer = flat::peer_in(s);
-    let rank = byte(s, 0);
+    let mark = byte(s, 0);
     let doubt = byte(s, 1);
-    Contact { peer, rank, doubt }
+    Contact { peer, mark, doubt }
 }
 
 // Writes a contact as slot i.
@@ -60,7 +58,7 @@ pub fn put_contact(bytes: &mut [u8], i: usize, c: Contact)
     }
     let p = c.peer;
     flat::put_peer(&mut bytes[at..], p);
-    let marks = [c.rank, c.doubt];
+    let marks = [c.mark, c.doubt];
     octets::copy(bytes, at, &marks);
 }
 
@@ -94,21 +92,21 @@ pub fn pick(room: &[u8], n: usize, i: usize, c: Contact) -> Contact
 
 // ---- the calls on the n contacts in the room: refusal 0 where it is too short for them
 
-pub fn remove_in(me: Peer, room: &mut [u8], n: usize, id: &[u8]) -> RemoveOutcome
+pub fn remove_in(me: Peer, room: &mut [u8], n: usize, id: &[u8]) -> Removed
     ensures { λ r. ⌜ (r ≡ removeIn me (now (room .entry)) n (now (id .entry))) × (now (room .exit) ≡ withTable n (now (room .entry)) (removeAfter me (tableIn n (now (room .entry))) (now (id .entry)))) ⌝ }
 {
     if !has_slots(room, n) {
-        return RemoveOutcome::Refused(Refusal::OutOfForm);
+        return Removed::Refused(Refusal::OutOfForm);
     }
     let e = n * SLOT;
     host_calls::remove(me, &mut room[..e], id)
 }
 
-pub fn doubt_in(me: Peer, room: &mut [u8], n: usize, id: &[u8]) -> DoubtOutcome
+pub fn doubt_in(me: Peer, room: &mut [u8], n: usize, id: &[u8]) -> Doubted
     ensures { λ r. ⌜ (r ≡ doubtIn me (now (room .entry)) n (now (id .entry))) × (now (room .exit) ≡ withTable n (now (room .entry)) (doubtAfter me (tableIn n (now (room .entry))) (now (id .entry)))) ⌝ }
 {
     if !has_slots(room, n) {
-        return DoubtOutcome::Refused(Refusal::OutOfForm);
+        return Doubted::Refused(Refusal::OutOfForm);
     }
     let e = n * SLOT;
     host_calls::doubt(me, &mut room[..e], id)
@@ -121,11 +119,11 @@ pub fn seen_in(
     id: &[u8],
     client: bool,
     addresses: &[u8],
-) -> SeenOutcome
-    ensures { λ r. ⌜ (r ≡ seenIn me (now (room .entry)) n (now (id .entry)) client) × (now (room .exit) ≡ withTable n (now (room .entry)) (seenAfter me (tableIn n (now (room .entry))) (now (id .entry)) client (now (addresses .entry)))) ⌝ }
+) -> Sighting
+    ensures { λ r. ⌜ (r ≡ seenIn me (now (room .entry)) n (now (id .entry)) client (now (addresses .entry))) × (now (room .exit) ≡ withTable n (now (room .entry)) (seenAfter me (tableIn n (now (room .entry))) (now (id .entry)) client (now (addresses .entry)))) ⌝ }
 {
     if !has_slots(room, n) {
-        return SeenOutcome::Refused(Refusal::OutOfForm);
+        return Sighting::Refused(Refusal::OutOfForm);
     }
     let e = n * SLOT;
     host_calls::seen(me, &mut room[..e], id, client, addresses)
@@ -140,11 +138,11 @@ pub fn settle_in(
     client: bool,
     addresses: &[u8],
     answered: bool,
-) -> SettleOutcome
-    ensures { λ r. ⌜ (r ≡ settleIn me (now (room .entry)) n (now (head .entry)) (now (id .entry)) client answered) × (now (room .exit) ≡ withTable n (now (room .entry)) (settleAfter me (tableIn n (now (room .entry))) (now (head .entry)) (now (id .entry)) client (now (addresses .entry)) answered)) ⌝ }
+) -> Settled
+    ensures { λ r. ⌜ (r ≡ settleIn me (now (room .entry)) n (now (head .entry)) (now (id .entry)) client (now (addresses .entry)) answered) × (now (room .exit) ≡ withTable n (now (room .entry)) (settleAfter me (tableIn n (now (room .entry))) (now (head .entry)) (now (id .entry)) client (now (addresses .entry)) answered)) ⌝ }
 {
     if !has_slots(room, n) {
-        return SettleOutcome::Refused(Refusal::OutOfForm);
+        return Settled::Refused(Refusal::OutOfForm);
     }
     let e = n * SLOT;
     host_calls::settle(me, &mut room[..e], head, id, client, addresses, answered)

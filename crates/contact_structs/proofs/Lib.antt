@@ -1,3 +1,4 @@
 pub mod Again
 pub mod Calls
 pub mod Packing
+pub mod Over

@@ -42,6 +42,7 @@ use Rattle.contact_structs.proofs.pack as pk
 use Rattle.contact_structs.proofs.pack.Symbol.{name as #pk}
 use Rattle.contact_structs.proofs.unpack as un
 use Rattle.contact_structs.proofs.unpack.Symbol.{name as #un}
+use Rattle.contacts.specs.Table.{slotSize}
 
 -- the two contracts
 module _ {M : Type 1} (𝓤 : URA M) (H : Heap 𝓤) (A : Atoms 𝓤) (mem : Memory → SProp 𝓤) (run : Routine → Fun 𝓤) where
@@ -63,7 +64,7 @@ Bytes ℓ κ γ b o m l = MutSlice ℓ κ u8 .own (slice-at b o γ l) (sliceVal 
 
 -- what `pack` says of the room's last bytes
 abbrev pub Packed : List Contact → List ℕ → List ℕ → Type 0
-Packed ys room z = (z ≡ roomAfter ys room (tableBytes ys)) × (length (tableBytes ys) ≡ length ys * 616)
+Packed ys room z = (z ≡ roomAfter ys room (tableBytes ys)) × (length (tableBytes ys) ≡ length ys * slotSize)
 
 -- what each asks, of contacts and a room that are lent for ν and ν′
 module _ {M : Type 1} (𝓤 : URA M) (H : Heap 𝓤) (A : Atoms 𝓤) (W : Given 𝓤 H A) (mem : Memory → SProp 𝓤) (run : Routine → Fun 𝓤) (b o b′ o′ : ℕ) (ys : List Contact) (room : List ℕ) where

@@ -1,9 +1,9 @@
 // Seen, settle, remove and doubt on contacts that sit in a list of structs lent by the host, above the core on flat bytes. The host lends room for the
 // contacts' bytes too: 616 for each, else refusal 0. Every function takes any contacts and any bytes.
-use contact_calls::DoubtOutcome;
-use contact_calls::RemoveOutcome;
-use contact_calls::SeenOutcome;
-use contact_calls::SettleOutcome;
+use contact_calls::Doubted;
+use contact_calls::Removed;
+use contact_calls::Settled;
+use contact_calls::Sighting;
 use contact_slots::Contact;
 use peer::Peer;
 ghost use Prim.Native.Nat.{_*_};
@@ -47,8 +47,8 @@ pub fn seen(
     id: &[u8],
     client: bool,
     addresses: &[u8],
-) -> SeenOutcome
-    ensures { λ r. ⌜ (r ≡ seenOn me (now (t .entry)) (now (room .entry)) (now (id .entry)) client) × (now (t .exit) ≡ contactsAfter (now (t .entry)) (now (room .entry)) (seenAfter me (tableBytes (now (t .entry))) (now (id .entry)) client (now (addresses .entry)))) × (now (room .exit) ≡ roomAfter (now (t .entry)) (now (room .entry)) (seenAfter me (tableBytes (now (t .entry))) (now (id .entry)) client (now (addresses .entry)))) ⌝ }
+) -> Sighting
+    ensures { λ r. ⌜ (r ≡ seenOn me (now (t .entry)) (now (room .entry)) (now (id .entry)) client (now (addresses .entry))) × (now (t .exit) ≡ contactsAfter (now (t .entry)) (now (room .entry)) (seenAfter me (tableBytes (now (t .entry))) (now (id .entry)) client (now (addresses .entry)))) × (now (room .exit) ≡ roomAfter (now (t .entry)) (now (room .entry)) (seenAfter me (tableBytes (now (t .entry))) (now (id .entry)) client (now (addresses .entry)))) ⌝ }
 {
     pack(t, room);
     let n = t.len();
@@ -67,8 +67,8 @@ pub fn settle(
     client: bool,
     addresses: &[u8],
     answered: bool,
-) -> SettleOutcome
-    ensures { λ r. ⌜ (r ≡ settleOn me (now (t .entry)) (now (room .entry)) (now (head .entry)) (now (id .entry)) client answered) × (now (t .exit) ≡ contactsAfter (now (t .entry)) (now (room .entry)) (settleAfter me (tableBytes (now (t .entry))) (now (head .entry)) (now (id .entry)) client (now (addresses .entry)) answered)) × (now (room .exit) ≡ roomAfter (now (t .entry)) (now (room .entry)) (settleAfter me (tableBytes (now (t .entry))) (now (head .entry)) (now (id .entry)) client (now (addresses .entry)) answered)) ⌝ }
+) -> Settled
+    ensures { λ r. ⌜ (r ≡ settleOn me (now (t .entry)) (now (room .entry)) (now (head .entry)) (now (id .entry)) client (now (addresses .entry)) answered) × (now (t .exit) ≡ contactsAfter (now (t .entry)) (now (room .entry)) (settleAfter me (tableBytes (now (t .entry))) (now (head .entry)) (now (id .entry)) client (now (addresses .entry)) answered)) × (now (room .exit) ≡ roomAfter (now (t .entry)) (now (room .entry)) (settleAfter me (tableBytes (now (t .entry))) (now (head .entry)) (now (id .entry)) client (now (addresses .entry)) answered)) ⌝ }
 {
     pack(t, room);
     let n = t.len();
@@ -78,7 +78,7 @@ pub fn settle(
 }
 
 // Takes a contact out.
-pub fn remove(me: Peer, t: &mut [Contact], room: &mut [u8], id: &[u8]) -> RemoveOutcome
+pub fn remove(me: Peer, t: &mut [Contact], room: &mut [u8], id: &[u8]) -> Removed
     ensures { λ r. ⌜ (r ≡ removeOn me (now (t .entry)) (now (room .entry)) (now (id .entry))) × (now (t .exit) ≡ contactsAfter (now (t .entry)) (now (room .entry)) (removeAfter me (tableBytes (now (t .entry))) (now (id .entry)))) × (now (room .exit) ≡ roomAfter (now (t .entry)) (now (room .entry)) (removeAfter me (tableBytes (now (t .entry))) (now (id .entry)))) ⌝ }
 {
     pack(t, room);
@@ -89,7 +89,7 @@ pub fn remove(me: Peer, t: &mut [Contact], room: &mut [u8], id: &[u8]) -> Remove
 }
 
 // Marks a contact as doubtful.
-pub fn doubt(me: Peer, t: &mut [Contact], room: &mut [u8], id: &[u8]) -> DoubtOutcome
+pub fn doubt(me: Peer, t: &mut [Contact], room: &mut [u8], id: &[u8]) -> Doubted
     ensures { λ r. ⌜ (r ≡ doubtOn me (now (t .entry)) (now (room .entry)) (now (id .entry))) × (now (t .exit) ≡ contactsAfter (now (t .entry)) (now (room .entry)) (doubtAfter me (tableBytes (now (t .entry))) (now (id .entry)))) × (now (room .exit) ≡ roomAfter (now (t .entry)) (now (room .entry)) (doubtAfter me (tableBytes (now (t .entry))) (now (id .entry)))) ⌝ }
 {
     pack(t, room);

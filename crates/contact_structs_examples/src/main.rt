@@ -1,5 +1,5 @@
 // A box with room for two contacts, held as structs: two peers of one bucket are seen, then the first again, and at last the second with too
-// little room lent. It writes both contacts after each call: the id's first byte and the rank plus 1, or - for a free slot.
+// little room lent. It writes both contacts after each call: the id's first byte and the mark, or - for a free slot.
 use contact_slots::Contact;
 use peer::Peer;
 ghost use mathlib.Core.Path.{_≡_};
@@ -32,8 +32,8 @@ fn wide(x: u8) -> u64 {
 }
 
 fn tell(c: Contact) {
-    let rank = c.rank;
-    if rank == 0 {
+    let mark = c.mark;
+    if mark == 0 {
         say(b"-");
         return;
     }
@@ -41,7 +41,7 @@ fn tell(c: Contact) {
     let id = p.id;
     let first = [id[0]];
     say(&first);
-    io::print_decimal(libc::STDOUT_FILENO, wide(rank));
+    io::print_decimal(libc::STDOUT_FILENO, wide(mark));
 }
 
 fn tell_both(pair: [Contact; 2]) {

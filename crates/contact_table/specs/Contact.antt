@@ -3,16 +3,17 @@
 use Prim.Native.Nat.{ℕ, zero, suc, min}
 use mathlib.Core.List.{List, [], _∷_, _++_}
 use lib.ListN.{take}
-use Rattle.contact_table.specs.Table.{longestId, longestAddress, addressRooms, id, address, addressCount}
+use Rattle.limits.specs.Limits.{mostId, mostAddress, mostAddresses}
+use Rattle.contact_table.specs.Table.{id, address, addressCount}
 
 unfoldable pub entryId : List ℕ → List ℕ
-entryId s = take longestId (id s)
+entryId s = take mostId (id s)
 
 unfoldable pub entryAddress : List ℕ → ℕ → List ℕ
-entryAddress s k = take longestAddress (address s k)
+entryAddress s k = take mostAddress (address s k)
 
 unfoldable pub entryCount : List ℕ → ℕ
-entryCount s = min (addressCount s) addressRooms
+entryCount s = min (addressCount s) mostAddresses
 
 -- the first n addresses, and all
 unfoldable pub entryAddressesTo : List ℕ → ℕ → List (List ℕ)

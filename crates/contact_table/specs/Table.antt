@@ -16,30 +16,37 @@ use lib.ListN.{length, getD}
 use lib.Seq.{sets}
 use lib.Dec.{eqb}
 use Rattle.octets.specs.Octets.{part}
+use Rattle.limits.specs.Limits.{mostId, mostAddress, mostAddresses, addressesSize, placeSize, mostContacts}
+
+-- ---- where the parts of a slot stand
+abbrev pub doubtfulAt : ℕ
+doubtfulAt = 1
+
+abbrev pub idSizeAt : ℕ
+idSizeAt = 2
+
+abbrev pub countAt : ℕ
+countAt = 3
+
+abbrev pub sizesAt : ℕ
+sizesAt = 4
+
+abbrev pub placeAt : ℕ
+placeAt = sizesAt + mostAddresses
+
+abbrev pub idAt : ℕ
+idAt = placeAt + placeSize
+
+abbrev pub addressesAt : ℕ
+addressesAt = idAt + mostId
 
 abbrev pub slotSize : ℕ
-slotSize = 616
+slotSize = addressesAt + addressesSize
 
-abbrev pub mostSlots : ℕ
-mostSlots = 5120
-
--- "at most 20 to a bucket"
-abbrev pub bucketSize : ℕ
-bucketSize = 20
-
--- "an id of 1 to 64 bytes and up to four addresses of 1 to 128"
-abbrev pub longestId : ℕ
-longestId = 64
-
-abbrev pub longestAddress : ℕ
-longestAddress = 128
-
-abbrev pub addressRooms : ℕ
-addressRooms = 4
-
+-- ---- the slots of a table
 -- "0 to 5,120 slots ..; slots past that, or a part of one, aren't touched"
 unfoldable pub slotsOf : List ℕ → ℕ
-slotsOf t = min (length t / slotSize) mostSlots
+slotsOf t = min (length t / slotSize) mostContacts
 
 unfoldable pub slot : List ℕ → ℕ → List ℕ
 slot t i = part t (i * slotSize) (i * slotSize + slotSize)
@@ -57,28 +64,28 @@ used s = not (eqb (mark s) 0)
 
 -- "The host can mark a held contact as doubtful"
 unfoldable pub doubt : List ℕ → ℕ
-doubt s = getD s 1 0
+doubt s = getD s doubtfulAt 0
 
 unfoldable pub doubtful : List ℕ → Bool
 doubtful s = not (eqb (doubt s) 0)
 
 unfoldable pub idSize : List ℕ → ℕ
-idSize s = getD s 2 0
+idSize s = getD s idSizeAt 0
 
 unfoldable pub addressCount : List ℕ → ℕ
-addressCount s = getD s 3 0
+addressCount s = getD s countAt 0
 
 unfoldable pub addressSize : List ℕ → ℕ → ℕ
-addressSize s k = getD s (4 + k) 0
+addressSize s k = getD s (sizesAt + k) 0
 
 unfoldable pub place : List ℕ → List ℕ
-place s = part s 8 40
+place s = part s placeAt idAt
 
 unfoldable pub id : List ℕ → List ℕ
-id s = part s 40 (40 + idSize s)
+id s = part s idAt (idAt + idSize s)
 
 unfoldable pub address : List ℕ → ℕ → List ℕ
-address s k = part s (104 + k * 128) (104 + k * 128 + addressSize s k)
+address s k = part s (addressesAt + k * mostAddress) (addressesAt + k * mostAddress + addressSize s k)
 
 -- the first n addresses
 unfoldable pub addressesTo : List ℕ → ℕ → List (List ℕ)

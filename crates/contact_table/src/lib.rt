@@ -5,38 +5,34 @@ ghost use lib.ListN.{length, getD, take, drop};
 ghost use Rattle.contact_table.specs.Table.{slotSize, slotsOf, slot, mark, doubtful, place};
 ghost use Rattle.contact_table.specs.Contact.{entryId, entryAddress, entryCount};
 
-// Bytes of a slot, and the most slots of a table. specs/Table.antt has what stands where.
-pub const SLOT: usize = 616;
-
-pub const MOST: usize = 5120;
-
-// Where the mark of doubt stands in a slot, where its place, id and addresses begin, and the bytes of a place.
+// Where the parts of a slot stand: the mark of doubt, the length of the id, the number of addresses and their lengths, place, id and addresses. specs/Table.antt
+// has the same.
 pub const DOUBT_AT: usize = 1;
 
-pub const PLACE_AT: usize = 8;
+pub const ID_SIZE_AT: usize = 2;
 
-pub const ID_AT: usize = 40;
+pub const COUNT_AT: usize = 3;
 
-pub const ADDRESSES_AT: usize = 104;
+pub const SIZES_AT: usize = 4;
 
-pub const PLACE: usize = 32;
+pub const PLACE_AT: usize = SIZES_AT + limits::MOST_ADDRESSES;
 
-// The most bytes of an id and of an address, and the most addresses of a contact.
-pub const ID: usize = 64;
+pub const ID_AT: usize = PLACE_AT + limits::PLACE;
 
-pub const ADDRESS: usize = 128;
+pub const ADDRESSES_AT: usize = ID_AT + limits::MOST_ID;
 
-pub const ADDRESSES: usize = 4;
+// The bytes of a slot.
+pub const SLOT: usize = ADDRESSES_AT + limits::ADDRESSES_SIZE;
 
 // How many whole slots a table has, at most 5,120.
 pub fn slots(table: &[u8]) -> usize
     ensures { λ r. ⌜ r ≡ slotsOf (now (table .entry)) ⌝ }
 {
     let n = table.len() / SLOT;
-    if n < MOST {
+    if n < limits::MOST_CONTACTS {
         return n;
     }
-    MOST
+    limits::MOST_CONTACTS
 }
 
 // A slot that stands in the table whole.
@@ -118,7 +114,7 @@ pub fn doubtful(table: &[u8], i: usize) -> bool
 pub fn place_of(table: &[u8], i: usize) -> &[u8]
     ensures { λ r. ⌜ now r ≡ place (slot (now (table .entry)) i) ⌝ }
 {
-    up_to(slot_of(table, i), PLACE_AT, PLACE)
+    up_to(slot_of(table, i), PLACE_AT, limits::PLACE)
 }
 
 // The id of slot i, its number of addresses, and its address k, each cut at its limit.
@@ -126,26 +122,26 @@ pub fn id_of(table: &[u8], i: usize) -> &[u8]
     ensures { λ r. ⌜ now r ≡ entryId (slot (now (table .entry)) i) ⌝ }
 {
     let s = slot_of(table, i);
-    up_to(s, ID_AT, at_most(ID, byte(s, 2)))
+    up_to(s, ID_AT, at_most(limits::MOST_ID, byte(s, ID_SIZE_AT)))
 }
 
 pub fn address_count(table: &[u8], i: usize) -> usize
     ensures { λ r. ⌜ r ≡ entryCount (slot (now (table .entry)) i) ⌝ }
 {
-    at_most(ADDRESSES, byte(slot_of(table, i), 3))
+    at_most(limits::MOST_ADDRESSES, byte(slot_of(table, i), COUNT_AT))
 }
 
 pub fn address_of(table: &[u8], i: usize, k: usize) -> &[u8]
     ensures { λ r. ⌜ now r ≡ entryAddress (slot (now (table .entry)) i) k ⌝ }
 {
     let s = slot_of(table, i);
-    if ADDRESSES <= k {
+    if limits::MOST_ADDRESSES <= k {
         let len = s.len();
         return &s[len..];
     }
     up_to(
         s,
-        ADDRESSES_AT + k * ADDRESS,
-        at_most(ADDRESS, byte(s, 4 + k)),
+        ADDRESSES_AT + k * limits::MOST_ADDRESS,
+        at_most(limits::MOST_ADDRESS, byte(s, SIZES_AT + k)),
     )
 }

@@ -6,10 +6,11 @@ use mathlib.Core.List.{List, []}
 use native.Mathlib.Omega.{arith}
 use lib.ListN.{length, take, length-take}
 use Rattle.octets.proofs.Bools.{cond-ind}
+use Rattle.limits.specs.Limits.{mostNear}
 use Rattle.place.specs.Place.{isPlace}
 use Rattle.contact_form.proofs.FormFacts.{form-elim}
 use Rattle.contacts.specs.Table.{slotsOf, slot}
-use Rattle.contacts.specs.Near.{nearestCount, sorted, nearestSlots, nearestOf}
+use Rattle.contacts.specs.Near.{sorted, nearestSlots, nearestOf}
 use Rattle.contacts.specs.Claims.{Claims}
 use Rattle.contacts.proofs.Sorting.{take-filled}
 use Rattle.contacts.proofs.Shown.{shown-yes}
@@ -18,8 +19,8 @@ use Rattle.contacts.proofs.TwentyNearest.{nearest-are, nearest-strict, 
 at-most-twenty : (t x : List ℕ) → length (nearestSlots t x) ≤ 20
 unfolding nearestSlots
 at-most-twenty t x =
-    cond-ind (λ (l : List ℕ). length l ≤ 20) (isPlace x) (take nearestCount (sorted t x (slotsOf t))) []
-    (λ _. omega (arith, length-take nearestCount (sorted t x (slotsOf t)))) (λ _. omega arith)
+    cond-ind (λ (l : List ℕ). length l ≤ 20) (isPlace x) (take mostNear (sorted t x (slotsOf t))) []
+    (λ _. omega (arith, length-take mostNear (sorted t x (slotsOf t)))) (λ _. omega arith)
 
 as-told : (t x : List ℕ) → take (nearestOf t x .n) (nearestOf t x .at) ≡ nearestSlots t x
 unfolding nearestOf

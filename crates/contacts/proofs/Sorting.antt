@@ -8,13 +8,14 @@ use native.Mathlib.Nat.{le-of-lt, le-trans}
 use native.Mathlib.Omega.{arith}
 use borrow.Author.Tests.{ltb-true, ltb-false, le-ltb, lt-ltb, eq-eqb, ne-eqb}
 use Rattle.octets.proofs.Bools.{cond-yes, cond-no}
+use Rattle.limits.specs.Limits.{mostNear}
 use Rattle.place.specs.Place.{isPlace}
 use Rattle.contacts.specs.declared.Closest.{Closest}
 use lib.Dec.{ltb}
 use lib.ListN.{length, getD, take, drop, replicate, length-take, length-append, length-replicate, List·getD-append}
 use lib.Seq.{take-take, take-append-seam, take-at, length-take-le, getD-take}
 use Rattle.contacts.specs.Table.{slotsOf, slot, place}
-use Rattle.contacts.specs.Near.{nearestCount, far, shown, insert, sortOnto, shownBelow, sorted, filled, nearestSlots, nearestOf}
+use Rattle.contacts.specs.Near.{far, shown, insert, sortOnto, shownBelow, sorted, filled, nearestSlots, nearestOf}
 use Rattle.contacts.specs.Inner.{kept, Held}
 
 module _ (d : ℕ → ℕ) (k : ℕ) where
@@ -303,11 +304,11 @@ module _ {t x at : List ℕ} {n k : ℕ} (h : Held t x at n k) where
 module _ (t x : List ℕ) where
   pub nearest-kept : length x ≡ 32 → nearestSlots t x ≡ kept t x (slotsOf t)
   unfolding nearestSlots isPlace kept
-  nearest-kept h = cond-yes (isPlace x) (take nearestCount (sorted t x (slotsOf t))) [] (eq-eqb (length x) 32 h)
+  nearest-kept h = cond-yes (isPlace x) (take mostNear (sorted t x (slotsOf t))) [] (eq-eqb (length x) 32 h)
 
   pub nearest-none : (length x ≡ 32 → ⊥) → nearestSlots t x ≡ []
   unfolding nearestSlots isPlace
-  nearest-none h = cond-no (isPlace x) (take nearestCount (sorted t x (slotsOf t))) [] (ne-eqb (length x) 32 h)
+  nearest-none h = cond-no (isPlace x) (take mostNear (sorted t x (slotsOf t))) [] (ne-eqb (length x) 32 h)
 
   pub nearest-as : (l at : List ℕ) (n : ℕ) → nearestSlots t x ≡ l → at ≡ filled l → n ≡ length l → _≡_ {A = Closest} (record { at = at; n = n }) (nearestOf t x)
   unfolding nearestOf

@@ -13,10 +13,11 @@ use borrow.Author.Tests.{ltb-true, ltb-false}
 use Rattle.octets.specs.Octets.{Bytes}
 use Rattle.octets.specs.Search.{count}
 use Rattle.octets.proofs.Bools.{either, not-both, cond-ind}
+use Rattle.limits.specs.Limits.{mostNear}
 use Rattle.place.specs.Place.{isPlace, distance}
 use Rattle.place.proofs.Distance.{distance-self, distance-zero, distance-inj}
 use Rattle.contacts.specs.Table.{slotsOf, slot, used, doubtful, place}
-use Rattle.contacts.specs.Near.{nearestCount, far, shown, insert, sortOnto, shownBelow, sorted, nearestSlots}
+use Rattle.contacts.specs.Near.{far, shown, insert, sortOnto, shownBelow, sorted, nearestSlots}
 use Rattle.contacts.specs.Inner.{kept}
 use Rattle.contact_table.proofs.Cuts.{slot-whole, place-size, bytes-place}
 use Rattle.contact_form.specs.Claims.{InForm}
@@ -113,40 +114,40 @@ module _ (t x : List ℕ) where
   abbrev Whole : List ℕ
   Whole = sorted t x (slotsOf t)
 
-  first-lt : (i : ℕ) → i < length (take nearestCount Whole) → (i < nearestCount) × (i < length Whole)
-  first-lt i l = (omega (arith, length-take nearestCount Whole), omega (arith, length-take nearestCount Whole))
+  first-lt : (i : ℕ) → i < length (take mostNear Whole) → (i < mostNear) × (i < length Whole)
+  first-lt i l = (omega (arith, length-take mostNear Whole), omega (arith, length-take mostNear Whole))
 
-  first-at : (i : ℕ) → i < length (take nearestCount Whole) → getD (take nearestCount Whole) i 0 ≡ getD Whole i 0
-  first-at i l = getD-take nearestCount Whole i 0 (first-lt i l .0)
+  first-at : (i : ℕ) → i < length (take mostNear Whole) → getD (take mostNear Whole) i 0 ≡ getD Whole i 0
+  first-at i l = getD-take mostNear Whole i 0 (first-lt i l .0)
 
-  left-out : (k : ℕ) → k < slotsOf t → shown (slot t k) ≡ true → ((i : ℕ) → i < length (take nearestCount Whole) → getD (take nearestCount Whole) i 0 ≡ k → ⊥)
-      → (i : ℕ) → i < length (take nearestCount Whole) → far t x (getD (take nearestCount Whole) i 0) ≤ far t x k
+  left-out : (k : ℕ) → k < slotsOf t → shown (slot t k) ≡ true → ((i : ℕ) → i < length (take mostNear Whole) → getD (take mostNear Whole) i 0 ≡ k → ⊥)
+      → (i : ℕ) → i < length (take mostNear Whole) → far t x (getD (take mostNear Whole) i 0) ≤ far t x k
   left-out k l u out i li =
       let r = in-at (sorted-all (slotsOf t) k l u) in
-      ⊎-elim (λ h. absurd (out (r .0) (inside (r .0) (ltb-true (r .0) nearestCount h) (r .1)) (first-at (r .0) (inside (r .0) (ltb-true (r .0) nearestCount h) (r .1)) ∙ r .2)))
-      (λ h. beyond (r .0) (ltb-false (r .0) nearestCount h) (r .1) (r .2)) (either (ltb (r .0) nearestCount))
+      ⊎-elim (λ h. absurd (out (r .0) (inside (r .0) (ltb-true (r .0) mostNear h) (r .1)) (first-at (r .0) (inside (r .0) (ltb-true (r .0) mostNear h) (r .1)) ∙ r .2)))
+      (λ h. beyond (r .0) (ltb-false (r .0) mostNear h) (r .1) (r .2)) (either (ltb (r .0) mostNear))
     where
-      inside : (j : ℕ) → j < nearestCount → j < length Whole → j < length (take nearestCount Whole)
-      inside j a b = omega (arith, length-take nearestCount Whole)
+      inside : (j : ℕ) → j < mostNear → j < length Whole → j < length (take mostNear Whole)
+      inside j a b = omega (arith, length-take mostNear Whole)
 
-      beyond : (j : ℕ) → nearestCount ≤ j → j < length Whole → getD Whole j 0 ≡ k → far t x (getD (take nearestCount Whole) i 0) ≤ far t x k
+      beyond : (j : ℕ) → mostNear ≤ j → j < length Whole → getD Whole j 0 ≡ k → far t x (getD (take mostNear Whole) i 0) ≤ far t x k
       beyond j a b e =
           subst (λ (z : ℕ). far t x z ≤ far t x k) (sym (first-at i li))
           (subst (λ (z : ℕ). far t x (getD Whole i 0) ≤ far t x z) e (asc-at (sorted-asc t x (slotsOf t)) i j (omega (arith, first-lt i li .0)) b))
 
-  first-twenty : AreNearest t x (take nearestCount Whole)
+  first-twenty : AreNearest t x (take mostNear Whole)
   first-twenty = record {
-    held = λ i l. all-at (all-take nearestCount (sorted-held (slotsOf t))) i l;
-    once = once-at (once-take nearestCount (sorted-once (slotsOf t)));
+    held = λ i l. all-at (all-take mostNear (sorted-held (slotsOf t))) i l;
+    once = once-at (once-take mostNear (sorted-once (slotsOf t)));
     order = λ i j h l. asc-first i j h l;
     nearer = left-out;
-    size = length-take nearestCount Whole ∙ ap (min nearestCount) (length-sorted (slotsOf t));
+    size = length-take mostNear Whole ∙ ap (min mostNear) (length-sorted (slotsOf t));
   }
     where
-      asc-first : (i j : ℕ) → i ≤ j → j < length (take nearestCount Whole) → far t x (getD (take nearestCount Whole) i 0) ≤ far t x (getD (take nearestCount Whole) j 0)
+      asc-first : (i j : ℕ) → i ≤ j → j < length (take mostNear Whole) → far t x (getD (take mostNear Whole) i 0) ≤ far t x (getD (take mostNear Whole) j 0)
       asc-first i j h l =
-          let li : i < length (take nearestCount Whole) = omega arith in
-          subst (λ (z : ℕ). far t x z ≤ far t x (getD (take nearestCount Whole) j 0)) (sym (first-at i li))
+          let li : i < length (take mostNear Whole) = omega arith in
+          subst (λ (z : ℕ). far t x z ≤ far t x (getD (take mostNear Whole) j 0)) (sym (first-at i li))
           (subst (λ (z : ℕ). far t x (getD Whole i 0) ≤ far t x z) (sym (first-at j l)) (asc-at (sorted-asc t x (slotsOf t)) i j h (first-lt j l .1)))
 
 -- the answer to a place is the list of the twenty nearest
@@ -159,8 +160,8 @@ pub nearest-shown : (t x : List ℕ) (k : ℕ) → k < length (nearestSlots t x)
 unfolding nearestSlots
 nearest-shown t x = each (isPlace x)
   where
-    each : (c : Bool) (k : ℕ) → k < length (cond c (take nearestCount (Whole t x)) [])
-        → (getD (cond c (take nearestCount (Whole t x)) []) k 0 < slotsOf t) × (shown (slot t (getD (cond c (take nearestCount (Whole t x)) []) k 0)) ≡ true)
+    each : (c : Bool) (k : ℕ) → k < length (cond c (take mostNear (Whole t x)) [])
+        → (getD (cond c (take mostNear (Whole t x)) []) k 0 < slotsOf t) × (shown (slot t (getD (cond c (take mostNear (Whole t x)) []) k 0)) ≡ true)
     each true k l = first-twenty t x .held k l
     each false k l = absurd (not-suc-le-zero l)
 
@@ -229,5 +230,5 @@ module _ (t o : List ℕ) (i : ℕ) (ht : Bytes t) (f : InForm t o) (l : i < slo
   own-first =
       let r = in-at (sorted-all t x (slotsOf t) i l u) in
       let some : 0 < length (Whole t x) = omega (arith, r .1) in
-      let one : 0 < length (take nearestCount (Whole t x)) = omega (arith, some, length-take nearestCount (Whole t x)) in
+      let one : 0 < length (take mostNear (Whole t x)) = omega (arith, some, length-take mostNear (Whole t x)) in
       rw (nearest-kept t x (long i l)) (one, first-at t x 0 one ∙ heads some (r .0) (r .1) (r .2))

@@ -6,9 +6,10 @@ use mathlib.Core.List.{List}
 use lib.ListN.{length, getD, take}
 use Rattle.octets.specs.Octets.{Bytes}
 use Rattle.octets.specs.Search.{count}
+use Rattle.limits.specs.Limits.{mostNear}
 use Rattle.contacts.specs.Table.{slotsOf, slot, used, doubtful, place}
 use Rattle.contacts.specs.Form.{inForm}
-use Rattle.contacts.specs.Near.{nearestCount, far, shown, nearestSlots, nearestOf}
+use Rattle.contacts.specs.Near.{far, shown, nearestSlots, nearestOf}
 
 -- l is the list of the twenty slots of the table t, of contacts that aren't doubtful, that are nearest to x
 pub record AreNearest (t x l : List ℕ) : Type 0 where
@@ -22,7 +23,7 @@ pub record AreNearest (t x l : List ℕ) : Type 0 where
   pub nearer : (k : ℕ) → k < slotsOf t → shown (slot t k) ≡ true → ((i : ℕ) → i < length l → getD l i 0 ≡ k → ⊥)
       → (i : ℕ) → i < length l → far t x (getD l i 0) ≤ far t x k
   -- twenty, or all
-  pub size : length l ≡ min nearestCount (count (slotsOf t) (λ i. shown (slot t i)))
+  pub size : length l ≡ min mostNear (count (slotsOf t) (λ i. shown (slot t i)))
 
 -- slot i is among those that the table t gives as nearest to x
 abbrev pub Gives : List ℕ → List ℕ → ℕ → Type 0

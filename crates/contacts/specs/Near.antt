@@ -5,13 +5,10 @@ use mathlib.Core.Bool.{Bool, not, _&&_, cond}
 use mathlib.Core.List.{List, [], _∷_, _++_}
 use lib.Dec.{ltb}
 use lib.ListN.{length, take, replicate}
+use Rattle.limits.specs.Limits.{mostNear}
 use Rattle.place.specs.Place.{isPlace, distance}
 use Rattle.contacts.specs.declared.Closest.{Closest}
 use Rattle.contacts.specs.Table.{slotsOf, slot, used, doubtful, place}
-
--- "the 20 nearest"
-abbrev pub nearestCount : ℕ
-nearestCount = 20
 
 -- how far slot i of the table t is from the place x
 unfoldable pub far : List ℕ → List ℕ → ℕ → ℕ
@@ -42,11 +39,11 @@ sorted t x k = sortOnto (far t x) [] (shownBelow t k)
 
 -- the first twenty of all that are shown, nearest to x first; all where there are fewer, and none where x isn't a place
 unfoldable pub nearestSlots : List ℕ → List ℕ → List ℕ
-nearestSlots t x = cond (isPlace x) (take nearestCount (sorted t x (slotsOf t))) []
+nearestSlots t x = cond (isPlace x) (take mostNear (sorted t x (slotsOf t))) []
 
 -- as an array of twenty, with 0 where there is none
 unfoldable pub filled : List ℕ → List ℕ
-filled l = take nearestCount (l ++ replicate nearestCount 0)
+filled l = take mostNear (l ++ replicate mostNear 0)
 
 unfoldable pub nearestOf : List ℕ → List ℕ → Closest
 nearestOf t x = record { at = filled (nearestSlots t x); n = length (nearestSlots t x) }

@@ -1,7 +1,5 @@
 // The contact table on flat bytes, read: the twenty nearest; its form and the parts of a contact are passed on. Every public function takes any bytes.
 pub use contact_form::in_form;
-pub use contact_table::MOST;
-use contact_table::PLACE;
 use contact_table::PLACE_AT;
 pub use contact_table::SLOT;
 pub use contact_table::address_count;
@@ -18,22 +16,20 @@ ghost use mathlib.Core.List.{List, _∷_, _++_};
 ghost use Prim.Native.Nat.{_+_, _*_, _≤_};
 ghost use lib.Dec.{ltb};
 ghost use lib.ListN.{length, take, drop};
+ghost use Rattle.limits.specs.Limits.{mostNear};
 ghost use Rattle.contacts.specs.Table.{slotSize, slot, place};
-ghost use Rattle.contacts.specs.Near.{nearestCount, far, shown, insert, filled, nearestOf};
+ghost use Rattle.contacts.specs.Near.{far, shown, insert, filled, nearestOf};
 ghost use Rattle.contacts.specs.Inner.{kept, Held};
 
-// How many contacts an answer carries.
-pub const NEAREST: usize = 20;
-
-// The place of the farthest among them.
-const LAST: usize = 19;
+// The place of the farthest in an answer.
+const LAST: usize = limits::MOST_NEAR - 1;
 
 fn place_at(table: &[u8], i: usize) -> &[u8]
     requires { ⌜ i * slotSize + slotSize ≤ length (now table) ⌝ }
     ensures { λ r. ⌜ (now r ≡ place (slot (now (table .entry)) i)) × (length (now r) ≡ 32) ⌝ }
 {
     let a = i * SLOT + PLACE_AT;
-    let e = a + PLACE;
+    let e = a + limits::PLACE;
     &table[a..e]
 }
 
@@ -51,7 +47,7 @@ fn shown_at(table: &[u8], i: usize) -> bool
 
 // The slots nearest to a place, nearest first: the first n of at.
 pub struct Closest {
-    pub at: [usize; NEAREST],
+    pub at: [usize; limits::MOST_NEAR],
     pub n: usize,
 }
 
@@ -91,7 +87,7 @@ fn closer(table: &[u8], target: &[u8], a: usize, b: usize) -> bool
 }
 
 // How many of the n nearest so far are no farther than slot k. By halves, so that no order of the slots makes it slow.
-fn rank(table: &[u8], target: &[u8], at: &[usize; NEAREST], n: usize, k: usize) -> usize
+fn rank(table: &[u8], target: &[u8], at: &[usize; limits::MOST_NEAR], n: usize, k: usize) -> usize
     requires { ⌜ Held (now table) (now target) (now at) n k ⌝ }
     ensures { λ r. ⌜ (r ≤ n) × (insert (far (now (table .entry)) (now (target .entry))) k (take n (now (at .entry))) ≡ take r (take n (now (at .entry))) ++ k ∷ drop r (take n (now (at .entry)))) ⌝ }
 {
@@ -110,13 +106,13 @@ fn rank(table: &[u8], target: &[u8], at: &[usize; NEAREST], n: usize, k: usize) 
 }
 
 // Slot k at place p of at; what stood there and after it moves up by one, and the last falls out.
-fn put(at: &mut [usize; NEAREST], p: usize, k: usize)
-    requires { ⌜ (p ≤ nearestCount) × (length (now at) ≡ nearestCount) ⌝ }
-    ensures { λ r. ⌜ now (at .exit) ≡ take nearestCount (take p (now (at .entry)) ++ k ∷ drop p (now (at .entry))) ⌝ }
+fn put(at: &mut [usize; limits::MOST_NEAR], p: usize, k: usize)
+    requires { ⌜ (p ≤ mostNear) × (length (now at) ≡ mostNear) ⌝ }
+    ensures { λ r. ⌜ now (at .exit) ≡ take mostNear (take p (now (at .entry)) ++ k ∷ drop p (now (at .entry))) ⌝ }
 {
     let mut x = k;
     let mut i = p;
-    while i < NEAREST {
+    while i < limits::MOST_NEAR {
         let y = at[i];
         at[i] = x;
         x = y;
@@ -125,7 +121,7 @@ fn put(at: &mut [usize; NEAREST], p: usize, k: usize)
 }
 
 // Slot k, which is shown, into the nearest of the slots below it.
-fn add(table: &[u8], target: &[u8], at: &mut [usize; NEAREST], n: usize, k: usize)
+fn add(table: &[u8], target: &[u8], at: &mut [usize; limits::MOST_NEAR], n: usize, k: usize)
     requires { ⌜ Held (now table) (now target) (now at) n k ⌝ }
     ensures { λ r. ⌜ now (at .exit) ≡ filled (kept (now (table .entry)) (now (target .entry)) (k + 1)) ⌝ }
 {
@@ -134,22 +130,28 @@ fn add(table: &[u8], target: &[u8], at: &mut [usize; NEAREST], n: usize, k: usiz
 }
 
 // The same, where most slots are seen to be too far by one look at the farthest that is kept, with no call. Returns how many are kept.
-fn keep(table: &[u8], target: &[u8], at: &mut [usize; NEAREST], n: usize, k: usize) -> usize
+fn keep(
+    table: &[u8],
+    target: &[u8],
+    at: &mut [usize; limits::MOST_NEAR],
+    n: usize,
+    k: usize,
+) -> usize
     requires { ⌜ Held (now table) (now target) (now at) n k ⌝ }
     ensures { λ r. ⌜ (r ≡ length (kept (now (table .entry)) (now (target .entry)) (k + 1))) × (now (at .exit) ≡ filled (kept (now (table .entry)) (now (target .entry)) (k + 1))) ⌝ }
 {
-    if n < NEAREST {
+    if n < limits::MOST_NEAR {
         add(table, target, at, n, k);
         return n + 1;
     }
     let last = at[LAST];
     if farther(table, target, k, last) {
-        return NEAREST;
+        return limits::MOST_NEAR;
     }
     if closer(table, target, k, last) {
         add(table, target, at, n, k);
     }
-    NEAREST
+    limits::MOST_NEAR
 }
 
 // The whole pass, over a target that is a place.
@@ -158,7 +160,7 @@ fn pass(table: &[u8], target: &[u8]) -> Closest
     ensures { λ r. ⌜ r ≡ nearestOf (now (table .entry)) (now (target .entry)) ⌝ }
 {
     let end = slots(table);
-    let mut at = [0usize; NEAREST];
+    let mut at = [0usize; limits::MOST_NEAR];
     let mut n: usize = 0;
     let mut k = 0;
     while k < end {
@@ -175,8 +177,8 @@ fn pass(table: &[u8], target: &[u8]) -> Closest
 pub fn nearest(table: &[u8], target: &[u8]) -> Closest
     ensures { λ r. ⌜ r ≡ nearestOf (now (table .entry)) (now (target .entry)) ⌝ }
 {
-    if target.len() != PLACE {
-        let at = [0usize; NEAREST];
+    if target.len() != limits::PLACE {
+        let at = [0usize; limits::MOST_NEAR];
         return Closest { at, n: 0 };
     }
     pass(table, target)

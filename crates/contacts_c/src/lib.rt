@@ -1,5 +1,5 @@
 // The contact table's form test, its twenty nearest and its sightings, for C and Rust.
-use contact_calls::SeenOutcome;
+use contact_calls::Sighting;
 use refusal::Refusal;
 ghost use mathlib.Core.Path.{_≡_};
 ghost use mathlib.Core.List.{[], _∷_};
@@ -8,7 +8,7 @@ ghost use Rattle.contacts.specs.Form.{inForm};
 ghost use Rattle.contacts.specs.Near.{nearestOf};
 ghost use Rattle.peer.specs.Peers.{peerOf};
 ghost use Rattle.sightings.specs.Sightings.{sightingOf, seenTable};
-ghost use Rattle.contact_calls.specs.Calls.{outcomeOf, seenCall, seenCallTable, seenNumber};
+ghost use Rattle.contact_calls.specs.Calls.{seenCall, seenCallTable, seenNumber};
 ghost use Rattle.contacts_c.specs.Codes.{namedBy};
 
 // Whether a table is in form, where our place is `ours`. A C program declares it so:
@@ -28,7 +28,7 @@ pub extern "C" fn starterbell_in_form(table: &[u8], ours: &[u8; 32]) -> bool
 pub extern "C" fn starterbell_contacts_nearest(
     table: &[u8],
     target: &[u8; 32],
-    out: &mut [usize; 20],
+    out: &mut [usize; limits::MOST_NEAR],
 ) -> usize
     ensures { λ r. ⌜ (r ≡ nearestOf (now (table .entry)) (now (target .entry)) .n) × (now (out .exit) ≡ nearestOf (now (table .entry)) (now (target .entry)) .at) ⌝ }
 {
@@ -55,17 +55,17 @@ struct Answer {
     slot: usize,
 }
 
-fn answer_of(o: SeenOutcome) -> Answer
+fn answer_of(o: Sighting) -> Answer
     ensures { λ r. ⌜ (r .code ≡ seenNumber o) × (r .slot ≡ namedBy o) ⌝ }
 {
     match o {
-        SeenOutcome::Moved(i) => Answer { code: 64, slot: i },
-        SeenOutcome::Joined(i) => Answer { code: 65, slot: i },
-        SeenOutcome::Probe(h) => Answer {
+        Sighting::Moved(i) => Answer { code: 64, slot: i },
+        Sighting::Joined(i) => Answer { code: 65, slot: i },
+        Sighting::Probe(h) => Answer {
             code: refusal::number(Refusal::BucketFull),
             slot: h,
         },
-        SeenOutcome::Refused(r) => Answer {
+        Sighting::Refused(r) => Answer {
             code: refusal::number(r),
             slot: 0,
         },
@@ -86,7 +86,7 @@ pub extern "C" fn starterbell_contacts_seen(
     addresses: &[u8],
     slot: &mut [usize; 1],
 ) -> u8
-    ensures { λ r. ⌜ (r ≡ seenNumber (seenCall (now (table .entry)) (now (ours .entry)) (now (id .entry)) client)) × (now (table .exit) ≡ seenCallTable (now (table .entry)) (now (ours .entry)) (now (id .entry)) client (now (addresses .entry))) × (now (slot .exit) ≡ namedBy (seenCall (now (table .entry)) (now (ours .entry)) (now (id .entry)) client) ∷ []) ⌝ }
+    ensures { λ r. ⌜ (r ≡ seenNumber (seenCall (now (table .entry)) (now (ours .entry)) (now (id .entry)) client (now (addresses .entry)))) × (now (table .exit) ≡ seenCallTable (now (table .entry)) (now (ours .entry)) (now (id .entry)) client (now (addresses .entry))) × (now (slot .exit) ≡ namedBy (seenCall (now (table .entry)) (now (ours .entry)) (now (id .entry)) client (now (addresses .entry))) ∷ []) ⌝ }
 {
     let told = answer_of(contact_calls::seen(table, ours, id, client, addresses));
     let named = [told.slot];
@@ -104,10 +104,10 @@ pub extern "C" fn starterbell_sighting(
     addresses: &[u8],
     slot: &mut [usize; 1],
 ) -> u8
-    ensures { λ r. ⌜ (r ≡ seenNumber (outcomeOf (sightingOf (now (table .entry)) (now (ours .entry)) (now (place .entry))))) × (now (table .exit) ≡ seenTable (now (table .entry)) (now (ours .entry)) (peerOf (now (id .entry)) (now (place .entry)) (now (addresses .entry)))) × (now (slot .exit) ≡ namedBy (outcomeOf (sightingOf (now (table .entry)) (now (ours .entry)) (now (place .entry)))) ∷ []) ⌝ }
+    ensures { λ r. ⌜ (r ≡ seenNumber (sightingOf (now (table .entry)) (now (ours .entry)) (peerOf (now (id .entry)) (now (place .entry)) (now (addresses .entry))))) × (now (table .exit) ≡ seenTable (now (table .entry)) (now (ours .entry)) (peerOf (now (id .entry)) (now (place .entry)) (now (addresses .entry)))) × (now (slot .exit) ≡ namedBy (sightingOf (now (table .entry)) (now (ours .entry)) (peerOf (now (id .entry)) (now (place .entry)) (now (addresses .entry)))) ∷ []) ⌝ }
 {
     let p = peer::peer_of(id, *place, addresses);
-    let told = answer_of(contact_calls::seen_outcome(sightings::seen(table, ours, p)));
+    let told = answer_of(sightings::seen(table, ours, p));
     let named = [told.slot];
     *slot = named;
     told.code

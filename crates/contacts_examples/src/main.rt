@@ -5,9 +5,9 @@
 // tests/host/contacts_model.py says what must come.
 //
 // A letter for each call: m moved, j joined, k the head kept, w the head swapped, g gone; a capital letter is a refusal, A for 0 up.
-use contact_calls::RemoveOutcome;
-use contact_calls::SeenOutcome;
-use contact_calls::SettleOutcome;
+use contact_calls::Removed;
+use contact_calls::Settled;
+use contact_calls::Sighting;
 use refusal::Refusal;
 ghost use Prim.Native.Nat.{_≤_, _<_};
 
@@ -41,39 +41,39 @@ fn refused(r: Refusal) -> u8 {
     b'?'
 }
 
-fn tell_seen(o: SeenOutcome) -> Told {
+fn tell_seen(o: Sighting) -> Told {
     match o {
-        SeenOutcome::Moved(i) => Told {
+        Sighting::Moved(i) => Told {
             letter: b'm',
             slot: i,
         },
-        SeenOutcome::Joined(i) => Told {
+        Sighting::Joined(i) => Told {
             letter: b'j',
             slot: i,
         },
-        SeenOutcome::Probe(h) => Told {
+        Sighting::Probe(h) => Told {
             letter: b'N',
             slot: h,
         },
-        SeenOutcome::Refused(r) => Told {
+        Sighting::Refused(r) => Told {
             letter: refused(r),
             slot: 0,
         },
     }
 }
 
-fn tell_settle(o: SettleOutcome) -> u8 {
+fn tell_settle(o: Settled) -> u8 {
     match o {
-        SettleOutcome::Kept => b'k',
-        SettleOutcome::Swapped => b'w',
-        SettleOutcome::Refused(r) => refused(r),
+        Settled::Kept => b'k',
+        Settled::Swapped => b'w',
+        Settled::Refused(r) => refused(r),
     }
 }
 
-fn tell_remove(o: RemoveOutcome) -> u8 {
+fn tell_remove(o: Removed) -> u8 {
     match o {
-        RemoveOutcome::Gone => b'g',
-        RemoveOutcome::Refused(r) => refused(r),
+        Removed::Gone => b'g',
+        Removed::Refused(r) => refused(r),
     }
 }
 

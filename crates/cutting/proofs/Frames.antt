@@ -6,9 +6,10 @@ use mathlib.Core.Bool.{true, false}
 use native.Mathlib.Nat.{add-zero, not-suc-le-zero}
 use native.Mathlib.Omega.{arith}
 use lib.ListN.{length, take, drop, length-drop, drop-of-length-le}
+use Rattle.limits.specs.Limits.{mostBody}
 use Rattle.stream.specs.declared.Framing.the-variants.{Shut}
 use Rattle.stream.specs.declared.Answer.the-variants.{Message, Refused}
-use Rattle.stream.specs.Stream.{bodyLimit, fresh, prefixOf, Out, out, runOf}
+use Rattle.stream.specs.Stream.{fresh, prefixOf, Out, out, runOf}
 use Rattle.cutting.specs.Frames.{Event, message, refused, Head, partly, whole, bad, headOf, Frames, followed, byHead, framesFrom, frames, framingOf, halfOf, puts}
 use Rattle.cutting.specs.World.{Did, Line, Shared}
 use Rattle.cutting.specs.Claims.{alone, Reads}
@@ -51,8 +52,8 @@ module _ {A : Type 0} (put : A → Event → A) where
   reads-followed : (d : Alone) (a : A) (e : Event) (r : Frames) → Reads put (put a e) r d → Reads put a (followed e r) d
   reads-followed d a e r p = record { events = p .events ∙ more-events a e (r .events); framing = p .framing; taken = p .taken; half = p .half }
 
-  by-head : (f : ℕ) (m bs : List ℕ) (n : ℕ) (h : Shared A ⊥) (x : Head) → Ran m bs (framingOf bs) (halfOf bs) x → bodyLimit ≤ length m → length bs < suc f
-      → ((m′ cs : List ℕ) (n′ : ℕ) (h′ : Shared A ⊥) → bodyLimit ≤ length m′ → length cs < f → Reads put (h′ .state) (framesFrom f n′ cs) (plays (start m′ n′ h′) cs))
+  by-head : (f : ℕ) (m bs : List ℕ) (n : ℕ) (h : Shared A ⊥) (x : Head) → Ran m bs (framingOf bs) (halfOf bs) x → mostBody ≤ length m → length bs < suc f
+      → ((m′ cs : List ℕ) (n′ : ℕ) (h′ : Shared A ⊥) → mostBody ≤ length m′ → length cs < f → Reads put (h′ .state) (framesFrom f n′ cs) (plays (start m′ n′ h′) cs))
       → Reads put (h .state) (byHead x n bs (λ k. framesFrom f (n + k) (drop k bs))) (plays (start m n h) bs)
   unfolding prefixOf
   by-head f m bs n h partly r w l ih =
@@ -78,11 +79,11 @@ module _ {A : Type 0} (put : A → Event → A) where
       (reads-followed _ (h .state) e (framesFrom f (n + (k + v)) (drop (k + v) bs))
       (ih (r .buffer) (drop (k + v) bs) (n + (k + v)) (record { state = put (h .state) e; order = h′ .order }) (omega arith) (omega arith)))
 
-  pub read-from : (f : ℕ) (m bs : List ℕ) (n : ℕ) (h : Shared A ⊥) → bodyLimit ≤ length m → length bs < f → Reads put (h .state) (framesFrom f n bs) (plays (start m n h) bs)
+  pub read-from : (f : ℕ) (m bs : List ℕ) (n : ℕ) (h : Shared A ⊥) → mostBody ≤ length m → length bs < f → Reads put (h .state) (framesFrom f n bs) (plays (start m n h) bs)
   unfolding framesFrom
   read-from zero m bs n h w l = absurd (not-suc-le-zero l)
   read-from (suc f) m bs n h w l = by-head f m bs n h (headOf bs) (head-run m bs w) w l (read-from f)
 
-  pub read-all : (m bs : List ℕ) (a : A) → bodyLimit ≤ length m → Reads put a (frames bs) (plays (start m 0 (record { state = a; order = [] })) bs)
+  pub read-all : (m bs : List ℕ) (a : A) → mostBody ≤ length m → Reads put a (frames bs) (plays (start m 0 (record { state = a; order = [] })) bs)
   unfolding frames
   read-all m bs a w = read-from (suc (length bs)) m bs 0 (record { state = a; order = [] }) w (omega arith)

@@ -10,6 +10,7 @@ use lib.Seq.{sets}
 use lib.Dec.{leb}
 use borrow.Author.Tests.{leb-true, leb-false}
 use Rattle.octets.proofs.Bools.{cond-ind}
+use Rattle.limits.specs.Limits.{mostBody}
 use Rattle.stream.specs.declared.Held.{Held}
 use Rattle.stream.specs.declared.Held.the-variants.{Nothing}
 use Rattle.stream.specs.declared.Framing.{Framing}
@@ -18,17 +19,17 @@ use Rattle.stream.specs.declared.Answer.the-variants.{Message, Refused, More}
 use Rattle.stream.specs.declared.Lead.{Lead}
 use Rattle.stream.specs.declared.Lead.the-variants.{On, Length, Bad}
 use Rattle.stream.specs.declared.Prefixed.{Prefixed}
-use Rattle.stream.specs.Stream.{bodyLimit, fresh, heldForm, prefixStep, onward, prefixOf, out, shift, runOf}
+use Rattle.stream.specs.Stream.{fresh, heldForm, prefixStep, onward, prefixOf, out, shift, runOf}
 use Rattle.stream.specs.Inner.{begunOf}
 use Rattle.cutting.specs.Frames.{Head, partly, whole, bad, prefixAt, headBy, headOf, partFraming, partBody, framingOf, halfOf}
 use Rattle.stream.proofs.Runs.{leads, run-prefix, begun-some, body-part, body-whole}
-use Rattle.cutting.proofs.Lists.{take-sets-first}
+use Rattle.octets.proofs.Lists.{take-sets-first}
 use Rattle.cutting.proofs.Kept.{prefix-form, LeadForm}
 
 -- ---- the prefix at the start of bytes
 abbrev pub Sensible : Lead → ℕ → ℕ → Type 0
 Sensible (On h) k n = k ≡ n
-Sensible (Length v) k n = (1 ≤ k) × (k ≤ n) × (v ≤ bodyLimit)
+Sensible (Length v) k n = (1 ≤ k) × (k ≤ n) × (v ≤ mostBody)
 Sensible (Bad r) k n = (1 ≤ k) × (k ≤ n)
 
 later-sensible : (l : Lead) (k n : ℕ) → Sensible l k n → Sensible l (1 + k) (suc n)
@@ -65,7 +66,7 @@ Ran m bs f half partly = RanPart m bs f half
 Ran m bs f half (whole k n) = RanWhole m bs k n
 Ran m bs f half (bad k r) = runOf fresh m bs ≡ out Shut k (Refused r) m
 
-ran-whole : (m bs : List ℕ) (k n : ℕ) → bodyLimit ≤ length m → 1 ≤ k → n ≤ bodyLimit → k + n ≤ length bs → runOf fresh m bs ≡ begunOf n k m bs → RanWhole m bs k n
+ran-whole : (m bs : List ℕ) (k n : ℕ) → mostBody ≤ length m → 1 ≤ k → n ≤ mostBody → k + n ≤ length bs → runOf fresh m bs ≡ begunOf n k m bs → RanWhole m bs k n
 ran-whole m bs k zero w s v l r = record { buffer = m; runs = r ∙ (λ i. out fresh (sym (add-zero k) i) (Message 0) m); body = refl; some = s; fits = l }
 ran-whole m bs k (suc n) w s v l r =
     let t : List ℕ = take (suc n) (drop k bs) in
@@ -79,7 +80,7 @@ ran-whole m bs k (suc n) w s v l r =
       fits = l;
     }
 
-ran-part : (m bs : List ℕ) (k n : ℕ) → bodyLimit ≤ length m → k ≤ length bs → n ≤ bodyLimit → length bs < k + n → runOf fresh m bs ≡ begunOf n k m bs
+ran-part : (m bs : List ℕ) (k n : ℕ) → mostBody ≤ length m → k ≤ length bs → n ≤ mostBody → length bs < k + n → runOf fresh m bs ≡ begunOf n k m bs
     → RanPart m bs (Body n (length bs - k)) (drop k bs)
 ran-part m bs k zero w t v l r = absurd (omega arith)
 ran-part m bs k (suc n) w t v l r =
@@ -92,7 +93,7 @@ ran-part m bs k (suc n) w t v l r =
       there = take-sets-first m (drop k bs) (omega arith);
     }
 
-pub head-run : (m bs : List ℕ) → bodyLimit ≤ length m → Ran m bs (framingOf bs) (halfOf bs) (headOf bs)
+pub head-run : (m bs : List ℕ) → mostBody ≤ length m → Ran m bs (framingOf bs) (halfOf bs) (headOf bs)
 head-run m bs w = go (prefixAt bs .lead) (prefixAt bs .taken) (run-prefix bs Nothing m) (prefix-sensible bs Nothing refl)
   where
     go : (l : Lead) (k : ℕ) → runOf fresh m bs ≡ leads l k m bs → Sensible l k (length bs) → Ran m bs (partFraming l k bs) (partBody l k bs) (headBy l k bs)

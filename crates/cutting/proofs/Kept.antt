@@ -8,6 +8,7 @@ use lib.ListN.{length, length-set}
 use lib.Dec.{eqb, ltb, leb}
 use borrow.Author.Tests.{le-leb, lt-ltb, ltb-false, eqb-false}
 use Rattle.octets.proofs.Bools.{cond-ind, and-i, and-l}
+use Rattle.limits.specs.Limits.{mostBody}
 use Rattle.refusal.specs.declared.Refusal.{Refusal}
 use Rattle.refusal.specs.declared.Refusal.the-variants as no
 use Rattle.stream.specs.declared.Ending.the-variants as ends
@@ -19,7 +20,7 @@ use Rattle.stream.specs.declared.Answer.{Answer}
 use Rattle.stream.specs.declared.Answer.the-variants.{Message, Refused, More}
 use Rattle.stream.specs.declared.Lead.{Lead}
 use Rattle.stream.specs.declared.Lead.the-variants.{On, Length, Bad}
-use Rattle.stream.specs.Stream.{bodyLimit, isShut, heldForm, inForm, limited, minimal, prefixStep, Stepped, led, stepOf, storeOf, Out, after, runOf, stays, receiveOf, ended, endIn, endOf}
+use Rattle.stream.specs.Stream.{isShut, heldForm, inForm, limited, minimal, prefixStep, Stepped, led, stepOf, storeOf, Out, after, runOf, stays, receiveOf, ended, endIn, endOf}
 use Rattle.cutting.specs.World.{isMore}
 use Rattle.stream.proofs.Steps.{body-short, body-small}
 
@@ -31,12 +32,12 @@ shut-only (Body want have) h = absurd (false≢true h)
 -- ---- form
 abbrev pub LeadForm : Lead → Type 0
 LeadForm (On h) = heldForm h ≡ true
-LeadForm (Length n) = n ≤ bodyLimit
+LeadForm (Length n) = n ≤ mostBody
 LeadForm (Bad r) = Unit {0}
 
 limited-form : (n : ℕ) → LeadForm (limited n)
 unfolding limited
-limited-form n = cond-ind LeadForm (ltb bodyLimit n) _ _ (λ h. tt) (λ h. ltb-false bodyLimit n h)
+limited-form n = cond-ind LeadForm (ltb mostBody n) _ _ (λ h. tt) (λ h. ltb-false mostBody n h)
 
 minimal-form : (z n : ℕ) → LeadForm (minimal z n)
 unfolding minimal
@@ -58,7 +59,7 @@ pos-of n k = let h : n ≡ 0 → ⊥ = eqb-false n 0 k in omega arith
 led-form : (l : Lead) → LeadForm l → InForm (led l)
 unfolding InForm
 led-form (On h) g = g
-led-form (Length n) g = cond-ind InForm (eqb n 0) _ _ (λ h. refl) (λ h. and-i (leb n bodyLimit) (ltb 0 n) (le-leb n bodyLimit g) (lt-ltb 0 n (pos-of n h)))
+led-form (Length n) g = cond-ind InForm (eqb n 0) _ _ (λ h. refl) (λ h. and-i (leb n mostBody) (ltb 0 n) (le-leb n mostBody g) (lt-ltb 0 n (pos-of n h)))
 led-form (Bad r) g = refl
 
 pub step-form : (f : Framing) (b : ℕ) → inForm f ≡ true → inForm (stepOf f b .framing) ≡ true
@@ -69,7 +70,7 @@ step-form (Body want have) b g =
     let l : have < want = body-short want have g in
     cond-ind InForm (eqb (suc have) want) _ _ (λ h. refl)
     (λ h. let n : suc have ≡ want → ⊥ = eqb-false (suc have) want h in
-    and-i (leb want bodyLimit) (ltb (suc have) want) (and-l (leb want bodyLimit) (ltb have want) g) (lt-ltb (suc have) want (omega arith)))
+    and-i (leb want mostBody) (ltb (suc have) want) (and-l (leb want mostBody) (ltb have want) g) (lt-ltb (suc have) want (omega arith)))
 
 pub store-length : (f : Framing) (m : List ℕ) (b : ℕ) → length (storeOf f m b) ≡ length m
 store-length Shut m b = refl
@@ -156,7 +157,7 @@ run-all (b ∷ bs) f m h =
 
 -- a message is no longer than the largest
 Small : Answer → Type 0
-Small (Message n) = n ≤ bodyLimit
+Small (Message n) = n ≤ mostBody
 Small (Refused r) = Unit {0}
 Small More = Unit {0}
 
@@ -187,7 +188,7 @@ run-small (b ∷ bs) f m h =
     after-small (stepOf f b .answer) (stepOf f b .framing) (storeOf f m b) (runOf (stepOf f b .framing) (storeOf f m b) bs) (step-small f b h)
     (run-small bs (stepOf f b .framing) (storeOf f m b) (step-form f b h))
 
-pub message-fits : (f : Framing) (m bs : List ℕ) (n : ℕ) → inForm f ≡ true → runOf f m bs .got .answer ≡ Message n → n ≤ bodyLimit
+pub message-fits : (f : Framing) (m bs : List ℕ) (n : ℕ) → inForm f ≡ true → runOf f m bs .got .answer ≡ Message n → n ≤ mostBody
 unfolding Small
 message-fits f m bs n h e = let s : Small (runOf f m bs .got .answer) = run-small bs f m h in rw e at s
 
@@ -195,12 +196,12 @@ message-fits f m bs n h e = let s : Small (runOf f m bs .got .answer) = run-smal
 module _ (f : Framing) (m bs : List ℕ) where
   -- each way that a call can go
   pub receive-ind : (C : Out → Type 0) → C (stays f m no.OutOfForm) → C (stays f m no.SmallBuffer) → C (stays f m no.Shut)
-      → (inForm f ≡ true → bodyLimit ≤ length m → isShut f ≡ false → C (runOf f m bs)) → C (receiveOf f m bs)
+      → (inForm f ≡ true → mostBody ≤ length m → isShut f ≡ false → C (runOf f m bs)) → C (receiveOf f m bs)
   unfolding receiveOf
   receive-ind C a b c d =
       cond-ind C (not (inForm f)) _ _ (λ g. a)
-      (λ g. cond-ind C (ltb (length m) bodyLimit) _ _ (λ h. b)
-      (λ h. cond-ind C (isShut f) _ _ (λ s. c) (λ s. d (not-off (inForm f) g) (ltb-false (length m) bodyLimit h) s)))
+      (λ g. cond-ind C (ltb (length m) mostBody) _ _ (λ h. b)
+      (λ h. cond-ind C (isShut f) _ _ (λ s. c) (λ s. d (not-off (inForm f) g) (ltb-false (length m) mostBody h) s)))
     where
       not-off : (t : Bool) → not t ≡ false → t ≡ true
       not-off true h = refl
@@ -212,9 +213,9 @@ module _ (f : Framing) (m bs : List ℕ) where
   pub receive-within : receiveOf f m bs .got .taken ≤ length bs
   receive-within = receive-ind (λ (o : Out). o .got .taken ≤ length bs) (omega arith) (omega arith) (omega arith) (λ g w s. run-within bs f m)
 
-  pub receive-message : (n : ℕ) → receiveOf f m bs .got .answer ≡ Message n → (n ≤ bodyLimit) × (bodyLimit ≤ length m)
+  pub receive-message : (n : ℕ) → receiveOf f m bs .got .answer ≡ Message n → (n ≤ mostBody) × (mostBody ≤ length m)
   receive-message n =
-      receive-ind (λ (o : Out). o .got .answer ≡ Message n → (n ≤ bodyLimit) × (bodyLimit ≤ length m)) (no-message no.OutOfForm) (no-message no.SmallBuffer) (no-message no.Shut)
+      receive-ind (λ (o : Out). o .got .answer ≡ Message n → (n ≤ mostBody) × (mostBody ≤ length m)) (no-message no.OutOfForm) (no-message no.SmallBuffer) (no-message no.Shut)
       (λ g w s e. (message-fits f m bs n g e, w))
     where
       no-message : {X : Type 0} (r : Refusal) → Refused r ≡ Message n → X

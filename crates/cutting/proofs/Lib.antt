@@ -1,4 +1,3 @@
-pub mod Lists
 pub mod Order
 pub mod Kept
 pub mod World

@@ -8,7 +8,7 @@ use native.Mathlib.Omega.{arith}
 use lib.Dec.{eqb}
 use borrow.Author.Tests.{eqb-true, eqb-false, eq-eqb, ne-eqb}
 use Rattle.octets.proofs.Bools.{cond-ind}
-use Rattle.cutting.proofs.Lists.{head-of, tail-of, no-cons}
+use Rattle.octets.proofs.Lists.{head-of, tail-of, no-cons}
 use Rattle.cutting.specs.World.{Did, Sys, Mark, happened, asked, setAt, here, putBack}
 
 -- ---- acts: on a line an act is quiet and changes that line alone, or it is an event

@@ -9,6 +9,7 @@ use lib.Seq.{take-suc-set}
 use lib.Dec.{eqb}
 use borrow.Author.Tests.{eqb-true}
 use Rattle.octets.proofs.Bools.{cond-ind}
+use Rattle.limits.specs.Limits.{mostBody}
 use Rattle.refusal.specs.declared.Refusal.the-variants as no
 use Rattle.stream.specs.declared.Framing.{Framing}
 use Rattle.stream.specs.declared.Framing.the-variants.{Shut, Prefix, Body}
@@ -17,7 +18,7 @@ use Rattle.stream.specs.declared.Answer.the-variants.{Message, Refused, More}
 use Rattle.stream.specs.declared.Received.{Received}
 use Rattle.stream.specs.declared.Lead.{Lead}
 use Rattle.stream.specs.declared.Lead.the-variants.{On, Length, Bad}
-use Rattle.stream.specs.Stream.{bodyLimit, fresh, isShut, inForm, prefixStep, Stepped, stepped, led, stepOf, storeOf, Out, after, runOf, receiveOf}
+use Rattle.stream.specs.Stream.{fresh, isShut, inForm, prefixStep, Stepped, stepped, led, stepOf, storeOf, Out, after, runOf, receiveOf}
 use Rattle.cutting.specs.Claims.{bodySoFar, bodyOf, bodyIn}
 use Rattle.stream.proofs.Steps.{body-short, body-small, call-bad, call-shut, call-runs}
 use Rattle.cutting.proofs.Kept.{step-form, store-length}
@@ -40,14 +41,14 @@ body-adds want have b m h =
     (λ e. ap (λ (k : ℕ). take k (set m have b)) (sym (eqb-true (suc have) want e)) ∙ take-suc-set m have b h)
     (λ e. take-suc-set m have b h)
 
-step-body : (f : Framing) (b : ℕ) (m n : List ℕ) → inForm f ≡ true → bodyLimit ≤ length m → bodyLimit ≤ length n → take (bodySoFar f) m ≡ take (bodySoFar f) n
+step-body : (f : Framing) (b : ℕ) (m n : List ℕ) → inForm f ≡ true → mostBody ≤ length m → mostBody ≤ length n → take (bodySoFar f) m ≡ take (bodySoFar f) n
     → bodyOf (stepOf f b .answer) (stepOf f b .framing) (storeOf f m b) ≡ bodyOf (stepOf f b .answer) (stepOf f b .framing) (storeOf f n b)
 unfolding Bare
 step-body Shut b m n g j k e = refl
 step-body (Prefix h) b m n g j k e = led-bare (prefixStep h b) m ∙ sym (led-bare (prefixStep h b) n)
 step-body (Body want have) b m n g j k e =
     let s : have < want = body-short want have g in
-    let t : want ≤ bodyLimit = body-small want have g in
+    let t : want ≤ mostBody = body-small want have g in
     body-adds want have b m (omega arith) ∙ ap (λ (l : List ℕ). l ++ (b ∷ [])) e ∙ sym (body-adds want have b n (omega arith))
 
 abbrev Alike : Out → Out → Type 0
@@ -58,7 +59,7 @@ after-alike (Message k) f m n o p h ih = (refl, h)
 after-alike (Refused r) f m n o p h ih = (refl, h)
 after-alike More f m n o p h ih = (ap {B = Received} (λ (r : Received). record { framing = r .framing; taken = 1 + r .taken; answer = r .answer }) (ih refl .0), ih refl .1)
 
-run-alike : (bs : List ℕ) (f : Framing) (m n : List ℕ) → inForm f ≡ true → bodyLimit ≤ length m → bodyLimit ≤ length n → take (bodySoFar f) m ≡ take (bodySoFar f) n
+run-alike : (bs : List ℕ) (f : Framing) (m n : List ℕ) → inForm f ≡ true → mostBody ≤ length m → mostBody ≤ length n → take (bodySoFar f) m ≡ take (bodySoFar f) n
     → Alike (runOf f m bs) (runOf f n bs)
 unfolding runOf
 run-alike [] f m n g j k e = (refl, e)
@@ -70,7 +71,7 @@ run-alike (b ∷ bs) f m n g j k e =
     (λ q. run-alike bs (stepOf f b .framing) (storeOf f m b) (storeOf f n b) (step-form f b g) (omega arith) (omega arith)
     (subst (λ (a : Answer). bodyOf a (stepOf f b .framing) (storeOf f m b) ≡ bodyOf a (stepOf f b .framing) (storeOf f n b)) q h))
 
-pub past-alike : (f : Framing) (m n bs : List ℕ) → bodyLimit ≤ length m → bodyLimit ≤ length n → take (bodySoFar f) m ≡ take (bodySoFar f) n → Alike (receiveOf f m bs) (receiveOf f n bs)
+pub past-alike : (f : Framing) (m n bs : List ℕ) → mostBody ≤ length m → mostBody ≤ length n → take (bodySoFar f) m ≡ take (bodySoFar f) n → Alike (receiveOf f m bs) (receiveOf f n bs)
 past-alike f m n bs j k e = go (inForm f) refl (isShut f) refl
   where
     by : (o p : Out) → receiveOf f m bs ≡ o → receiveOf f n bs ≡ p → Alike o p → Alike (receiveOf f m bs) (receiveOf f n bs)

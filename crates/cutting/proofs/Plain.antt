@@ -9,16 +9,17 @@ use lib.ListN.{length, take, drop}
 use lib.Dec.{eqb}
 use borrow.Author.Tests.{eqb-true, eq-eqb}
 use Rattle.octets.proofs.Bools.{cond-ind}
+use Rattle.limits.specs.Limits.{mostBody}
 use Rattle.refusal.specs.declared.Refusal.{Refusal}
 use Rattle.stream.specs.declared.Framing.{Framing}
 use Rattle.stream.specs.declared.Framing.the-variants.{Shut}
 use Rattle.stream.specs.declared.Answer.{Answer}
 use Rattle.stream.specs.declared.Answer.the-variants.{Message, Refused, More}
-use Rattle.stream.specs.Stream.{bodyLimit, fresh, isShut, inForm, stepOf, storeOf, Out, out, shift, after, runOf}
+use Rattle.stream.specs.Stream.{fresh, isShut, inForm, stepOf, storeOf, Out, out, shift, after, runOf}
 use Rattle.cutting.specs.Frames.{Event, message, refused, Head, partly, whole, bad, headOf, framingOf, halfOf}
 use Rattle.cutting.specs.World.{Did, Sys, Mark, happened, setAt, here, putBack, Line, Shared, World, Layer, Call, hand, does, asks, Act, takes, acts, bytes, given, isMore, acted, calls, Fine, Sound, Ready, AllFit}
 use Rattle.cutting.specs.Plain.{Wire, leading, pending, standing, dealt, actNext, byHead, next, plainly, unread, ReadOut, Blunt}
-use Rattle.cutting.proofs.Lists.{length-snoc}
+use Rattle.octets.proofs.Lists.{length-snoc}
 use Rattle.stream.proofs.Runs.{shift-shift, shift-zero, run-nil, run-cons}
 use Rattle.cutting.proofs.Kept.{shut-only, step-open, store-length}
 use Rattle.cutting.proofs.Heads.{Ran, head-run}
@@ -78,7 +79,7 @@ step-run f m b bs a e = run-cons f m b bs ∙ ap (λ (x : Answer). after x (step
 -- ---- a connection in the middle of a message, of which it has the bytes p
 pub record Mid (f : Framing) (m : List ℕ) (p : List ℕ) : Type 0 where
   pub start : List ℕ
-  pub room : bodyLimit ≤ length start
+  pub room : mostBody ≤ length start
   pub runs : (bs : List ℕ) → runOf fresh start (p ++ bs) ≡ shift (length p) (runOf f m bs)
 
 pub record IsMessage (f : Framing) (m s p : List ℕ) (b v : ℕ) (h : Head) : Type 0 where
@@ -182,7 +183,7 @@ module _ (f : Framing) (m s p : List ℕ) where
           record { head = refl; framing = ap (λ (o : Out). o .got .framing) (sym F); half = ap (λ (o : Out). take (length (halfOf s)) (o .buffer)) (sym F) ∙ r .there }
 
 -- after an event the next message begins
-mid-fresh : (f : Framing) (m : List ℕ) → f ≡ fresh → bodyLimit ≤ length m → Mid f m []
+mid-fresh : (f : Framing) (m : List ℕ) → f ≡ fresh → mostBody ≤ length m → Mid f m []
 mid-fresh f m e r = record { start = m; room = r; runs = λ bs. ap (λ (x : Framing). runOf x m bs) (sym e) ∙ shift-zero (runOf f m bs) }
 
 -- ---- a connection and its wire: it has read the bytes p since the last event, and `rest` is still to come
@@ -242,7 +243,7 @@ module _ {P A B O : Type 0} (L : Layer P A B O) where
   Here = Did (Line P) (Shared A O)
 
   -- ---- a byte
-  module _ (i : ℕ) (d : Here) (w : Wire P B) (p : List ℕ) (b : ℕ) (rest : List (Act B)) (room : bodyLimit ≤ length (d .line .buffer)) (r : Rel (d .line) w p (takes b ∷ rest)) where
+  module _ (i : ℕ) (d : Here) (w : Wire P B) (p : List ℕ) (b : ℕ) (rest : List (Act B)) (room : mostBody ≤ length (d .line .buffer)) (r : Rel (d .line) w p (takes b ∷ rest)) where
     abbrev f : Framing
     f = d .line .framing
 
@@ -258,7 +259,7 @@ module _ {P A B O : Type 0} (L : Layer P A B O) where
     abbrev then : Did (Wire P B) A
     then = next L i (record { line = w; shared = d .shared .state })
 
-    long : bodyLimit ≤ length m
+    long : mostBody ≤ length m
     long = let e : length m ≡ length (d .line .buffer) = store-length f (d .line .buffer) b in omega arith
 
     string : s ≡ p ++ (b ∷ leading rest)
@@ -364,7 +365,7 @@ module _ {P A B O : Type 0} (L : Layer P A B O) where
 
   -- ---- an act
   module _ {Peer : P → Type 0} {Fits : B → Type 0} (K : Blunt L Peer Fits) where
-    act-rel : (i : ℕ) (d : Here) (w : Wire P B) (p : List ℕ) (b : B) (rest : List (Act B)) → Fits b → Fine Peer (d .line) → bodyLimit ≤ length (acted L i b d .line .buffer) → Rel (d .line) w p (acts b ∷ rest)
+    act-rel : (i : ℕ) (d : Here) (w : Wire P B) (p : List ℕ) (b : B) (rest : List (Act B)) → Fits b → Fine Peer (d .line) → mostBody ≤ length (acted L i b d .line .buffer) → Rel (d .line) w p (acts b ∷ rest)
         → (acted L i b d .shared .state ≡ next L i (record { line = w; shared = d .shared .state }) .shared)
         × Rel (acted L i b d .line) (next L i (record { line = w; shared = d .shared .state }) .line) [] rest
     act-rel i d w p b rest fit fine room r =

@@ -9,15 +9,16 @@ use native.Mathlib.Omega.{arith}
 use lib.ListN.{length, take, drop, length-drop, drop-of-length-le}
 use lib.Dec.{eqb}
 use Rattle.octets.proofs.Bools.{cond-ind, cond-yes, cond-no}
+use Rattle.limits.specs.Limits.{mostBody}
 use Rattle.stream.specs.declared.Framing.{Framing}
 use Rattle.stream.specs.declared.Framing.the-variants.{Shut}
 use Rattle.stream.specs.declared.Answer.{Answer}
 use Rattle.stream.specs.declared.Answer.the-variants.{Message, Refused, More}
-use Rattle.stream.specs.Stream.{bodyLimit, isShut, inForm, stepOf, storeOf, Out, out, shift, runOf}
+use Rattle.stream.specs.Stream.{isShut, inForm, stepOf, storeOf, Out, out, shift, runOf}
 use Rattle.cutting.specs.Frames.{message, refused}
 use Rattle.cutting.proofs.Order.{Step, at, other, actsOf, Rules, act, step, run, marks}
 use Rattle.cutting.specs.World.{Did, Mark, happened, asked, here, putBack, Line, Shared, World, Called, Layer, Call, hand, does, asks, Act, takes, acts, bytes, given, joined, isMore, noteIf, answered, feed, handed, handedAll, acted, hosted, call, calls, noted, halted, called, Fine, Sound, Ready, AllFit}
-use Rattle.cutting.proofs.Lists.{cancel}
+use Rattle.octets.proofs.Lists.{cancel}
 use Rattle.cutting.proofs.Kept.{shut-only, step-form, step-open, store-length, run-form, run-length, run-within, run-some, run-all}
 use Rattle.cutting.proofs.Order.{here-back, back-back, back-here, order}
 
@@ -196,7 +197,7 @@ module _ {P A B O : Type 0} (L : Layer P A B O) where
         record {
           line = record {
             form = halted-form i (d .line .who) (d .shared .state) (o .got .answer) n (o .buffer) (o .got .framing) f;
-            room = let r : bodyLimit ≤ length (d .line .buffer) = w .line .room in omega arith;
+            room = let r : mostBody ≤ length (d .line .buffer) = w .line .room in omega arith;
             peer = λ z. w .line .peer h;
           };
           good = noted-good i (d .line .who) (d .shared .state) (o .got .answer) n (o .buffer) (w .line .peer h) (w .good);

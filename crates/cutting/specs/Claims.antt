@@ -4,12 +4,13 @@ use mathlib.Core.Path.{_≡_}
 use mathlib.Core.List.{List, [], _++_}
 use mathlib.Core.Bool.{Bool, true, false, cond}
 use lib.ListN.{length, take, drop}
+use Rattle.limits.specs.Limits.{mostBody}
 use Rattle.stream.specs.declared.Framing.{Framing}
 use Rattle.stream.specs.declared.Framing.the-variants.{Shut, Prefix, Body}
 use Rattle.stream.specs.declared.Ending.{Ending}
 use Rattle.stream.specs.declared.Answer.{Answer}
 use Rattle.stream.specs.declared.Answer.the-variants.{Message, Refused, More}
-use Rattle.stream.specs.Stream.{bodyLimit, fresh, isShut, inForm, Out, receiveOf, endOf}
+use Rattle.stream.specs.Stream.{fresh, isShut, inForm, Out, receiveOf, endOf}
 use Rattle.cutting.specs.Frames.{Event, Frames, frames, framingOf, halfOf, puts}
 use Rattle.cutting.specs.World.{Did, putBack, Line, Shared, World, Layer, Call, hand, joined, given, answered, handedAll, call, calls, bare, turned, Roomy, Fine, Sound, Ready, AllFit}
 use Rattle.cutting.specs.Plain.{ReadOut, Blunt, plainly, unread}
@@ -39,7 +40,7 @@ pub record Reads {P A O : Type 0} (put : A → Event → A) (a : A) (r : Frames)
 
 abbrev pub Reading : Type 1
 Reading =
-    (A : Type 0) (put : A → Event → A) (a : A) (m : List ℕ) → bodyLimit ≤ length m
+    (A : Type 0) (put : A → Event → A) (a : A) (m : List ℕ) → mostBody ≤ length m
     → (ps : List (List ℕ)) → Reads put a (frames (joined ps)) (handedAll (alone put) 0 (opened tt m a) ps)
 
 -- ---- 3. Several connections over a state that their events change, where a message may shut its connection by what the state says: two lists of
@@ -112,7 +113,7 @@ bodyIn o = bodyOf (o .got .answer) (o .got .framing) (o .buffer)
 
 abbrev pub Past : Type 0
 Past =
-    (f : Framing) (m n bs : List ℕ) → bodyLimit ≤ length m → bodyLimit ≤ length n → take (bodySoFar f) m ≡ take (bodySoFar f) n
+    (f : Framing) (m n bs : List ℕ) → mostBody ≤ length m → mostBody ≤ length n → take (bodySoFar f) m ≡ take (bodySoFar f) n
     → (receiveOf f m bs .got ≡ receiveOf f n bs .got) × (bodyIn (receiveOf f m bs) ≡ bodyIn (receiveOf f n bs))
 
 -- ---- 7. The bytes past the body so far stay, and all of them where no body is begun: a refusal and an empty message touch no byte
@@ -121,7 +122,7 @@ abbrev pub reach : Out → ℕ
 reach o = length (bodyIn o)
 
 abbrev pub Later : Type 0
-Later = (f : Framing) (m bs : List ℕ) → bodyLimit ≤ length m → drop (reach (receiveOf f m bs)) (receiveOf f m bs .buffer) ≡ drop (reach (receiveOf f m bs)) m
+Later = (f : Framing) (m bs : List ℕ) → mostBody ≤ length m → drop (reach (receiveOf f m bs)) (receiveOf f m bs .buffer) ≡ drop (reach (receiveOf f m bs)) m
 
 -- ---- 8. Form is kept: a connection as the last call handed it back never gives 0
 pub record FormKept : Type 0 where
@@ -132,4 +133,4 @@ pub record FormKept : Type 0 where
 -- ---- 9. A call takes no more than is there, and a message is no longer than the buffer asked for: the layer above may cut both
 pub record Bounded : Type 0 where
   pub taken : (f : Framing) (m bs : List ℕ) → receiveOf f m bs .got .taken ≤ length bs
-  pub message : (f : Framing) (m bs : List ℕ) (n : ℕ) → receiveOf f m bs .got .answer ≡ Message n → (n ≤ bodyLimit) × (bodyLimit ≤ length m)
+  pub message : (f : Framing) (m bs : List ℕ) (n : ℕ) → receiveOf f m bs .got .answer ≡ Message n → (n ≤ mostBody) × (mostBody ≤ length m)

@@ -5,12 +5,13 @@ use mathlib.Core.List.{List, [], _∷_, _++_}
 use mathlib.Core.Bool.{Bool, true, false, cond}
 use lib.ListN.{length, take, drop}
 use lib.Dec.{eqb}
+use Rattle.limits.specs.Limits.{mostBody}
 use Rattle.stream.specs.declared.Framing.{Framing}
 use Rattle.stream.specs.declared.Framing.the-variants.{Shut}
 use Rattle.stream.specs.declared.Ending.{Ending}
 use Rattle.stream.specs.declared.Answer.{Answer}
 use Rattle.stream.specs.declared.Answer.the-variants.{Message, Refused, More}
-use Rattle.stream.specs.Stream.{bodyLimit, fresh, isShut, inForm, Out, runOf, receiveOf, endOf}
+use Rattle.stream.specs.Stream.{fresh, isShut, inForm, Out, runOf, receiveOf, endOf}
 use Rattle.cutting.specs.Frames.{Event, message, refused}
 
 -- ---- lines and what they share
@@ -142,7 +143,7 @@ turned tell i ends l a =
     record { line = record { who = l .who; framing = e .framing; buffer = l .buffer; taken = l .taken }; shared = tell i (l .who) a (l .taken) (e .answer) }
 
 abbrev pub Roomy : {P : Type 0} → Turn P → Type 0
-Roomy (opens p m) = bodyLimit ≤ length m
+Roomy (opens p m) = mostBody ≤ length m
 Roomy ends = Unit {0}
 
 -- ---- the host
@@ -191,7 +192,7 @@ module _ {P A B O : Type 0} (L : Layer P A B O) where
 -- a connection in form, with a receive buffer large enough, and, while it is open, a peer that may be
 pub record Fine {P : Type 0} (Peer : P → Type 0) (l : Line P) : Type 0 where
   pub form : inForm (l .framing) ≡ true
-  pub room : bodyLimit ≤ length (l .buffer)
+  pub room : mostBody ≤ length (l .buffer)
   pub peer : isShut (l .framing) ≡ false → Peer (l .who)
 
 -- on a connection that is fine and open, over a state that is good, the layer's `receive` does what the framing's answer comes to; and

@@ -33,7 +33,9 @@ use Rattle.cutting.specs.Frames.{message}
 use Rattle.cutting.specs.World as layer
 use Rattle.cutting.specs.World.{Did, here, Line, Shared, World, Call, hand, asks, call, calls, Ready, AllFit}
 use Rattle.cutting.proofs.World.{Well, play-all, handed-play}
-use Rattle.replies.specs.Replies.{putValue, putValueReply}
+use Rattle.replies.specs.Lent.{Lent, withRecords}
+use Rattle.message.specs.Kinds.{putValue}
+use Rattle.replies.specs.Replies.{putValueReply}
 use Rattle.replies.specs.declared.Answered.{Answered}
 use Rattle.replies.specs.declared.Answered.the-variants as told
 use Rattle.replies.specs.Verdicts.{Verdict, replies, refuses, echoed, putVerdict, Dealt, byVerdict}
@@ -46,8 +48,8 @@ use Rattle.node.specs.declared.Answer.the-variants.{Reply, Heard, Refused, More
 use Rattle.node.specs.declared.Gate.{Gate}
 use Rattle.node.specs.declared.Gate.the-variants.{Closed}
 use Rattle.node.specs.declared.Sight.{Sight}
-use Rattle.node.specs.Node.{Dealing, byAnswer, served, heardAs, heard, dealingOf, Out, byEvent, takenOf, gateOf, unless, receiveOf}
-use Rattle.demands.specs.Box.{Box, Who, connOf, bodyIn, offerBy, offerIn, noted, Turn, Ask, put, Fits, dealing, happens, box, Own, Allowed, Good}
+use Rattle.node.specs.Node.{linked, Dealing, byAnswer, served, heardAs, heard, dealingOf, Out, byEvent, takenOf, gateOf, unless, receiveOf}
+use Rattle.demands.specs.Box.{Box, Who, connOf, linkOf, bodyIn, offerBy, offerIn, noted, Turn, Ask, put, Fits, dealing, happens, box, Own, Allowed, Good}
 use Rattle.demands.specs.Demands.{since, receiveOn, completed, Sent, Accepts, typed, sent, Finds}
 use Rattle.demands.proofs.Connections.{gate-shut, gate-open}
 use Rattle.demands.proofs.Deal.{deal-is}
@@ -73,8 +75,8 @@ module _ (me : Peer) (k key v : List ℕ) (f : inForm k ≡ true) where
         end = w .1;
         find = found-by ∙ w .2;
         there = w .3;
-        asked = λ who body t y m l d e q h. subst (λ (x : List ℕ). Serves (dealOf me who body t k y) y x v) q
-            (held-is-served me who body t k y v m l d e f (ap (got k) q ∙ g) h);
+        asked = λ who body l m z d e q h. subst (λ (x : List ℕ). Serves (dealOf me who body (withRecords l k)) (l .reply) x v) q
+            (held-is-served me who body (withRecords l k) v m z d e f (ap (got k) q ∙ g) h);
       }
 
 -- ---- a PUT_VALUE that gets a reply was taken by the store
@@ -97,79 +99,79 @@ put-taken key r k h = go (same (r .key) key) refl (offerAnswer k key (r .value))
     go false e x q z = absurd z
 
 module _ (me : Peer) where
-  put-verdict : (who : Peer) (m : Message) (t k : List ℕ) (r : Record) → m .kind ≡ putValue → m .held ≡ some r → verdictOf me who m t k ≡ putVerdict (m .key) (some r) k
+  put-verdict : (who : Peer) (m : Message) (l : Lent) (r : Record) → m .kind ≡ putValue → m .held ≡ some r → verdictOf me who m l ≡ putVerdict (m .key) (some r) (l .records)
   unfolding verdictOf
-  put-verdict who m t k r e h = cond-yes _ _ _ (ap (λ (z : ℕ). eqb z putValue) e) ∙ ap (λ (x : Option Record). putVerdict (m .key) x k) h
+  put-verdict who m l r e h = cond-yes _ _ _ (ap (λ (z : ℕ). eqb z putValue) e) ∙ ap (λ (x : Option Record). putVerdict (m .key) x (l .records)) h
 
   no-heard : (j n : ℕ) (r : Reading) → heardAs j r ≡ Reply n → ⊥
   no-heard j n (reading.Whole f) e = let z : _≡_ {A = ℕ} 0 1 = cc in omega arith
   no-heard j n (reading.Refused q) e = let z : _≡_ {A = ℕ} 0 1 = cc in omega arith
 
-  was-told : (x : Answered) (d : Dealt) (c : Conn) (t : List ℕ) (n : ℕ) → byAnswer x d me c t .answer ≡ Reply n → Told x
-  was-told (told.Reply j) d c t n e = tt
-  was-told (told.Refused r) d c t n e = let z : _≡_ {A = ℕ} 0 1 = cc in omega arith
+  was-told : (x : Answered) (d : Dealt) (c : Conn) (l : Lent) (n : ℕ) → byAnswer x (d .left) me c l .answer ≡ Reply n → Told x
+  was-told (told.Reply j) d c l n e = tt
+  was-told (told.Refused r) d c l n e = let z : _≡_ {A = ℕ} 0 1 = cc in omega arith
 
-  by-verdict : (v : Verdict) (k next y : List ℕ) → Told (byVerdict v k next y .told) → Replied v
-  by-verdict (replies m) k next y h = tt
-  by-verdict (refuses r) k next y h = h
+  by-verdict : (v : Verdict) (next l : Lent) → Told (byVerdict v next l .told) → Replied v
+  by-verdict (replies m) next l h = tt
+  by-verdict (refuses r) next l h = h
 
-  by-reading : (r : Reading) (who : Peer) (m : Message) (t k y : List ℕ) → Told (byReading r me who m t k y .told) → (f : Fields) × (r ≡ reading.Whole f) × Replied (verdictOf me who m t k)
-  by-reading (reading.Refused q) who m t k y h = absurd h
-  by-reading (reading.Whole f) who m t k y h = (f, refl, by-verdict (verdictOf me who m t k) k _ y h)
+  by-reading : (r : Reading) (who : Peer) (m : Message) (l : Lent) → Told (byReading r me who m l .told) → (f : Fields) × (r ≡ reading.Whole f) × Replied (verdictOf me who m l)
+  by-reading (reading.Refused q) who m l h = absurd h
+  by-reading (reading.Whole f) who m l h = (f, refl, by-verdict (verdictOf me who m l) _ l h)
 
   module _ (w : Who) (a : Box) (body : List ℕ) (n : ℕ) (e : dealing me w a body .answer ≡ Reply n) where
     serves : w .asking ≡ false
     unfolding dealingOf heard
     serves = go (w .asking) refl e
       where
-        go : (b : Bool) → w .asking ≡ b → cond b (heard body (a .contacts) (a .records) (a .reply)) (served me (connOf w fresh) body (a .contacts) (a .records) (a .reply)) .answer ≡ Reply n → w .asking ≡ false
+        go : (b : Bool) → w .asking ≡ b → cond b (heard body (a .lent)) (served me (connOf w fresh) body (a .lent)) .answer ≡ Reply n → w .asking ≡ false
         go true q h = absurd (no-heard (length body) n (readingOf body) h)
         go false q h = q
 
-    tells : Told (dealOf me (w .peer) body (a .contacts) (a .records) (a .reply) .told)
+    tells : Told (dealOf me (w .peer) body (a .lent) .told)
     unfolding dealingOf served
     tells =
-        let d : Dealt = dealOf me (w .peer) body (a .contacts) (a .records) (a .reply) in
-        was-told (d .told) d (connOf w fresh) (a .contacts) n (ap (λ (x : Dealing). x .answer) (sym (cond-no (w .asking) _ _ serves)) ∙ e)
+        let d : Dealt = dealOf me (w .peer) body (a .lent) in
+        was-told (d .told) d (connOf w fresh) (a .lent) n (ap (λ (x : Dealing). x .answer) (sym (cond-no (w .asking) _ _ serves)) ∙ e)
 
-    reads : (f : Fields) × (readingOf body ≡ reading.Whole f) × Replied (verdictOf me (w .peer) (messageOf body) (a .contacts) (a .records))
+    reads : (f : Fields) × (readingOf body ≡ reading.Whole f) × Replied (verdictOf me (w .peer) (messageOf body) (a .lent))
     reads =
-        by-reading (readingOf body) (w .peer) (messageOf body) (a .contacts) (a .records) (a .reply)
-        (subst (λ (d : Dealt). Told (d .told)) (deal-is me (w .peer) body (a .contacts) (a .records) (a .reply)) tells)
+        by-reading (readingOf body) (w .peer) (messageOf body) (a .lent)
+        (subst (λ (d : Dealt). Told (d .told)) (deal-is me (w .peer) body (a .lent)) tells)
 
     module _ (r : Record) (q : messageOf body .kind ≡ putValue) (h : messageOf body .held ≡ some r) where
       abbrev offer : Offer
       offer = record { key = messageOf body .key; value = r .value }
 
-      takes : (same (r .key) (messageOf body .key) ≡ true) × (offerAnswer (a .records) (messageOf body .key) (r .value) ≡ store.Taken)
-      takes = put-taken (messageOf body .key) r (a .records) (subst Replied (put-verdict (w .peer) (messageOf body) (a .contacts) (a .records) r q h) (reads .2))
+      takes : (same (r .key) (messageOf body .key) ≡ true) × (offerAnswer (a .lent .records) (messageOf body .key) (r .value) ≡ store.Taken)
+      takes = put-taken (messageOf body .key) r (a .lent .records) (subst Replied (put-verdict (w .peer) (messageOf body) (a .lent) r q h) (reads .2))
 
       offers : offerIn w body ≡ offer ∷ []
       offers =
           cond-no (w .asking) _ _ serves ∙ ap₂ (λ (x : Reading) (y : Option Record). offerBy x (messageOf body) y) (reads .1) h
           ∙ cond-yes _ _ _ (ap (λ (z : ℕ). eqb z putValue) q) ∙ cond-yes _ _ _ (takes .0)
 
-      accepted : inForm (a .records) ≡ true → accepts (a .records) offer ≡ true
+      accepted : inForm (a .lent .records) ≡ true → accepts (a .lent .records) offer ≡ true
       unfolding accepts taken
-      accepted f = ap taken (put-is (a .records) (messageOf body .key) (r .value) f .0 ∙ takes .1)
+      accepted f = ap taken (put-is (a .lent .records) (messageOf body .key) (r .value) f .0 ∙ takes .1)
 
       one : (k : List ℕ) (o : Offer) → after k (o ∷ []) ≡ offered k o
       unfolding after
       one k o = refl
 
-      noted-records : (i at : ℕ) (x : Answer) (s : Sight) (b t k y : List ℕ) (os : List Offer) → noted i at x s b t k y os a .records ≡ k
-      noted-records i at (Reply j) s b t k y os = refl
-      noted-records i at (Heard j f) s b t k y os = refl
-      noted-records i at (Refused z) s b t k y os = refl
-      noted-records i at More s b t k y os = refl
+      noted-records : (i at : ℕ) (x : Answer) (s : Sight) (b : List ℕ) (l : Lent) (os : List Offer) → noted i at x s b l os a .lent .records ≡ l .records
+      noted-records i at (Reply j) s b l os = refl
+      noted-records i at (Heard j f) s b l os = refl
+      noted-records i at (Refused z) s b l os = refl
+      noted-records i at More s b l os = refl
 
-      message-got : Allowed me w → Good me a → (i at : ℕ) → got (happens me i w a (message at body) .records) (messageOf body .key) ≡ Has (r .value)
+      message-got : Allowed me w → Good me a → (i at : ℕ) → got (happens me i w a (message at body) .lent .records) (messageOf body .key) ≡ Has (r .value)
       message-got p g i at =
           let d : Dealing = dealing me w a body in
           let c = dealing-keeps me (λ k os. Unit {0}) (record { on = λ k os ps x. tt }) w a body p g in
           ap (λ (x : List ℕ). got x (messageOf body .key))
-          (noted-records i at (d .answer) (d .sight) body (d .contacts) (d .records) (d .reply) (offerIn w body) ∙ c .records ∙ ap (after (a .records)) offers ∙ one (a .records) offer)
-          ∙ step-taken (messageOf body .key) (a .records) offer refl (accepted (g .records))
+          (noted-records i at (d .answer) (d .sight) body (d .left) (offerIn w body) ∙ c .records ∙ ap (after (a .lent .records)) offers ∙ one (a .lent .records) offer)
+          ∙ step-taken (messageOf body .key) (a .lent .records) offer refl (accepted (g .records))
 
   -- ---- a piece that one receive takes whole: what its event does
   pub hand-state : (w : Own me) (s : World Who Box Ask) → Ready (Allowed me) (Good me) s → (i : ℕ) (p : List ℕ) → isShut (s .lines i .framing) ≡ false
@@ -197,19 +199,16 @@ module _ (me : Peer) where
     q = runOf (l .framing) (l .buffer) p
 
     abbrev event : stream.Answer → Out
-    event x = byEvent x me (connOf (l .who) (q .got .framing)) (q .got .taken) (q .buffer) (a .contacts) (a .records) (a .reply)
+    event x = byEvent x me (linked (connOf (l .who) (q .got .framing)) (q .buffer)) (q .got .taken) (a .lent)
 
     not-shut : isShut (l .framing) ≡ false
     unfolding receiveOf
     not-shut = to-false (isShut (l .framing)) (λ e. closed (gate-shut me l a (r .lines i) e (r .good)))
       where
-        c : Conn
-        c = connOf (l .who) (l .framing)
-
-        closed : gateOf me c (l .buffer) (a .contacts) (a .records) (a .reply) ≡ Closed IsShut → ⊥
+        closed : gateOf me (linkOf l) (a .lent) ≡ Closed IsShut → ⊥
         closed e =
             let y : Refused IsShut ≡ Reply (h .size) =
-            ap (λ (g : Gate). unless g c (l .buffer) (a .contacts) (a .records) (a .reply) (takenOf me c (l .buffer) p (a .contacts) (a .records) (a .reply)) .got .answer) (sym e) ∙ h .reply in
+            ap (λ (g : Gate). unless g (linkOf l) (a .lent) (takenOf me (linkOf l) p (a .lent)) .got .answer) (sym e) ∙ h .reply in
             let z : _≡_ {A = ℕ} 0 1 = cc in omega arith
 
     runs : framedOf (l .framing) (l .buffer) p ≡ q
@@ -217,16 +216,16 @@ module _ (me : Peer) where
 
     gives : (x : stream.Answer) → q .got .answer ≡ x → receiveOn me s i p ≡ event x
     gives x e =
-        let-through me l p (a .contacts) (a .records) (a .reply) (gate-open me w l a (r .lines i) not-shut (r .good))
-        ∙ runs-as me l p (a .contacts) (a .records) (a .reply) q runs ∙ ap event e
+        let-through me l p (a .lent) (gate-open me w l a (r .lines i) not-shut (r .good))
+        ∙ runs-as me l p (a .lent) q runs ∙ ap event e
 
     answers : (x : stream.Answer) → q .got .answer ≡ x → event x .got .answer ≡ Reply (h .size)
     answers x e = ap (λ (o : Out). o .got .answer) (sym (gives x e)) ∙ h .reply
 
-    sent-got : got (call (box me) s (hand i p) .shared .state .records) key ≡ Has v
+    sent-got : got (call (box me) s (hand i p) .shared .state .lent .records) key ≡ Has v
     sent-got = go (q .got .answer) refl
       where
-        go : (x : stream.Answer) → q .got .answer ≡ x → got (call (box me) s (hand i p) .shared .state .records) key ≡ Has v
+        go : (x : stream.Answer) → q .got .answer ≡ x → got (call (box me) s (hand i p) .shared .state .lent .records) key ≡ Has v
         go framed.More e = absurd (let y = answers framed.More e in let z : _≡_ {A = ℕ} 0 1 = cc in omega arith)
         go (framed.Refused x) e = absurd (let y = answers (framed.Refused x) e in let z : _≡_ {A = ℕ} 0 1 = cc in omega arith)
         go (framed.Message n) e =
@@ -235,24 +234,24 @@ module _ (me : Peer) where
             let o = gives (framed.Message n) e in
             let t : q .got .taken ≡ length p = ap (λ (x : Out). x .got .taken) (sym o) ∙ h .all in
             let y : dealing me (l .who) a (take n (q .buffer)) .answer ≡ Reply (h .size) =
-            ap (λ (x : Dealing). x .answer) (sym (dealing-any me (l .who) (q .got .framing) (take n (q .buffer)) (a .contacts) (a .records) (a .reply))) ∙ answers (framed.Message n) e in
+            ap (λ (x : Dealing). x .answer) (sym (dealing-any me (l .who) (q .got .framing) (take n (q .buffer)) (a .lent))) ∙ answers (framed.Message n) e in
             let m : completed me s i p ≡ messageOf (take n (q .buffer)) =
             ap₂ (λ (x : stream.Answer) (b : List ℕ). messageOf (bodyIn x b)) (ap (λ (x : streams.Out). x .got .answer) runs ∙ e) (ap (λ (x : Out). x .buffer) o) in
             let k : messageOf (take n (q .buffer)) .key ≡ key = ap (λ (x : Message). x .key) (sym m) ∙ h .under in
-            ap (λ (x : Box). got (x .records) key) (hand-state w s r i p not-shut (framed.Message n) e t) ∙ ap (got (happens me i (l .who) a (message at body) .records)) (sym k)
+            ap (λ (x : Box). got (x .lent .records) key) (hand-state w s r i p not-shut (framed.Message n) e t) ∙ ap (got (happens me i (l .who) a (message at body) .lent .records)) (sym k)
             ∙ message-got (l .who) a body (h .size) y (h .what) (ap (λ (x : Message). x .kind) (sym m) ∙ h .kind) (ap (λ (x : Message). x .held) (sym m) ∙ h .held)
             (r .lines i .peer not-shut) (r .good) i at
             ∙ ap Has (h .says)
 
   -- ---- any call that accepts a record
   module _ (w : Own me) (s : World Who Box Ask) (r : Ready (Allowed me) (Good me) s) where
-    typed-got : (key v : List ℕ) → putAnswer (s .shared .state .records) key v ≡ store.Taken → got (call (box me) s (asks (put key v)) .shared .state .records) key ≡ Has v
+    typed-got : (key v : List ℕ) → putAnswer (s .shared .state .lent .records) key v ≡ store.Taken → got (call (box me) s (asks (put key v)) .shared .state .lent .records) key ≡ Has v
     unfolding call accepts offered taken
-    typed-got key v e = step-taken key (s .shared .state .records) (record { key = key; value = v }) refl (ap taken e)
+    typed-got key v e = step-taken key (s .shared .state .lent .records) (record { key = key; value = v }) refl (ap taken e)
 
-    accepted-got : (key v : List ℕ) (c : Call Turn Ask) → Accepts me s key v c → got (call (box me) s c .shared .state .records) key ≡ Has v
-    accepted-got key v c (typed q e) = ap (λ (x : Call Turn Ask). got (call (box me) s x .shared .state .records) key) q ∙ typed-got key v e
-    accepted-got key v c (sent i p q h) = ap (λ (x : Call Turn Ask). got (call (box me) s x .shared .state .records) key) q ∙ sent-got w s r i p key v h
+    accepted-got : (key v : List ℕ) (c : Call Turn Ask) → Accepts me s key v c → got (call (box me) s c .shared .state .lent .records) key ≡ Has v
+    accepted-got key v c (typed q e) = ap (λ (x : Call Turn Ask). got (call (box me) s x .shared .state .lent .records) key) q ∙ typed-got key v e
+    accepted-got key v c (sent i p q h) = ap (λ (x : Call Turn Ask). got (call (box me) s x .shared .state .lent .records) key) q ∙ sent-got w s r i p key v h
 
     accepted-ready : (key v : List ℕ) (c : Call Turn Ask) → Accepts me s key v c → Ready (Allowed me) (Good me) (call (box me) s c)
     accepted-ready key v c (typed q e) = subst (λ (x : Call Turn Ask). Ready (Allowed me) (Good me) (call (box me) s x)) (sym q) (call-ready (box me) (sound me w) s (asks (put key v)) r tt)
@@ -260,40 +259,40 @@ module _ (me : Peer) where
 
     -- ---- the store after any calls is what was offered since made of it
     pub made : (cs : List (Call Turn Ask)) → AllFit Fits cs
-        → calls (box me) s cs .shared .state .records ≡ after (s .shared .state .records) (since s (calls (box me) s cs))
+        → calls (box me) s cs .shared .state .lent .records ≡ after (s .shared .state .lent .records) (since s (calls (box me) s cs))
     unfolding after
     made cs f =
-        let k : List ℕ = s .shared .state .records in
+        let k : List ℕ = s .shared .state .lent .records in
         let os : List Offer = s .shared .state .offers in
         let begun : Ready (Allowed me) (Held me (MadeSince k os)) s = record { lines = r .lines; good = record { good = r .good; offers = ([], sym (append-nil os), refl) } } in
         let h = calls-ready (box me) (sound-held me w (MadeSince k os) (made-lasting k os)) cs s begun f .good .offers in
         let e : since s (calls (box me) s cs) ≡ h .0 = ap (drop (length os)) (h .1) ∙ drop-at os (h .0) (length os) refl in
         h .2 ∙ ap (after k) (sym e)
 
-    form : (cs : List (Call Turn Ask)) → AllFit Fits cs → inForm (calls (box me) s cs .shared .state .records) ≡ true
+    form : (cs : List (Call Turn Ask)) → AllFit Fits cs → inForm (calls (box me) s cs .shared .state .lent .records) ≡ true
     form cs f = calls-ready (box me) (sound me w) cs s r f .good .records
 
-    got-lasts : (cs : List (Call Turn Ask)) → AllFit Fits cs → (key v : List ℕ) → got (s .shared .state .records) key ≡ Has v
-        → Unbeaten key v (s .shared .state .records) (since s (calls (box me) s cs)) → Finds me (calls (box me) s cs .shared .state .records) key v
+    got-lasts : (cs : List (Call Turn Ask)) → AllFit Fits cs → (key v : List ℕ) → got (s .shared .state .lent .records) key ≡ Has v
+        → Unbeaten key v (s .shared .state .lent .records) (since s (calls (box me) s cs)) → Finds me (calls (box me) s cs .shared .state .lent .records) key v
     got-lasts cs f key v g u =
         got-finds me _ key v (form cs f)
-        (ap (λ (x : List ℕ). got x key) (made cs f) ∙ holds-on key v (s .shared .state .records) (since s (calls (box me) s cs)) g u)
+        (ap (λ (x : List ℕ). got x key) (made cs f) ∙ holds-on key v (s .shared .state .lent .records) (since s (calls (box me) s cs)) g u)
 
-    pub lasts : (cs : List (Call Turn Ask)) → AllFit Fits cs → (key v : List ℕ) → Finds me (s .shared .state .records) key v
-        → Unbeaten key v (s .shared .state .records) (since s (calls (box me) s cs)) → Finds me (calls (box me) s cs .shared .state .records) key v
-    lasts cs f key v h u = got-lasts cs f key v (finds-got me (s .shared .state .records) key v (r .good .records) h) u
+    pub lasts : (cs : List (Call Turn Ask)) → AllFit Fits cs → (key v : List ℕ) → Finds me (s .shared .state .lent .records) key v
+        → Unbeaten key v (s .shared .state .lent .records) (since s (calls (box me) s cs)) → Finds me (calls (box me) s cs .shared .state .lent .records) key v
+    lasts cs f key v h u = got-lasts cs f key v (finds-got me (s .shared .state .lent .records) key v (r .good .records) h) u
 
-    pub outranked-by-none : (cs : List (Call Turn Ask)) → AllFit Fits cs → (key v : List ℕ) → Accepted key v (s .shared .state .records) (since s (calls (box me) s cs))
-        → (u : List ℕ) × Finds me (calls (box me) s cs .shared .state .records) key u × (outranks v u ≡ false)
+    pub outranked-by-none : (cs : List (Call Turn Ask)) → AllFit Fits cs → (key v : List ℕ) → Accepted key v (s .shared .state .lent .records) (since s (calls (box me) s cs))
+        → (u : List ℕ) × Finds me (calls (box me) s cs .shared .state .lent .records) key u × (outranks v u ≡ false)
     outranked-by-none cs f key v h =
-        let x = highest key v (s .shared .state .records) (since s (calls (box me) s cs)) h in
+        let x = highest key v (s .shared .state .lent .records) (since s (calls (box me) s cs)) h in
         (x .0, got-finds me _ key (x .0) (form cs f) (ap (λ (y : List ℕ). got y key) (made cs f) ∙ x .1), x .2)
 
   pub stays : (w : Own me) (s : World Who Box Ask) → Ready (Allowed me) (Good me) s → (before : List (Call Turn Ask)) → AllFit Fits before → (c : Call Turn Ask) (key v : List ℕ)
       → Accepts me (calls (box me) s before) key v c → (later : List (Call Turn Ask)) → AllFit Fits later
       → let now = call (box me) (calls (box me) s before) c in
       let end = calls (box me) now later in
-      Unbeaten key v (now .shared .state .records) (since now end) → Finds me (end .shared .state .records) key v
+      Unbeaten key v (now .shared .state .lent .records) (since now end) → Finds me (end .shared .state .lent .records) key v
   stays w s r before b c key v h later f u =
       let s₁ : World Who Box Ask = calls (box me) s before in
       let r₁ : Ready (Allowed me) (Good me) s₁ = calls-ready (box me) (sound me w) before s r b in

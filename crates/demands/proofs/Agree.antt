@@ -14,6 +14,7 @@ use borrow.Author.Tests.{eqb-true}
 use Rattle.octets.specs.Octets.{same}
 use Rattle.octets.proofs.Bools.{cond-ind, cond-yes, cond-no, either}
 use Rattle.octets.proofs.Strings.{same-eq, same-yes}
+use Rattle.limits.specs.Limits.{mostBody}
 use Rattle.refusal.specs.declared.Refusal.{Refusal}
 use Rattle.refusal.specs.declared.Refusal.the-variants.{NoRecordSlot}
 use Rattle.peer.specs.declared.Peer.{Peer}
@@ -24,7 +25,6 @@ use Rattle.recipe.specs.Recipe.{isRecipe}
 use Rattle.records_history.specs.History.{Offer, got, offered, after}
 use Rattle.records_history.specs.Agree.{NoRecords, SameSet, HoldSame, IsOffered, Highest, Never11 as NoOffer11}
 use Rattle.records_history.proofs.Agree.{never-more, through, agreement}
-use Rattle.message.specs.Limits.{mostBody}
 use Rattle.message.specs.Message.{Record, Message, messageOf, wellMessage, decode}
 use Rattle.message.specs.View.{readingOf}
 use Rattle.message.specs.declared.Reading.{Reading}
@@ -41,7 +41,9 @@ use Rattle.cutting.specs.World.{Did, here, Line, Shared, World, Call, hand, doe
 use Rattle.cutting.proofs.World.{Well}
 use Rattle.cutting.proofs.Once.{no-call}
 use Rattle.cutting.proofs.Kept.{message-fits}
-use Rattle.replies.specs.Replies.{putValue, putValueReply}
+use Rattle.replies.specs.Lent.{Lent, withRecords}
+use Rattle.message.specs.Kinds.{putValue}
+use Rattle.replies.specs.Replies.{putValueReply}
 use Rattle.replies.specs.declared.Answered.the-variants as told
 use Rattle.replies.specs.Verdicts.{Dealt, byVerdict, echoed}
 use Rattle.answer.specs.Answers.{dealOf}
@@ -99,19 +101,19 @@ module _ (w : Who) (body : List ℕ) where
 
 -- ---- a message that isn't answered 11 offers nothing that the store answers so
 module _ (me : Peer) (w : Who) (a : Box) (body : List ℕ) (g : Good me a) where
-  dealt-11 : (key value : List ℕ) → length body ≤ mostBody → Sends w body key value → putAnswer (a .records) key value ≡ store.Refused NoRecordSlot
+  dealt-11 : (key value : List ℕ) → length body ≤ mostBody → Sends w body key value → putAnswer (a .lent .records) key value ≡ store.Refused NoRecordSlot
       → dealing me w a body .answer ≡ Refused NoRecordSlot
   dealt-11 key value l s e =
       let says : Message = s .says in
-      let d : dealOf me (w .peer) body (a .contacts) (a .records) (a .reply) .told ≡ told.Refused NoRecordSlot =
+      let d : dealOf me (w .peer) body (a .lent) .told ≡ told.Refused NoRecordSlot =
       ap (λ (x : Dealt). x .told)
-      (sent-as-typed me (w .peer) body (a .contacts) (a .records) (a .reply) says (record { key = key; value = value }) l (s .reads) (s .kind) (s .held) (sym (s .under)) (g .records)
-      ∙ ap (λ (x : stored.Answer). byVerdict (echoed x (putValueReply (says .key) value)) (a .records) (putAfter (a .records) (says .key) value) (a .reply)) (ap (λ (z : List ℕ). putAnswer (a .records) z value) (s .under) ∙ e)) in
-      ap (λ (x : Dealing). x .answer) (message-done .refuses me (connOf w fresh) body (a .contacts) (a .records) (a .reply) NoRecordSlot (s .side) d)
+      (sent-as-typed me (w .peer) body (a .lent) says (record { key = key; value = value }) l (s .reads) (s .kind) (s .held) (sym (s .under)) (g .records)
+      ∙ ap (λ (x : stored.Answer). byVerdict (echoed x (putValueReply (says .key) value)) (withRecords (a .lent) (putAfter (a .lent .records) (says .key) value)) (a .lent)) (ap (λ (z : List ℕ). putAnswer (a .lent .records) z value) (s .under) ∙ e)) in
+      ap (λ (x : Dealing). x .answer) (message-done .refuses me (connOf w fresh) body (a .lent) NoRecordSlot (s .side) d)
 
-  dealing-never : (dealing me w a body .answer ≡ Refused NoRecordSlot → ⊥) → NoOffer11 (a .records) (offerIn w body)
+  dealing-never : (dealing me w a body .answer ≡ Refused NoRecordSlot → ⊥) → NoOffer11 (a .lent .records) (offerIn w body)
   unfolding NoOffer11
-  dealing-never h = offer-ind w body (NoOffer11 (a .records)) tt (λ key value l s. ((λ e. h (dealt-11 key value l s e)), tt))
+  dealing-never h = offer-ind w body (NoOffer11 (a .lent .records)) tt (λ key value l s. ((λ e. h (dealt-11 key value l s e)), tt))
 
 -- ---- the log
 never-parts : (es fs : List Entry) → Never11 (es ++ fs) → Never11 es × Never11 fs
@@ -126,13 +128,13 @@ record Tidy (me : Peer) (s a : Box) : Type 0 where
   made : List Offer
   log : a .log ≡ s .log ++ said
   offers : a .offers ≡ s .offers ++ made
-  records : a .records ≡ after (s .records) made
-  never : Never11 said → NoOffer11 (s .records) made
+  records : a .lent .records ≡ after (s .lent .records) made
+  never : Never11 said → NoOffer11 (s .lent .records) made
 
 module _ (me : Peer) (own : Own me) (s : Box) where
   -- lines of the log more, and offers of which the store answers none 11 unless a line says so
-  on : (a b : Box) (es : List Entry) (os : List Offer) → Tidy me s a → Good me b → b .log ≡ a .log ++ es → b .offers ≡ a .offers ++ os → b .records ≡ after (a .records) os
-      → (Never11 es → NoOffer11 (a .records) os) → Tidy me s b
+  on : (a b : Box) (es : List Entry) (os : List Offer) → Tidy me s a → Good me b → b .log ≡ a .log ++ es → b .offers ≡ a .offers ++ os → b .lent .records ≡ after (a .lent .records) os
+      → (Never11 es → NoOffer11 (a .lent .records) os) → Tidy me s b
   on a b es os t g l o r n =
       record {
         good = g;
@@ -140,28 +142,28 @@ module _ (me : Peer) (own : Own me) (s : Box) where
         made = t .made ++ os;
         log = l ∙ ap (λ (x : List Entry). x ++ es) (t .log) ∙ append-assoc (s .log) (t .said) es;
         offers = o ∙ ap (λ (x : List Offer). x ++ os) (t .offers) ∙ append-assoc (s .offers) (t .made) os;
-        records = r ∙ ap (λ (x : List ℕ). after x os) (t .records) ∙ sym (after-more (s .records) (t .made) os);
+        records = r ∙ ap (λ (x : List ℕ). after x os) (t .records) ∙ sym (after-more (s .lent .records) (t .made) os);
         never = λ q.
             let p = never-parts (t .said) es q in
-            never-more (s .records) (t .made) os (t .never (p .0)) (subst (λ (x : List ℕ). NoOffer11 x os) (t .records) (n (p .1)));
+            never-more (s .lent .records) (t .made) os (t .never (p .0)) (subst (λ (x : List ℕ). NoOffer11 x os) (t .records) (n (p .1)));
       }
 
   -- a line alone
-  line : (a b : Box) (e : Entry) → Tidy me s a → Good me b → b .log ≡ a .log ++ (e ∷ []) → b .offers ≡ a .offers → b .records ≡ a .records → Tidy me s b
+  line : (a b : Box) (e : Entry) → Tidy me s a → Good me b → b .log ≡ a .log ++ (e ∷ []) → b .offers ≡ a .offers → b .lent .records ≡ a .lent .records → Tidy me s b
   unfolding after NoOffer11
   line a b e t g l o r = on a b (e ∷ []) [] t g l (o ∙ sym (append-nil (a .offers))) r (λ n. tt)
 
-  noted-tidy : (i at : ℕ) (x : Answer) (y : Sight) (body c k z : List ℕ) (os : List Offer) (a : Box) → Tidy me s a → Good me (noted i at x y body c k z os a)
-      → k ≡ after (a .records) os → ((x ≡ Refused NoRecordSlot → ⊥) → NoOffer11 (a .records) os) → Tidy me s (noted i at x y body c k z os a)
+  noted-tidy : (i at : ℕ) (x : Answer) (y : Sight) (body : List ℕ) (l : Lent) (os : List Offer) (a : Box) → Tidy me s a → Good me (noted i at x y body l os a)
+      → l .records ≡ after (a .lent .records) os → ((x ≡ Refused NoRecordSlot → ⊥) → NoOffer11 (a .lent .records) os) → Tidy me s (noted i at x y body l os a)
   unfolding Never11
-  noted-tidy i at (Reply n) y body c k z os a t g r q = on a _ _ os t g refl refl r (λ _. q (λ e. let w : _≡_ {A = ℕ} 0 1 = cc in omega arith))
-  noted-tidy i at (Heard n f) y body c k z os a t g r q = on a _ _ os t g refl refl r (λ _. q (λ e. let w : _≡_ {A = ℕ} 0 1 = cc in omega arith))
-  noted-tidy i at (Refused j) y body c k z os a t g r q =
+  noted-tidy i at (Reply n) y body l os a t g r q = on a _ _ os t g refl refl r (λ _. q (λ e. let w : _≡_ {A = ℕ} 0 1 = cc in omega arith))
+  noted-tidy i at (Heard n f) y body l os a t g r q = on a _ _ os t g refl refl r (λ _. q (λ e. let w : _≡_ {A = ℕ} 0 1 = cc in omega arith))
+  noted-tidy i at (Refused j) y body l os a t g r q =
       on a _ (box.event i at (box.refused j) ∷ []) os t g refl refl r (λ n. q (λ e. n .0 (agree.message i at (ap (λ (x : Refusal). box.event i at (box.refused x)) (the e)))))
     where
       the : {u v : Refusal} → Refused u ≡ Refused v → u ≡ v
       the e = cc
-  noted-tidy i at More y body c k z os a t g r q = on a _ [] os t g (sym (append-nil (a .log))) refl r (λ _. q (λ e. let w : _≡_ {A = ℕ} 0 1 = cc in omega arith))
+  noted-tidy i at More y body l os a t g r q = on a _ [] os t g (sym (append-nil (a .log))) refl r (λ _. q (λ e. let w : _≡_ {A = ℕ} 0 1 = cc in omega arith))
 
   S : Sound (box.box me) (Allowed me) (Good me) Fits
   S = sound me own
@@ -170,7 +172,7 @@ module _ (me : Peer) (own : Own me) (s : Box) where
   happens-tidy i p a (message at body) h t =
       let d = dealing me p a body in
       let k = dealing-keeps me (λ k os. Unit {0}) (record { on = λ k os ps x. tt }) p a body h (t .good) in
-      noted-tidy i at (d .answer) (d .sight) body (d .contacts) (d .records) (d .reply) (offerIn p body) a t (S .puts i p a (message at body) h (t .good)) (k .records)
+      noted-tidy i at (d .answer) (d .sight) body (d .left) (offerIn p body) a t (S .puts i p a (message at body) h (t .good)) (k .records)
       (dealing-never me p a body (t .good))
   happens-tidy i p a (broken at r) h t = line a _ _ t (S .puts i p a (broken at r) h (t .good)) refl refl refl
 
@@ -181,7 +183,7 @@ module _ (me : Peer) (own : Own me) (s : Box) where
   asking-tidy : (a : Box) (o : Ask) → Tidy me s a → Tidy me s (asking me a o)
   unfolding after offered Never11 NoOffer11
   asking-tidy a (box.put key value) t =
-      on a _ (box.called (box.putGave (putAnswer (a .records) key value)) ∷ []) (record { key = key; value = value } ∷ []) t (S .hosts a (box.put key value) (t .good)) refl refl refl
+      on a _ (box.called (box.putGave (putAnswer (a .lent .records) key value)) ∷ []) (record { key = key; value = value } ∷ []) t (S .hosts a (box.put key value) (t .good)) refl refl refl
       (λ n. ((λ e. n .0 (agree.typed (ap (λ (x : stored.Answer). box.called (box.putGave x)) e))), tt))
   asking-tidy a (box.find key) t = line a _ _ t (S .hosts a (box.find key) (t .good)) refl refl refl
   asking-tidy a (box.seen id client addresses) t = line a _ _ t (S .hosts a (box.seen id client addresses) (t .good)) refl refl refl
@@ -233,8 +235,8 @@ tidied me own s r cs f =
 
 -- ---- a bench
 record Made (b : Bench) : Type 0 where
-  records : agree.held b ≡ after (b .start .shared .state .records) (offers b)
-  never : NoOffer11 (b .start .shared .state .records) (offers b)
+  records : agree.held b ≡ after (b .start .shared .state .lent .records) (offers b)
+  never : NoOffer11 (b .start .shared .state .lent .records) (offers b)
 
 made : (b : Bench) → Made b
 made b =
@@ -243,8 +245,8 @@ made b =
     let o : offers b ≡ t .made = added (s .offers) _ _ (t .offers) in
     let l : drop (length (s .log)) (end b .shared .state .log) ≡ t .said = ap (drop (length (s .log))) (t .log) ∙ drop-at (s .log) (t .said) (length (s .log)) refl in
     record {
-      records = t .records ∙ ap (after (s .records)) (sym o);
-      never = subst (NoOffer11 (s .records)) (sym o) (t .never (subst Never11 l (b .never)));
+      records = t .records ∙ ap (after (s .lent .records)) (sym o);
+      never = subst (NoOffer11 (s .lent .records)) (sym o) (t .never (subst Never11 l (b .never)));
     }
 
 two : (a b : Bench) → SameSet (offers a) (offers b) → HoldSame (agree.held a) (agree.held b)
@@ -252,7 +254,7 @@ two a b s =
     let m = made a in
     let n = made b in
     subst (λ (x : List ℕ). HoldSame x (agree.held b)) (sym (m .records))
-    (subst (HoldSame (after (a .start .shared .state .records) (offers a))) (sym (n .records)) (agreement .two _ _ (offers a) (offers b) (a .empty) (b .empty) s (m .never) (n .never)))
+    (subst (HoldSame (after (a .start .shared .state .lent .records) (offers a))) (sym (n .records)) (agreement .two _ _ (offers a) (offers b) (a .empty) (b .empty) s (m .never) (n .never)))
 
 found : (a b : Bench) → SameSet (offers a) (offers b) → (key v : List ℕ) → Finds (a .me) (agree.held a) key v → Finds (b .me) (agree.held b) key v
 found a b s key v f =
@@ -292,8 +294,8 @@ module _ (me : Peer) (s : World Who Box Ask) where
   turned i (box.opens id server side addresses m) = none-added (s .shared .state .offers) _ refl
   turned i box.ends = none-added (s .shared .state .offers) _ refl
 
-module _ (i at : ℕ) (s : Sight) (body t k y : List ℕ) (os : List Offer) (a : Box) where
-  pub noted-offers : (x : Answer) → noted i at x s body t k y os a .offers ≡ a .offers ++ os
+module _ (i at : ℕ) (s : Sight) (body : List ℕ) (m : Lent) (os : List Offer) (a : Box) where
+  pub noted-offers : (x : Answer) → noted i at x s body m os a .offers ≡ a .offers ++ os
   noted-offers (Reply n) = refl
   noted-offers (Heard n f) = refl
   noted-offers (Refused r) = refl
@@ -326,7 +328,7 @@ module _ (me : Peer) (own : Own me) (s : World Who Box Ask) (r : Ready (Allowed 
           let d = dealing me (l .who) (s .shared .state) body in
           added (s .shared .state .offers) _ _
           (ap (λ (x : Box). x .offers) (state (framed.Message n) e)
-          ∙ noted-offers i (l .taken + length p) (d .sight) body (d .contacts) (d .records) (d .reply) (offerIn (l .who) body) (s .shared .state) (d .answer))
+          ∙ noted-offers i (l .taken + length p) (d .sight) body (d .left) (offerIn (l .who) body) (s .shared .state) (d .answer))
 
     sent : (key value : List ℕ) → Brings l p key value → since s handed ≡ record { key = key; value = value } ∷ []
     sent key value b =

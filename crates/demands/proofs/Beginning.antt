@@ -14,7 +14,7 @@ use Rattle.place.proofs.Places.{length-placeOf, bytes-placeOf}
 use Rattle.peer.specs.declared.Peer.{Peer}
 use Rattle.peer.specs.Peers.{idFits, peerOf}
 use Rattle.peer.proofs.Meaning.{place-is, size-is, id-length, fits-least, fits-most}
-use Rattle.contacts.specs.Table.{slot, used}
+use Rattle.contacts.specs.Table.{slotSize, slot, used}
 use Rattle.contacts.specs.Form.{inForm as contactsForm}
 use Rattle.contact_table.proofs.Cuts.{mark-cut, mark-free}
 use Rattle.sightings_kept.specs.Promises.{Hashed}
@@ -80,7 +80,7 @@ begun-ready me s b =
 
 -- no slot of cleared memory is used
 cleared-hashed : (n : ℕ) → Hashed (cleared n)
-cleared-hashed n i l u = absurd (not-both (used (slot (cleared n) i)) u (mark-free (slot (cleared n) i) (sym (mark-cut (cleared n) i) ∙ zeros n (i * 616))))
+cleared-hashed n i l u = absurd (not-both (used (slot (cleared n) i)) u (mark-free (slot (cleared n) i) (sym (mark-cut (cleared n) i) ∙ zeros n (i * slotSize))))
 
 pub begun-known : (me : Peer) (s : World Who Box Ask) → Begun s → Ready (Known me) (Placed me) s
 begun-known me s b =

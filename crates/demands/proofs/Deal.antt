@@ -21,8 +21,9 @@ use Rattle.message.specs.Message.{Record, Message, messageOf, wellMessage, deco
 use Rattle.message.specs.View.{readingOf}
 use Rattle.message.specs.declared.Reading.{Reading}
 use Rattle.message.specs.declared.Reading.the-variants as reading
-use Rattle.replies.specs.Replies.{putValue}
+use Rattle.message.specs.Kinds.{putValue}
 use Rattle.replies.specs.declared.Answered.the-variants as told
+use Rattle.replies.specs.Lent.{Lent, withRecords}
 use Rattle.replies.specs.Verdicts.{Verdict, replies, refuses, echoed, putVerdict, putAfter, Dealt, byVerdict}
 use Rattle.answer.specs.Answers.{verdictOf, recordsAfter, byReading, dealOf}
 use Rattle.demands.specs.Box.{offerBy}
@@ -37,9 +38,9 @@ decoded body m e = go (wellMessage body) e
     go false q = absurd (let z : _≡_ {A = ℕ} 0 1 = cc in omega arith)
 
 -- what a request comes to
-pub deal-is : (me who : Peer) (body t k y : List ℕ) → dealOf me who body t k y ≡ byReading (readingOf body) me who (messageOf body) t k y
+pub deal-is : (me who : Peer) (body : List ℕ) (l : Lent) → dealOf me who body l ≡ byReading (readingOf body) me who (messageOf body) l
 unfolding dealOf
-deal-is me who body t k y = refl
+deal-is me who body l = refl
 
 -- ---- a refused put leaves the store
 no-refusal : {X : Type 0} {m : Message} {r : Refusal} → replies m ≡ refuses r → X
@@ -66,9 +67,10 @@ kind-refused : (b : Bool) (v w : Verdict) (k after : List ℕ) (r : Refusal) →
 kind-refused true v w k after r h e = h e
 kind-refused false v w k after r h e = refl
 
-pub verdict-refused : (me who : Peer) (m : Message) (t k : List ℕ) (r : Refusal) → verdictOf me who m t k ≡ refuses r → recordsAfter m k ≡ k
+pub verdict-refused : (me who : Peer) (m : Message) (l : Lent) (r : Refusal) → verdictOf me who m l ≡ refuses r → recordsAfter m (l .records) ≡ l .records
 unfolding verdictOf recordsAfter
-verdict-refused me who m t k r e = kind-refused (eqb (m .kind) putValue) _ _ k (putAfter (m .key) (m .held) k) r (put-refused (m .key) (m .held) k r) e
+verdict-refused me who m l r e =
+    let k = l .records in kind-refused (eqb (m .kind) putValue) _ _ k (putAfter (m .key) (m .held) k) r (put-refused (m .key) (m .held) k r) e
 
 -- ---- the records afterwards are what the offer makes of them
 put-offer : (k key v : List ℕ) → inForm k ≡ true → (b c : Bool)
@@ -89,29 +91,30 @@ unfolding recordsAfter
 after-form f m k g = records-offer f m (m .held) k g
 
 -- ---- what a request leaves, by what its verdict is
-pub record Leaves (k y : List ℕ) (os : List Offer) (d : Dealt) : Type 0 where
-  pub refused : (r : Refusal) → d .told ≡ told.Refused r → (d .records ≡ k) × (d .reply ≡ y)
-  pub offers : inForm k ≡ true → d .records ≡ after k os
-  pub room : length (d .reply) ≡ length y
+pub record Leaves (l : Lent) (os : List Offer) (d : Dealt) : Type 0 where
+  pub refused : (r : Refusal) → d .told ≡ told.Refused r → d .left ≡ l
+  pub contacts : d .left .contacts ≡ l .contacts
+  pub offers : inForm (l .records) ≡ true → d .left .records ≡ after (l .records) os
+  pub room : length (d .left .reply) ≡ length (l .reply)
 
-verdict-leaves : (v : Verdict) (k next y : List ℕ) (os : List Offer) → (inForm k ≡ true → next ≡ after k os) → ((r : Refusal) → v ≡ refuses r → next ≡ k)
-    → Leaves k y os (byVerdict v k next y)
-verdict-leaves (replies m) k next y os h g =
+verdict-leaves : (v : Verdict) (l : Lent) (next : List ℕ) (os : List Offer) → (inForm (l .records) ≡ true → next ≡ after (l .records) os)
+    → ((r : Refusal) → v ≡ refuses r → next ≡ l .records) → Leaves l os (byVerdict v (withRecords l next) l)
+verdict-leaves (replies m) l next os h g =
     record {
       refused = λ r e. absurd (let z : _≡_ {A = ℕ} 0 1 = cc in omega arith);
+      contacts = refl;
       offers = h;
-      room = length-sets y 0 (frame (encode m));
+      room = length-sets (l .reply) 0 (frame (encode m));
     }
-verdict-leaves (refuses r) k next y os h g = record { refused = λ q e. (refl, refl); offers = λ f. sym (g r refl) ∙ h f; room = refl }
+verdict-leaves (refuses r) l next os h g = record { refused = λ q e. refl; contacts = refl; offers = λ f. sym (g r refl) ∙ h f; room = refl }
 
-reading-leaves : (r : Reading) (me who : Peer) (m : Message) (t k y : List ℕ) → Leaves k y (offerBy r m (m .held)) (byReading r me who m t k y)
+reading-leaves : (r : Reading) (me who : Peer) (m : Message) (l : Lent) → Leaves l (offerBy r m (m .held)) (byReading r me who m l)
 unfolding after
-reading-leaves (reading.Refused r) me who m t k y = record { refused = λ q e. (refl, refl); offers = λ f. refl; room = refl }
-reading-leaves (reading.Whole f) me who m t k y =
-    verdict-leaves (verdictOf me who m t k) k (recordsAfter m k) y (offerBy (reading.Whole f) m (m .held)) (after-form f m k) (verdict-refused me who m t k)
+reading-leaves (reading.Refused r) me who m l = record { refused = λ q e. refl; contacts = refl; offers = λ f. refl; room = refl }
+reading-leaves (reading.Whole f) me who m l =
+    verdict-leaves (verdictOf me who m l) l (recordsAfter m (l .records)) (offerBy (reading.Whole f) m (m .held)) (after-form f m (l .records)) (verdict-refused me who m l)
 
-pub deal-leaves : (me who : Peer) (body t k y : List ℕ)
-    → Leaves k y (offerBy (readingOf body) (messageOf body) (messageOf body .held)) (dealOf me who body t k y)
-deal-leaves me who body t k y =
-    subst (Leaves k y (offerBy (readingOf body) (messageOf body) (messageOf body .held))) (sym (deal-is me who body t k y))
-    (reading-leaves (readingOf body) me who (messageOf body) t k y)
+pub deal-leaves : (me who : Peer) (body : List ℕ) (l : Lent) → Leaves l (offerBy (readingOf body) (messageOf body) (messageOf body .held)) (dealOf me who body l)
+deal-leaves me who body l =
+    subst (Leaves l (offerBy (readingOf body) (messageOf body) (messageOf body .held))) (sym (deal-is me who body l))
+    (reading-leaves (readingOf body) me who (messageOf body) l)

@@ -10,11 +10,11 @@ use lib.Dec.{eqb, ltb}
 use borrow.Author.Tests.{eq-eqb, ltb-false}
 use Rattle.octets.proofs.Bools.{cond-yes}
 use Rattle.octets.proofs.Stores.{drop-sets}
+use Rattle.limits.specs.Limits.{mostBody, leastReply}
 use Rattle.refusal.specs.declared.Refusal.the-variants.{SmallBuffer, Unwritable}
 use Rattle.peer.specs.declared.Peer.{Peer}
 use Rattle.wire.specs.Items.{minimal}
 use Rattle.wire_put.proofs.Digits.{minimal-three}
-use Rattle.message.specs.Limits.{mostBody, leastReply}
 use Rattle.message.specs.Message.{Message, encode, frame}
 use Rattle.message.specs.View.{fieldsOf}
 use Rattle.message.specs.declared.Reading.{Reading}
@@ -26,7 +26,7 @@ use Rattle.round_trip.proofs.Written.{read-written}
 use Rattle.stream.specs.declared.Framing.the-variants.{Shut}
 use Rattle.stream.specs.Stream.{fresh}
 use Rattle.cutting.specs.Frames.{message}
-use Rattle.cutting.proofs.Lists.{take-sets-first}
+use Rattle.octets.proofs.Lists.{take-sets-first}
 use Rattle.framing_back.proofs.Back.{frames-arrive}
 use Rattle.answer_promises.proofs.Promised.{replies-read-back}
 use Rattle.node.specs.declared.Answer.the-variants.{Heard}
@@ -65,14 +65,14 @@ module _ (you : Peer) (w : Who) (a : Box) (h : w .asking ≡ true) (m : Message)
   body = encode m
 
   -- a message that was written within the limits goes to the host
-  heard-dealing : dealing you w a body ≡ untouched (Heard (length body) (fieldsOf body)) (a .contacts) (a .records) (a .reply)
+  heard-dealing : dealing you w a body ≡ untouched (Heard (length body) (fieldsOf body)) (a .lent)
   unfolding dealingOf heardOf
   heard-dealing =
       cond-yes (w .asking) _ _ h
-      ∙ ap (λ (r : Reading). untouched (heardAs (length body) r) (a .contacts) (a .records) (a .reply)) (read-written m f)
+      ∙ ap (λ (r : Reading). untouched (heardAs (length body) r) (a .lent)) (read-written m f)
 
   abbrev noting : ℕ → ℕ → Dealing → Box
-  noting i at d = noted i at (d .answer) (d .sight) body (d .contacts) (d .records) (d .reply) (offerIn w body) a
+  noting i at d = noted i at (d .answer) (d .sight) body (d .left) (offerIn w body) a
 
   heard-log : (i at : ℕ) → happens you i w a (message at body) .log ≡ a .log ++ (event i at (heard body (fieldsOf body)) ∷ [])
   heard-log i at = ap (λ (d : Dealing). noting i at d .log) heard-dealing
@@ -81,8 +81,8 @@ module _ (you : Peer) (w : Who) (a : Box) (h : w .asking ≡ true) (m : Message)
   heard-inbox i at = ap (λ (d : Dealing). noting i at d .inbox i) heard-dealing ∙ cond-yes (eqb i i) body (a .inbox i) (eq-eqb i i refl)
 
 pub box-to-box : (me you : Peer) → Own me → Own you → BoxToBox me you
-box-to-box me you o u who h body t k y l n e s r i f q ps j =
-    let b = replies-read-back me who (o .roomed) h body t k y l n e in
+box-to-box me you o u who h body l room n e s r i f q ps j =
+    let b = replies-read-back me who (o .roomed) h body l room n e in
     let m : List ℕ = encode (b .says) in
     let fit : length (encode (b .says)) ≤ mostBody = omega (arith, b .short) in
     let c = frames-arrive Who Box Turn Ask (box you) (Allowed you) (Good you) Fits (sound you u) s r i f m fit ps (j ∙ b .stands) in

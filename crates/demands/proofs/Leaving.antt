@@ -7,6 +7,7 @@ use native.Mathlib.Omega.{arith}
 use lib.ListN.{length}
 use lib.Seq.{sets}
 use lib.Dec.{ltb}
+use Rattle.limits.specs.Limits.{leastReply}
 use Rattle.refusal.specs.declared.Refusal.{Refusal}
 use Rattle.refusal.specs.declared.Refusal.the-variants.{SmallBuffer, Unwritable}
 use Rattle.peer.specs.declared.Peer.{Peer}
@@ -15,7 +16,6 @@ use Rattle.records.specs.Store.{putAnswer, putAfter}
 use Rattle.records_history.specs.History.{taken}
 use Rattle.records_history.proofs.Stays.{put-refused}
 use Rattle.message.specs.Message.{Message, encode, frame}
-use Rattle.message.specs.Limits.{leastReply}
 use Rattle.pieces.specs.Writable.{writable}
 use Rattle.writer.specs.declared.Written.the-variants as writer
 use Rattle.writer.specs.Writer.{answerOf, outAfter}
@@ -46,7 +46,7 @@ unfolding lookupStart
 refused-leaves me =
     record {
       receive = receive-refused me;
-      late = λ c m bs t k y g. late me c m bs t k y g;
+      late = late me;
       calls = calls-refused;
       values = values-refused;
       put = put-leaves;

@@ -5,26 +5,26 @@ use mathlib.Core.Logic.{⊎-elim}
 use mathlib.Core.Bool.{Bool, true, false, cond, not, _||_}
 use mathlib.Core.List.{List}
 use native.Mathlib.Omega.{arith}
-use lib.Dec.{ltb}
+use lib.Dec.{ltb, leb}
 use borrow.Author.Tests.{not-true}
 use Rattle.octets.proofs.Bools.{either, not-both, cond-ind, cond-yes}
 use Rattle.refusal.specs.declared.Refusal.the-variants.{OutOfForm}
-use Rattle.place.specs.Place.{placeOf}
+use Rattle.place.specs.Place.{placeOf, bucketOf}
 use Rattle.peer.specs.declared.Peer.{Peer}
-use Rattle.peer.specs.Peers.{badPeer}
+use Rattle.peer.specs.Peers.{badPeer, peerOf}
+use Rattle.contacts.specs.Table.{slotsOf as contactSlots}
 use Rattle.contacts.specs.Form.{inForm as contactsForm}
+use Rattle.sightings.specs.Order.{freeAt, tailOf}
+use Rattle.sightings.specs.Sightings.{held, newcomer, sightingOf, fits, settlementOf, removalOf, markingOf}
 use Rattle.sightings.specs.declared.Sighting.{Sighting}
-use Rattle.sightings.specs.declared.Sighting.the-variants as sighting
-use Rattle.sightings.specs.Sightings.{held, sightingOf, fits}
-use Rattle.contact_calls.specs.declared.SeenOutcome.{SeenOutcome}
-use Rattle.contact_calls.specs.declared.SeenOutcome.the-variants as seenAnswer
-use Rattle.contact_calls.specs.declared.SettleOutcome.{SettleOutcome}
-use Rattle.contact_calls.specs.declared.SettleOutcome.the-variants as settleAnswer
-use Rattle.contact_calls.specs.declared.RemoveOutcome.{RemoveOutcome}
-use Rattle.contact_calls.specs.declared.RemoveOutcome.the-variants as removeAnswer
-use Rattle.contact_calls.specs.declared.DoubtOutcome.{DoubtOutcome}
-use Rattle.contact_calls.specs.declared.DoubtOutcome.the-variants as doubtAnswer
-use Rattle.contact_calls.specs.Calls.{outcomeOf, seenCall, settleCall, removeCall, doubtCall}
+use Rattle.sightings.specs.declared.Sighting.the-variants as seenAnswer
+use Rattle.sightings.specs.declared.Settled.{Settled}
+use Rattle.sightings.specs.declared.Settled.the-variants as settleAnswer
+use Rattle.sightings.specs.declared.Removed.{Removed}
+use Rattle.sightings.specs.declared.Removed.the-variants as removeAnswer
+use Rattle.sightings.specs.declared.Doubted.{Doubted}
+use Rattle.sightings.specs.declared.Doubted.the-variants as doubtAnswer
+use Rattle.contact_calls.specs.Calls.{seenCall, settleCall, removeCall, doubtCall}
 use Rattle.records.specs.declared.Found.{Found}
 use Rattle.records.specs.declared.Found.the-variants as findTold
 use Rattle.records.specs.Store.{inForm as recordsForm, slotsOf, slotWith, heldAt, found, findOf}
@@ -32,7 +32,8 @@ use Rattle.records_history.proofs.Stays.{never-0}
 use Rattle.lookup.specs.declared.Answer.{Answer as LookupAnswer}
 use Rattle.lookup.specs.declared.Answer.the-variants as lookupAnswer
 use Rattle.lookup.specs.Value.{Lookup, Step}
-use Rattle.lookup.specs.Lookup.{keyFits as lookupKeyFits, limitFits, idFits, marksOf, settled, begun, startOf}
+use Rattle.message.specs.Kinds.{keyFits}
+use Rattle.lookup.specs.Lookup.{limitFits, idFits, marksOf, settled, begun, startOf}
 use Rattle.lookup_marks.specs.Marks.{isOver}
 use Rattle.lookup_runs.proofs.Refusals.{refusals}
 use Rattle.lookup_runs.proofs.Theorems.{claims}
@@ -46,7 +47,6 @@ use Rattle.stream.specs.Stream as streams
 use Rattle.stream.specs.Stream.{isShut, inForm, runOf, endIn, endOf}
 use Rattle.stream.proofs.Steps.{call-runs}
 use Rattle.cutting.specs.World.{Line, Fine}
-use Rattle.replies.specs.Verdicts.{keyFits}
 use Rattle.node.specs.declared.Answer.{Answer}
 use Rattle.node.specs.declared.Answer.the-variants.{Refused}
 use Rattle.connections.specs.declared.Ended.{Ended}
@@ -56,10 +56,10 @@ use Rattle.host_calls.specs.declared.Nearby.{Nearby}
 use Rattle.connections.specs.declared.Told.{Told}
 use Rattle.connections.specs.declared.Told.the-variants as nodeTold
 use Rattle.connections.specs.Box.{ownFits, openOf, endConn}
-use Rattle.node.specs.Node.{Out, takenOf, unless, receiveOf}
+use Rattle.node.specs.Node.{linked, Out, takenOf, unless, receiveOf}
 use Rattle.host_calls.specs.Hosts.{seenOf, settleOf, removeOf, doubtOf, nearestTo, ownId, lookupStart}
 use Rattle.demands.specs.Box as box
-use Rattle.demands.specs.Box.{Box, Who, connOf, Own, Allowed, Good}
+use Rattle.demands.specs.Box.{Box, Who, connOf, linkOf, Own, Allowed, Good}
 use Rattle.demands.specs.Demands.{NeverOutOfForm}
 use Rattle.demands.proofs.Connections.{conn-form, gate-shut, gate-open}
 use Rattle.demands.proofs.Receives.{let-through, runs-as}
@@ -74,27 +74,26 @@ passes b h e = absurd (not-both b h (not-true b e))
 -- ---- receiving
 module _ (me : Peer) where
   shut-answer : (l : Line Who) (a : Box) (bs : List ℕ) → Fine (Allowed me) l → Good me a → isShut (l .framing) ≡ true
-      → AnswerAbove (receiveOf me (connOf (l .who) (l .framing)) (l .buffer) bs (a .contacts) (a .records) (a .reply) .got .answer)
+      → AnswerAbove (receiveOf me (linkOf l) bs (a .lent) .got .answer)
   unfolding receiveOf
   shut-answer l a bs f g e =
-      subst (λ (x : Gate). AnswerAbove (unless x (connOf (l .who) (l .framing)) (l .buffer) (a .contacts) (a .records) (a .reply)
-      (takenOf me (connOf (l .who) (l .framing)) (l .buffer) bs (a .contacts) (a .records) (a .reply)) .got .answer))
+      subst (λ (x : Gate). AnswerAbove (unless x (linkOf l) (a .lent) (takenOf me (linkOf l) bs (a .lent)) .got .answer))
       (sym (gate-shut me l a f e g)) (omega arith)
 
   pub open-answer : Own me → (l : Line Who) (a : Box) (bs : List ℕ) → Fine (Allowed me) l → Good me a → isShut (l .framing) ≡ false
-      → AnswerRaised (receiveOf me (connOf (l .who) (l .framing)) (l .buffer) bs (a .contacts) (a .records) (a .reply) .got .answer)
+      → AnswerRaised (receiveOf me (linkOf l) bs (a .lent) .got .answer)
   open-answer w l a bs f g e =
       let o : streams.Out = runOf (l .framing) (l .buffer) bs in
       subst (λ (x : Out). AnswerRaised (x .got .answer))
-      (sym (let-through me l bs (a .contacts) (a .records) (a .reply) (gate-open me w l a f e g)
-      ∙ runs-as me l bs (a .contacts) (a .records) (a .reply) o (call-runs (l .framing) (l .buffer) bs (f .form) (f .room) e)))
-      (event-raised me (o .got .answer) (connOf (l .who) (o .got .framing)) (o .got .taken) (o .buffer) (a .contacts) (a .records) (a .reply)
+      (sym (let-through me l bs (a .lent) (gate-open me w l a f e g)
+      ∙ runs-as me l bs (a .lent) o (call-runs (l .framing) (l .buffer) bs (f .form) (f .room) e)))
+      (event-raised me (o .got .answer) (linked (connOf (l .who) (o .got .framing)) (o .buffer)) (o .got .taken) (a .lent)
       (run-raised bs (l .framing) (l .buffer)))
 
   receive-never : Own me → (l : Line Who) (a : Box) (bs : List ℕ) → Fine (Allowed me) l → Good me a
-      → receiveOf me (connOf (l .who) (l .framing)) (l .buffer) bs (a .contacts) (a .records) (a .reply) .got .answer ≡ Refused OutOfForm → ⊥
+      → receiveOf me (linkOf l) bs (a .lent) .got .answer ≡ Refused OutOfForm → ⊥
   receive-never w l a bs f g e =
-      let x : Answer = receiveOf me (connOf (l .who) (l .framing)) (l .buffer) bs (a .contacts) (a .records) (a .reply) .got .answer in
+      let x : Answer = receiveOf me (linkOf l) bs (a .lent) .got .answer in
       let h : 1 ≤ 0 =
       subst AnswerAbove e (⊎-elim (shut-answer l a bs f g) (λ o. raised-above x (open-answer w l a bs f g o)) (either (isShut (l .framing)))) in
       omega arith
@@ -122,22 +121,22 @@ end-never : (me : Peer) (l : Line Who) → Fine (Allowed me) l → endConn me (c
 end-never me l f e = let h : 1 ≤ 0 = subst EndAbove e (end-above me l f) in omega arith
 
 -- ---- contacts
-abbrev SeenAbove : SeenOutcome → Type 0
+abbrev SeenAbove : Sighting → Type 0
 SeenAbove (seenAnswer.Moved i) = Unit {0}
 SeenAbove (seenAnswer.Joined i) = Unit {0}
 SeenAbove (seenAnswer.Probe h) = Unit {0}
 SeenAbove (seenAnswer.Refused r) = Above r
 
-abbrev SettleAbove : SettleOutcome → Type 0
+abbrev SettleAbove : Settled → Type 0
 SettleAbove settleAnswer.Kept = Unit {0}
 SettleAbove settleAnswer.Swapped = Unit {0}
 SettleAbove (settleAnswer.Refused r) = Above r
 
-abbrev RemoveAbove : RemoveOutcome → Type 0
+abbrev RemoveAbove : Removed → Type 0
 RemoveAbove removeAnswer.Gone = Unit {0}
 RemoveAbove (removeAnswer.Refused r) = Above r
 
-abbrev DoubtAbove : DoubtOutcome → Type 0
+abbrev DoubtAbove : Doubted → Type 0
 DoubtAbove doubtAnswer.Marked = Unit {0}
 DoubtAbove (doubtAnswer.Refused r) = Above r
 
@@ -150,11 +149,12 @@ unfolding openOf
 open-above me id server asking addresses =
     cond-ind (λ (o : Opened). ToldAbove (o .told)) (not (ownFits me) || badPeer (me .place) id) _ _ (λ e. omega arith) (λ e. tt)
 
-outcome-above : (s : Sighting) → SeenAbove (outcomeOf s)
-outcome-above (sighting.Moved i) = tt
-outcome-above (sighting.Joined i) = tt
-outcome-above (sighting.Full h) = tt
-outcome-above sighting.NoSlot = omega arith
+sighting-above : (t ours : List ℕ) (p : Peer) → SeenAbove (sightingOf t ours p)
+unfolding sightingOf newcomer
+sighting-above t ours p =
+    cond-ind SeenAbove (held t (p .place)) _ _ (λ e. tt)
+    (λ e. cond-ind SeenAbove (leb 20 (tailOf t ours (bucketOf (p .place) ours))) _ _ (λ e. tt)
+    (λ e. cond-ind SeenAbove (ltb (freeAt t) (contactSlots t)) _ _ (λ e. tt) (λ e. omega arith)))
 
 -- ---- lookups
 abbrev LookupAbove : LookupAnswer → Type 0
@@ -171,43 +171,43 @@ settled-above l =
     cond-ind (λ (s : Step). LookupAbove (s .answer)) (isOver (marksOf l)) _ _ (λ e. cond-ind LookupAbove (l .turned) _ _ (λ e. tt) (λ e. tt)) (λ e. tt)
 
 module _ (me : Peer) (t : List ℕ) (form : contactsForm t (me .place) ≡ true) where
-  seen-above : (id : List ℕ) (client : Bool) → SeenAbove (seenOf me t id client)
+  seen-above : (id : List ℕ) (client : Bool) (addresses : List ℕ) → SeenAbove (seenOf me t id client addresses)
   unfolding seenOf seenCall
-  seen-above id client =
+  seen-above id client addresses =
       cond-ind SeenAbove (not (contactsForm t (me .place))) _ _ (passes (contactsForm t (me .place)) form)
       (λ e. cond-ind SeenAbove (not (ownFits me)) _ _ (λ e. omega arith)
       (λ e. cond-ind SeenAbove (not (contactsForm t (me .place))) _ _ (passes (contactsForm t (me .place)) form)
       (λ e. cond-ind SeenAbove (badPeer (me .place) id) _ _ (λ e. omega arith)
-      (λ e. cond-ind SeenAbove client _ _ (λ e. omega arith) (λ e. outcome-above (sightingOf t (me .place) (placeOf id)))))))
+      (λ e. cond-ind SeenAbove client _ _ (λ e. omega arith) (λ e. sighting-above t (me .place) (peerOf id (placeOf id) addresses))))))
 
-  settle-above : (head id : List ℕ) (client answered : Bool) → SettleAbove (settleOf me t head id client answered)
-  unfolding settleOf settleCall
-  settle-above head id client answered =
+  settle-above : (head id : List ℕ) (client : Bool) (addresses : List ℕ) (answered : Bool) → SettleAbove (settleOf me t head id client addresses answered)
+  unfolding settleOf settleCall settlementOf
+  settle-above head id client addresses answered =
       cond-ind SettleAbove (not (contactsForm t (me .place))) _ _ (passes (contactsForm t (me .place)) form)
       (λ e. cond-ind SettleAbove (not (ownFits me)) _ _ (λ e. omega arith)
       (λ e. cond-ind SettleAbove (not (contactsForm t (me .place))) _ _ (passes (contactsForm t (me .place)) form)
       (λ e. cond-ind SettleAbove (badPeer (me .place) head) _ _ (λ e. omega arith)
       (λ e. cond-ind SettleAbove (badPeer (me .place) id) _ _ (λ e. omega arith)
       (λ e. cond-ind SettleAbove (not (fits t (me .place) (placeOf head) (placeOf id))) _ _ (λ e. omega arith)
-      (λ e. cond-ind SettleAbove client _ _ (λ e. omega arith) (λ e. cond-ind SettleAbove answered _ _ (λ e. tt) (λ e. tt))))))))
+      (λ e. cond-ind SettleAbove client _ _ (λ e. omega arith) (λ e. cond-ind SettleAbove (fits t (me .place) (placeOf head) (peerOf id (placeOf id) addresses .place)) _ _ (λ e. cond-ind SettleAbove answered _ _ (λ e. tt) (λ e. tt)) (λ e. omega arith))))))))
 
   remove-above : (id : List ℕ) → RemoveAbove (removeOf me t id)
-  unfolding removeOf removeCall
+  unfolding removeOf removeCall removalOf
   remove-above id =
       cond-ind RemoveAbove (not (contactsForm t (me .place))) _ _ (passes (contactsForm t (me .place)) form)
       (λ e. cond-ind RemoveAbove (not (ownFits me)) _ _ (λ e. omega arith)
       (λ e. cond-ind RemoveAbove (not (contactsForm t (me .place))) _ _ (passes (contactsForm t (me .place)) form)
       (λ e. cond-ind RemoveAbove (badPeer (me .place) id) _ _ (λ e. omega arith)
-      (λ e. cond-ind RemoveAbove (not (held t (placeOf id))) _ _ (λ e. omega arith) (λ e. tt)))))
+      (λ e. cond-ind RemoveAbove (held t (placeOf id)) _ _ (λ e. tt) (λ e. omega arith)))))
 
   doubt-above : (id : List ℕ) → DoubtAbove (doubtOf me t id)
-  unfolding doubtOf doubtCall
+  unfolding doubtOf doubtCall markingOf
   doubt-above id =
       cond-ind DoubtAbove (not (contactsForm t (me .place))) _ _ (passes (contactsForm t (me .place)) form)
       (λ e. cond-ind DoubtAbove (not (ownFits me)) _ _ (λ e. omega arith)
       (λ e. cond-ind DoubtAbove (not (contactsForm t (me .place))) _ _ (passes (contactsForm t (me .place)) form)
       (λ e. cond-ind DoubtAbove (badPeer (me .place) id) _ _ (λ e. omega arith)
-      (λ e. cond-ind DoubtAbove (not (held t (placeOf id))) _ _ (λ e. omega arith) (λ e. tt)))))
+      (λ e. cond-ind DoubtAbove (held t (placeOf id)) _ _ (λ e. tt) (λ e. omega arith)))))
 
   nearest-above : (key : List ℕ) → ToldAbove (nearestTo me t key .told)
   unfolding nearestTo
@@ -223,7 +223,7 @@ module _ (me : Peer) (t : List ℕ) (form : contactsForm t (me .place) ≡ true)
   unfolding lookupStart startOf
   start-above key limit =
       go (not (contactsForm t (me .place))) _ _ (passes (contactsForm t (me .place)) form)
-      (λ e. go (not (lookupKeyFits key)) _ _ (λ e. omega arith)
+      (λ e. go (not (keyFits key)) _ _ (λ e. omega arith)
       (λ e. go (not (idFits (ownId me))) _ _ (λ e. omega arith)
       (λ e. go (not (limitFits limit)) _ _ (λ e. omega arith) (λ e. settled-above (begun t key limit)))))
     where
@@ -254,14 +254,14 @@ never-out-of-form me w =
       receive = λ l a bs f g e. receive-never me w l a bs f g e;
       opens = λ id server asking addresses e. no-zero (subst ToldAbove e (open-above me id server asking addresses));
       end = λ l f e. end-never me l f e;
-      seen = λ a id client g e. no-zero (subst SeenAbove e (seen-above me (a .contacts) (g .contacts) id client));
-      settle = λ a head id client answered g e. no-zero (subst SettleAbove e (settle-above me (a .contacts) (g .contacts) head id client answered));
-      remove = λ a id g e. no-zero (subst RemoveAbove e (remove-above me (a .contacts) (g .contacts) id));
-      doubt = λ a id g e. no-zero (subst DoubtAbove e (doubt-above me (a .contacts) (g .contacts) id));
-      nearest = λ a key g e. no-zero (subst ToldAbove e (nearest-above me (a .contacts) (g .contacts) key));
-      put = λ a key value g e. never-0 (a .records) key value (g .records) e;
-      find = λ a key g e. no-zero (subst FoundAbove e (find-above (a .records) key (g .records)));
-      start = λ a key limit g e. no-zero (subst LookupAbove e (start-above me (a .contacts) (g .contacts) key limit));
+      seen = λ a id client addresses g e. no-zero (subst SeenAbove e (seen-above me (a .lent .contacts) (g .contacts) id client addresses));
+      settle = λ a head id client addresses answered g e. no-zero (subst SettleAbove e (settle-above me (a .lent .contacts) (g .contacts) head id client addresses answered));
+      remove = λ a id g e. no-zero (subst RemoveAbove e (remove-above me (a .lent .contacts) (g .contacts) id));
+      doubt = λ a id g e. no-zero (subst DoubtAbove e (doubt-above me (a .lent .contacts) (g .contacts) id));
+      nearest = λ a key g e. no-zero (subst ToldAbove e (nearest-above me (a .lent .contacts) (g .contacts) key));
+      put = λ a key value g e. never-0 (a .lent .records) key value (g .records) e;
+      find = λ a key g e. no-zero (subst FoundAbove e (find-above (a .lent .records) key (g .records)));
+      start = λ a key limit g e. no-zero (subst LookupAbove e (start-above me (a .lent .contacts) (g .contacts) key limit));
       lookup = λ t key limit s cs c v e. claims t (ownId me) (me .place) key limit s .never0 cs c v e;
       empty = λ t key limit r e cs c. ap (λ (s : Step). s .answer) (refusals .later t (ownId me) (me .place) key limit r e cs c);
     }

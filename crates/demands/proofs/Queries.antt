@@ -19,8 +19,10 @@ use Rattle.contacts.proofs.TwentyNearest.{nearest-held}
 use Rattle.entries.specs.Entries.{peerEntry}
 use Rattle.records_history.proofs.Holding.{not-found}
 use Rattle.message.specs.Message.{Message}
-use Rattle.replies.specs.Replies.{getValue, findNode, closerPeers, listed, lastEntry, findNodeReply, recordAt, getValueReply}
-use Rattle.replies.specs.Verdicts.{replies, keyFits, keyed}
+use Rattle.replies.specs.Lent.{Lent}
+use Rattle.message.specs.Kinds.{getValue, findNode, keyFits}
+use Rattle.replies.specs.Replies.{closerPeers, listed, lastEntry, findNodeReply, recordAt, getValueReply}
+use Rattle.replies.specs.Verdicts.{replies, keyed}
 use Rattle.answer.specs.Answers.{verdictOf}
 use Rattle.connections.specs.declared.Told.the-variants.{Fine}
 use Rattle.connections.specs.Box.{ownFits}
@@ -72,13 +74,13 @@ module _ (me : Peer) (own : ownFits me ≡ true) where
   unfolding nearestTo
   host-is t key f k = rw (f, k, own) refl
 
-  get-is : (who : Peer) (m : Message) (t k : List ℕ) → m .kind ≡ getValue → keyFits (m .key) ≡ true → verdictOf me who m t k ≡ replies (getValueReply t k (m .key))
+  get-is : (who : Peer) (m : Message) (l : Lent) → m .kind ≡ getValue → keyFits (m .key) ≡ true → verdictOf me who m l ≡ replies (getValueReply (l .contacts) (l .records) (m .key))
   unfolding verdictOf keyed
-  get-is who m t k e f = rw (e, f) refl
+  get-is who m l e f = rw (e, f) refl
 
-  find-is : (who : Peer) (m : Message) (t k : List ℕ) → m .kind ≡ findNode → keyFits (m .key) ≡ true → verdictOf me who m t k ≡ replies (findNodeReply me who t (m .key))
+  find-is : (who : Peer) (m : Message) (l : Lent) → m .kind ≡ findNode → keyFits (m .key) ≡ true → verdictOf me who m l ≡ replies (findNodeReply me who (l .contacts) (m .key))
   unfolding verdictOf keyed
-  find-is who m t k e f = rw (e, f) refl
+  find-is who m l e f = rw (e, f) refl
 
   pub queries : Queries me
   unfolding getValueReply findNodeReply closerPeers
@@ -86,8 +88,9 @@ module _ (me : Peer) (own : ownFits me ≡ true) where
       record {
         host = λ t key f k.
             let e = host-is t key f k in (ap (λ (n : Nearby). n .told) e, ap (λ (n : Nearby). take (n .closest .n) (n .closest .at)) e ∙ claims .told t (placeOf key));
-        get = λ who m t k e f. (getValueReply t k (m .key), get-is who m t k e f, refl, λ g. ap (recordAt k (m .key)) (not-found k (m .key) g));
-        find = λ who m t k e f. (findNodeReply me who t (m .key), find-is who m t k e f, refl);
+        get = λ who m l e f.
+            let k = l .records in (getValueReply (l .contacts) k (m .key), get-is who m l e f, refl, λ g. ap (recordAt k (m .key)) (not-found k (m .key) g));
+        find = λ who m l e f. (findNodeReply me who (l .contacts) (m .key), find-is who m l e f, refl);
         extra = told-of-itself me;
         there = listed-already me;
         ours = told-of-us me;

@@ -9,6 +9,7 @@ use lib.ListN.{length, take}
 use lib.Dec.{eqb, ltb}
 use Rattle.octets.specs.Octets.{same}
 use Rattle.octets.proofs.Bools.{cond-ind}
+use Rattle.limits.specs.Limits.{mostBody, mostKind}
 use Rattle.refusal.specs.declared.Refusal.{Refusal}
 use Rattle.refusal.specs.Refusal.{numberOf}
 use Rattle.peer.specs.declared.Peer.{Peer}
@@ -16,7 +17,6 @@ use Rattle.recipe.specs.Recipe.{isRecipe, outranks}
 use Rattle.records.specs.declared.Plan.{Plan}
 use Rattle.records.specs.declared.Plan.the-variants.{Write, Keep, Refuse}
 use Rattle.records.specs.Store.{slotsOf, slot, valueOf, isKey, slotWith, freeSlot, heldPlan, planOf, answerOf, offerAnswer}
-use Rattle.message.specs.Limits.{mostBody, mostKind}
 use Rattle.message.specs.Message.{Record, Message, messageOf}
 use Rattle.message.specs.View.{fieldsOf, readingOf}
 use Rattle.message.specs.Message.{wellMessage}
@@ -31,16 +31,17 @@ use Rattle.stream.specs.declared.Lead.the-variants.{On, Length, Bad}
 use Rattle.stream.specs.declared.Answer as stream
 use Rattle.stream.specs.declared.Answer.the-variants as framed
 use Rattle.stream.specs.Stream as streams
-use Rattle.stream.specs.Stream.{bodyLimit, limited, minimal, prefixStep, Stepped, led, stepOf, storeOf, runOf}
-use Rattle.replies.specs.Replies.{putValue, getValue, findNode, ping}
+use Rattle.stream.specs.Stream.{limited, minimal, prefixStep, Stepped, led, stepOf, storeOf, runOf}
+use Rattle.replies.specs.Lent.{Lent}
+use Rattle.message.specs.Kinds.{putValue, getValue, findNode, ping, keyFits}
 use Rattle.replies.specs.declared.Answered.{Answered}
 use Rattle.replies.specs.declared.Answered.the-variants as told
-use Rattle.replies.specs.Verdicts.{Verdict, replies, refuses, keyFits, keyed, echoed, putVerdict, Dealt, byVerdict}
+use Rattle.replies.specs.Verdicts.{Verdict, replies, refuses, keyed, echoed, putVerdict, Dealt, byVerdict}
 use Rattle.answer.specs.Answers.{verdictOf, byReading, dealOf}
 use Rattle.connections.specs.declared.Conn.{Conn}
 use Rattle.node.specs.declared.Answer.{Answer}
 use Rattle.node.specs.declared.Answer.the-variants.{Reply, Heard, Refused, More}
-use Rattle.node.specs.Node.{Dealing, byAnswer, served, heardAs, heard, dealingOf, byEvent}
+use Rattle.node.specs.Node.{Link, Dealing, byAnswer, served, heardAs, heard, dealingOf, byEvent}
 use Rattle.demands.proofs.Deal.{deal-is}
 
 abbrev pub Above : Refusal → Type 0
@@ -63,7 +64,7 @@ FramedRaised framed.More = Unit {0}
 
 limited-raised : (n : ℕ) → LeadRaised (limited n)
 unfolding limited
-limited-raised n = cond-ind LeadRaised (ltb bodyLimit n) _ _ (λ h. (omega arith, omega arith)) (λ h. tt)
+limited-raised n = cond-ind LeadRaised (ltb mostBody n) _ _ (λ h. (omega arith, omega arith)) (λ h. tt)
 
 minimal-raised : (z n : ℕ) → LeadRaised (minimal z n)
 unfolding minimal
@@ -150,10 +151,10 @@ keyed-raised : (key : List ℕ) (m : Message) → VerdictRaised (keyed key m)
 unfolding keyed
 keyed-raised key m = cond-ind VerdictRaised (keyFits key) _ _ (λ e. tt) (λ e. (omega arith, omega arith))
 
-verdict-raised : (me who : Peer) (m : Message) (t k : List ℕ) → VerdictRaised (verdictOf me who m t k)
+verdict-raised : (me who : Peer) (m : Message) (l : Lent) → VerdictRaised (verdictOf me who m l)
 unfolding verdictOf
-verdict-raised me who m t k =
-    cond-ind VerdictRaised (eqb (m .kind) putValue) _ _ (λ e. put-raised (m .key) (m .held) k)
+verdict-raised me who m l =
+    cond-ind VerdictRaised (eqb (m .kind) putValue) _ _ (λ e. put-raised (m .key) (m .held) (l .records))
     (λ e. cond-ind VerdictRaised (eqb (m .kind) getValue) _ _ (λ e. keyed-raised (m .key) _)
     (λ e. cond-ind VerdictRaised (eqb (m .kind) findNode) _ _ (λ e. keyed-raised (m .key) _)
     (λ e. cond-ind VerdictRaised (eqb (m .kind) ping) _ _ (λ e. tt) (λ e. (omega arith, omega arith)))))
@@ -163,18 +164,17 @@ abbrev ToldRaised : Answered → Type 0
 ToldRaised (told.Refused r) = Raised r
 ToldRaised (told.Reply n) = Unit {0}
 
-by-verdict-raised : (v : Verdict) (k next y : List ℕ) → VerdictRaised v → ToldRaised (byVerdict v k next y .told)
-by-verdict-raised (replies m) k next y a = tt
-by-verdict-raised (refuses r) k next y a = a
+by-verdict-raised : (v : Verdict) (next l : Lent) → VerdictRaised v → ToldRaised (byVerdict v next l .told)
+by-verdict-raised (replies m) next l a = tt
+by-verdict-raised (refuses r) next l a = a
 
-by-reading-raised : (r : Reading) (me who : Peer) (m : Message) (t k y : List ℕ) → ReadRaised r → ToldRaised (byReading r me who m t k y .told)
-by-reading-raised (reading.Refused r) me who m t k y a = a
-by-reading-raised (reading.Whole f) me who m t k y a = by-verdict-raised (verdictOf me who m t k) k _ y (verdict-raised me who m t k)
+by-reading-raised : (r : Reading) (me who : Peer) (m : Message) (l : Lent) → ReadRaised r → ToldRaised (byReading r me who m l .told)
+by-reading-raised (reading.Refused r) me who m l a = a
+by-reading-raised (reading.Whole f) me who m l a = by-verdict-raised (verdictOf me who m l) _ l (verdict-raised me who m l)
 
-deal-raised : (me who : Peer) (body t k y : List ℕ) → ToldRaised (dealOf me who body t k y .told)
-deal-raised me who body t k y =
-    subst (λ (d : Dealt). ToldRaised (d .told)) (sym (deal-is me who body t k y))
-    (by-reading-raised (readingOf body) me who (messageOf body) t k y (read-raised body))
+deal-raised : (me who : Peer) (body : List ℕ) (l : Lent) → ToldRaised (dealOf me who body l .told)
+deal-raised me who body l =
+    subst (λ (d : Dealt). ToldRaised (d .told)) (sym (deal-is me who body l)) (by-reading-raised (readingOf body) me who (messageOf body) l (read-raised body))
 
 -- ---- an event on a connection: 3 to 11
 abbrev pub AnswerRaised : Answer → Type 0
@@ -187,22 +187,21 @@ heard-raised : (n : ℕ) (r : Reading) → ReadRaised r → AnswerRaised (heardA
 heard-raised n (reading.Whole f) a = tt
 heard-raised n (reading.Refused r) a = a
 
-served-raised : (x : Answered) (d : Dealt) (me : Peer) (c : Conn) (t : List ℕ) → ToldRaised x → AnswerRaised (byAnswer x d me c t .answer)
-served-raised (told.Refused r) d me c t a = a
-served-raised (told.Reply n) d me c t a = tt
+served-raised : (x : Answered) (after : Lent) (me : Peer) (c : Conn) (l : Lent) → ToldRaised x → AnswerRaised (byAnswer x after me c l .answer)
+served-raised (told.Refused r) after me c l a = a
+served-raised (told.Reply n) after me c l a = tt
 
-dealing-raised : (me : Peer) (c : Conn) (body t k y : List ℕ) → AnswerRaised (dealingOf me c body t k y .answer)
+dealing-raised : (me : Peer) (c : Conn) (body : List ℕ) (l : Lent) → AnswerRaised (dealingOf me c body l .answer)
 unfolding dealingOf heard served
-dealing-raised me c body t k y =
-    let d = dealOf me (c .peer) body t k y in
+dealing-raised me c body l =
+    let d = dealOf me (c .peer) body l in
     cond-ind (λ (x : Dealing). AnswerRaised (x .answer)) (c .asking) _ _ (λ e. heard-raised (length body) (readingOf body) (read-raised body))
-    (λ e. served-raised (d .told) d me c t (deal-raised me (c .peer) body t k y))
+    (λ e. served-raised (d .told) (d .left) me c l (deal-raised me (c .peer) body l))
 
-pub event-raised : (me : Peer) (w : stream.Answer) (c : Conn) (n : ℕ) (m t k y : List ℕ) → FramedRaised w
-    → AnswerRaised (byEvent w me c n m t k y .got .answer)
-event-raised me (framed.Message l) c n m t k y a = dealing-raised me c (take l m) t k y
-event-raised me (framed.Refused r) c n m t k y a = a
-event-raised me framed.More c n m t k y a = tt
+pub event-raised : (me : Peer) (w : stream.Answer) (link : Link) (n : ℕ) (l : Lent) → FramedRaised w → AnswerRaised (byEvent w me link n l .got .answer)
+event-raised me (framed.Message size) link n l a = dealing-raised me (link .conn) (take size (link .buffer)) l
+event-raised me (framed.Refused r) link n l a = a
+event-raised me framed.More link n l a = tt
 
 -- so none is 0
 abbrev pub AnswerAbove : Answer → Type 0

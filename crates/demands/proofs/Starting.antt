@@ -12,7 +12,8 @@ use Rattle.peer.specs.declared.Peer.{Peer}
 use Rattle.peer.specs.Peers.{idIn}
 use Rattle.contacts.specs.Form.{inForm as contactsForm}
 use Rattle.connections.specs.Box.{ownFits}
-use Rattle.lookup.specs.Lookup.{keyFits, limitFits, idFits, begun, startOf}
+use Rattle.message.specs.Kinds.{keyFits}
+use Rattle.lookup.specs.Lookup.{limitFits, idFits, begun, startOf}
 use Rattle.lookup_runs.specs.Runs.{accepted}
 use Rattle.lookup_runs.proofs.Moves.{settled-accepted}
 use Rattle.host_calls.specs.Hosts.{ownId, lookupStart}
@@ -30,6 +31,7 @@ module _ (me : Peer) (w : Own me) where
       ap length (cond-yes (ownFits me) _ _ (w .fits)) ∙ n
 
   own-fits : idFits (ownId me) ≡ true
+  unfolding idFits
   own-fits =
       and-i _ _ (le-leb 1 (length (ownId me)) (omega (arith, own-length, own-size .0))) (le-leb (length (ownId me)) 64 (omega (arith, own-length, own-size .1)))
 

@@ -19,13 +19,14 @@ use Rattle.lookup_runs.specs.History.{Event, history}
 use Rattle.lookup_runs.proofs.Theorems.{claims}
 use Rattle.stream.specs.Stream.{isShut, receiveOf as framedOf}
 use Rattle.cutting.specs.World.{Did, here, Line, Shared, World, Called, Call, hand, does, asks, answered, feed, handed, call, calls}
+use Rattle.replies.specs.Lent.{Lent}
 use Rattle.node.specs.declared.Sight.{Sight}
 use Rattle.node.specs.declared.Answer.{Answer}
 use Rattle.node.specs.declared.Answer.the-variants.{Reply, Heard, Refused, More}
 use Rattle.node.specs.Node.{receiveOf}
 use Rattle.host_calls.specs.Hosts.{ownId, lookupStart, lookupReply, lookupFailure}
 use Rattle.demands.specs.Box as box
-use Rattle.demands.specs.Box.{Box, Who, connOf, bodyIn, offersIn, Entry, Turn, Ask, noted, receiving, turning, asking}
+use Rattle.demands.specs.Box.{Box, Who, connOf, linkOf, bodyIn, offersIn, Entry, Turn, Ask, noted, receiving, turning, asking}
 use Rattle.demands.specs.Lookups.{Trace, Part, starts, goes, neither, traceWith, partOf, traced, startIn, IsRun, LookupsAreRuns}
 
 -- ---- the log only grows
@@ -52,18 +53,18 @@ record Apart (a b : Box) : Type 0 where
 apart-then : (a b c : Box) → Apart a b → Apart b c → Apart a c
 apart-then a b c p q = record { lookups = q .lookups ∙ p .lookups; log = more-then (a .log) (b .log) (c .log) (p .log) (q .log) }
 
-noted-apart : (i at : ℕ) (x : Answer) (s : Sight) (body t k y : List ℕ) (os : List Offer) (a : Box) → Apart a (noted i at x s body t k y os a)
-noted-apart i at (Reply n) s body t k y os a = record { lookups = refl; log = one-more (a .log) _ }
-noted-apart i at (Heard n f) s body t k y os a = record { lookups = refl; log = one-more (a .log) _ }
-noted-apart i at (Refused r) s body t k y os a = record { lookups = refl; log = one-more (a .log) _ }
-noted-apart i at More s body t k y os a = record { lookups = refl; log = no-more (a .log) }
+noted-apart : (i at : ℕ) (x : Answer) (s : Sight) (body : List ℕ) (l : Lent) (os : List Offer) (a : Box) → Apart a (noted i at x s body l os a)
+noted-apart i at (Reply n) s body l os a = record { lookups = refl; log = one-more (a .log) _ }
+noted-apart i at (Heard n f) s body l os a = record { lookups = refl; log = one-more (a .log) _ }
+noted-apart i at (Refused r) s body l os a = record { lookups = refl; log = one-more (a .log) _ }
+noted-apart i at More s body l os a = record { lookups = refl; log = no-more (a .log) }
 
 module _ (me : Peer) where
   receiving-apart : (i : ℕ) (l : Line Who) (a : Box) (bs : List ℕ) → Apart a (receiving me i l a bs .state)
   receiving-apart i l a bs =
-      let o = receiveOf me (connOf (l .who) (l .framing)) (l .buffer) bs (a .contacts) (a .records) (a .reply) in
+      let o = receiveOf me (linkOf l) bs (a .lent) in
       let e = framedOf (l .framing) (l .buffer) bs .got .answer in
-      noted-apart i (l .taken + o .got .taken) (o .got .answer) (o .got .sight) (bodyIn e (o .buffer)) (o .contacts) (o .records) (o .reply)
+      noted-apart i (l .taken + o .got .taken) (o .got .answer) (o .got .sight) (bodyIn e (o .buffer)) (o .left)
       (offersIn (l .who) e (o .buffer)) a
 
   feed-apart : (f i : ℕ) (d : Did (Line Who) (Shared Box Ask)) (bs : List ℕ) → Apart (d .shared .state) (feed (box.box me) i f d bs .shared .state)
@@ -175,7 +176,7 @@ module _ (me : Peer) (j : ℕ) where
 
   -- ---- the host's other calls
   asking-agrees : (a : Box) (o : Ask) (x : Option (Trace Entry)) → Agrees x (a .lookups j)
-      → Agrees (traceWith (a .contacts) (drop (length (a .log)) (asking me a o .log)) (partOf me j (a .inbox) (asks o)) x) (asking me a o .lookups j)
+      → Agrees (traceWith (a .lent .contacts) (drop (length (a .log)) (asking me a o .log)) (partOf me j (a .inbox) (asks o)) x) (asking me a o .lookups j)
   unfolding step lookupReply lookupFailure
   asking-agrees a (box.put key value) x h = h
   asking-agrees a (box.find key) x h = h
@@ -184,25 +185,25 @@ module _ (me : Peer) (j : ℕ) where
   asking-agrees a (box.remove id) x h = h
   asking-agrees a (box.doubt id) x h = h
   asking-agrees a (box.nearest key) x h = h
-  asking-agrees a (box.start k key limit) x h = started (eqb j k) x (a .lookups j) (a .log) (a .contacts) key limit h
+  asking-agrees a (box.start k key limit) x h = started (eqb j k) x (a .lookups j) (a .log) (a .lent .contacts) key limit h
   asking-agrees a (box.next k) x h =
-      gone (eqb j k) x (a .lookups j) (a .log) (a .contacts) goNext (nextOf (a .lookups k))
+      gone (eqb j k) x (a .lookups j) (a .log) (a .lent .contacts) goNext (nextOf (a .lookups k))
       (λ e. ap (λ (n : ℕ). nextOf (a .lookups n)) (sym (eqb-true j k e))) h
   asking-agrees a (box.reply k id body view) x h =
-      gone (eqb j k) x (a .lookups j) (a .log) (a .contacts) (goReply (ownId me) (me .place) id body view) (lookupReply me (a .lookups k) id body view)
+      gone (eqb j k) x (a .lookups j) (a .log) (a .lent .contacts) (goReply (ownId me) (me .place) id body view) (lookupReply me (a .lookups k) id body view)
       (λ e. ap (λ (n : ℕ). lookupReply me (a .lookups n) id body view) (sym (eqb-true j k e))) h
   asking-agrees a (box.replyFrom i k id) x h =
-      gone (eqb j k) x (a .lookups j) (a .log) (a .contacts) (goReply (ownId me) (me .place) id (a .inbox i) (fieldsOf (a .inbox i)))
+      gone (eqb j k) x (a .lookups j) (a .log) (a .lent .contacts) (goReply (ownId me) (me .place) id (a .inbox i) (fieldsOf (a .inbox i)))
       (lookupReply me (a .lookups k) id (a .inbox i) (fieldsOf (a .inbox i)))
       (λ e. ap (λ (n : ℕ). lookupReply me (a .lookups n) id (a .inbox i) (fieldsOf (a .inbox i))) (sym (eqb-true j k e))) h
   asking-agrees a (box.failure k id) x h =
-      gone (eqb j k) x (a .lookups j) (a .log) (a .contacts) (goFail (ownId me) (me .place) id) (lookupFailure me (a .lookups k) id)
+      gone (eqb j k) x (a .lookups j) (a .log) (a .lent .contacts) (goFail (ownId me) (me .place) id) (lookupFailure me (a .lookups k) id)
       (λ e. ap (λ (n : ℕ). lookupFailure me (a .lookups n) id) (sym (eqb-true j k e))) h
 
   -- ---- any call, and any calls
   call-agrees : (s : World Who Box Ask) (c : Call Turn Ask) (x : Option (Trace Entry)) → Agrees x (s .shared .state .lookups j)
       → let w = call (box.box me) s c in
-      Agrees (traceWith (s .shared .state .contacts) (drop (length (s .shared .state .log)) (w .shared .state .log)) (partOf me j (s .shared .state .inbox) c) x)
+      Agrees (traceWith (s .shared .state .lent .contacts) (drop (length (s .shared .state .log)) (w .shared .state .log)) (partOf me j (s .shared .state .inbox) c) x)
       (w .shared .state .lookups j)
   unfolding call
   call-agrees s (hand i p) x h =
@@ -217,7 +218,7 @@ module _ (me : Peer) (j : ℕ) where
   calls-agree (c ∷ cs) s x h =
       let w : World Who Box Ask = call (box.box me) s c in
       calls-agree cs w
-      (traceWith (s .shared .state .contacts) (drop (length (s .shared .state .log)) (w .shared .state .log)) (partOf me j (s .shared .state .inbox) c) x)
+      (traceWith (s .shared .state .lent .contacts) (drop (length (s .shared .state .log)) (w .shared .state .log)) (partOf me j (s .shared .state .inbox) c) x)
       (call-agrees s c x h)
 
 -- ---- once there is a trace, there is one

@@ -16,7 +16,7 @@ use Rattle.message.specs.Message.{Message, decode}
 use Rattle.stream.specs.declared.Answer.the-variants as framed
 use Rattle.stream.specs.Stream.{receiveOf as framedOf}
 use Rattle.cutting.specs.World.{Line, World, Call, hand, does, asks, call, calls, Ready, AllFit}
-use Rattle.replies.specs.Replies.{putValue}
+use Rattle.message.specs.Kinds.{putValue}
 use Rattle.demands.specs.Box.{refused, putGave, Entry, event, called, Box, Who, Turn, Fits, Ask, put, box, Own, Allowed, Good}
 use Rattle.demands.specs.Demands.{since, Finds, Begun}
 
@@ -55,7 +55,7 @@ pub record Bench : Type 0 where
   pub own : Own me
   pub start : World Who Box Ask
   pub ready : Ready (Allowed me) (Good me) start
-  pub empty : NoRecords (start .shared .state .records)
+  pub empty : NoRecords (start .shared .state .lent .records)
   pub did : List (Call Turn Ask)
   pub fit : AllFit Fits did
   pub never : Never11 (drop (length (start .shared .state .log)) (calls (box me) start did .shared .state .log))
@@ -65,7 +65,7 @@ module _ (b : Bench) where
   end = calls (box (b .me)) (b .start) (b .did)
 
   abbrev pub held : List ℕ
-  held = end .shared .state .records
+  held = end .shared .state .lent .records
 
   -- what reached its store, typed or sent
   abbrev pub offers : List Offer
@@ -100,4 +100,4 @@ pub record BenchesAgree : Type 0 where
   pub highest : (b : Bench) (key : List ℕ) → Highest isRecipe key (λ v. IsOffered key v (offers b)) (got (held b) key)
   pub reach : (me : Peer) → Own me → OffersReach me
   -- and a host that begins with memory cleared begins with no records
-  pub begin : (s : World Who Box Ask) → Begun s → NoRecords (s .shared .state .records)
+  pub begin : (s : World Who Box Ask) → Begun s → NoRecords (s .shared .state .lent .records)

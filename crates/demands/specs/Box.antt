@@ -8,19 +8,19 @@ use mathlib.Core.Option.{Option, none, some}
 use lib.ListN.{length, take}
 use lib.Dec.{eqb}
 use Rattle.octets.specs.Octets.{Bytes, same}
+use Rattle.limits.specs.Limits.{mostBody, leastReply}
 use Rattle.refusal.specs.declared.Refusal.{Refusal}
 use Rattle.peer.specs.declared.Peer.{Peer}
 use Rattle.contacts.specs.Form.{inForm as contactsForm}
-use Rattle.contact_calls.specs.declared.SeenOutcome.{SeenOutcome}
-use Rattle.contact_calls.specs.declared.SettleOutcome.{SettleOutcome}
-use Rattle.contact_calls.specs.declared.RemoveOutcome.{RemoveOutcome}
-use Rattle.contact_calls.specs.declared.DoubtOutcome.{DoubtOutcome}
+use Rattle.sightings.specs.declared.Sighting.{Sighting}
+use Rattle.sightings.specs.declared.Settled.{Settled}
+use Rattle.sightings.specs.declared.Removed.{Removed}
+use Rattle.sightings.specs.declared.Doubted.{Doubted}
 use Rattle.sightings_kept.specs.Promises.{Fair}
 use Rattle.records.specs.declared.Answer as stored
 use Rattle.records.specs.declared.Found as sought
 use Rattle.records.specs.Store.{inForm as recordsForm, putAnswer, putAfter, findOf}
 use Rattle.records_history.specs.History.{Offer}
-use Rattle.message.specs.Limits.{mostBody, leastReply}
 use Rattle.message.specs.Message.{Record, Message, messageOf}
 use Rattle.message.specs.View.{readingOf, fieldsOf}
 use Rattle.message.specs.declared.Fields.{Fields}
@@ -35,7 +35,9 @@ use Rattle.stream.specs.declared.Answer.the-variants as framed
 use Rattle.stream.specs.Stream.{fresh, receiveOf as framedOf}
 use Rattle.cutting.specs.Frames.{Event, message, refused as broken}
 use Rattle.cutting.specs.World.{Did, Line, Called, Layer, setAt}
-use Rattle.replies.specs.Replies.{putValue}
+use Rattle.replies.specs.Lent as lents
+use Rattle.replies.specs.Lent.{Lent}
+use Rattle.message.specs.Kinds.{putValue}
 use Rattle.answer_promises.specs.Promises.{Roomed}
 use Rattle.connections.specs.declared.Conn.{Conn}
 use Rattle.connections.specs.declared.Told.{Told}
@@ -44,7 +46,7 @@ use Rattle.node.specs.declared.Sight.{Sight}
 use Rattle.node.specs.declared.Answer.{Answer}
 use Rattle.node.specs.declared.Answer.the-variants.{Reply, Heard, Refused, More}
 use Rattle.connections.specs.Box.{ownFits, openOf, endConn}
-use Rattle.node.specs.Node.{Dealing, dealingOf, receiveOf}
+use Rattle.node.specs.Node.{Link, linked, Dealing, dealingOf, receiveOf}
 use Rattle.host_calls.specs.Hosts.{seenOf, seenAfter, settleOf, settleAfter, removeOf, removeAfter, doubtOf, doubtAfter, nearestTo, lookupStart, lookupReply, lookupFailure}
 
 -- ---- what there is to see
@@ -59,10 +61,10 @@ pub data Outcome : Type 0 where
 pub data Result : Type 0 where
   putGave : stored.Answer → Result
   findGave : sought.Found → Result
-  seenGave : SeenOutcome → Result
-  settleGave : SettleOutcome → Result
-  removeGave : RemoveOutcome → Result
-  doubtGave : DoubtOutcome → Result
+  seenGave : Sighting → Result
+  settleGave : Settled → Result
+  removeGave : Removed → Result
+  doubtGave : Doubted → Result
   nearestGave : Nearby → Result
   stepGave : Step → Result
 
@@ -75,45 +77,33 @@ pub data Entry : Type 0 where
 -- ---- what the connections share: lent memory, lookups by number, for each connection the last message that went to the host, the log, and every record
 -- offered to the store, typed or sent
 pub record Box : Type 0 where
-  pub contacts : List ℕ
-  pub records : List ℕ
-  pub reply : List ℕ
+  pub lent : Lent
   pub lookups : ℕ → Lookup
   pub inbox : ℕ → List ℕ
   pub log : List Entry
   pub offers : List Offer
 
-abbrev pub logged : Box → Entry → Box
-logged a e =
-    record {
-      contacts = a .contacts;
-      records = a .records;
-      reply = a .reply;
-      lookups = a .lookups;
-      inbox = a .inbox;
-      log = a .log ++ (e ∷ []);
-      offers = a .offers;
-    }
+-- what one change leaves
+abbrev pub withLent : Box → Lent → Box
+withLent a l = record { lent = l; lookups = a .lookups; inbox = a .inbox; log = a .log; offers = a .offers }
 
 abbrev pub withContacts : Box → List ℕ → Box
-withContacts a t =
-    record { contacts = t; records = a .records; reply = a .reply; lookups = a .lookups; inbox = a .inbox; log = a .log; offers = a .offers }
+withContacts a t = withLent a (lents.withContacts (a .lent) t)
 
-abbrev pub withOffer : Box → List ℕ → List Offer → Box
-withOffer a k os =
-    record { contacts = a .contacts; records = k; reply = a .reply; lookups = a .lookups; inbox = a .inbox; log = a .log; offers = a .offers ++ os }
+abbrev pub withRecords : Box → List ℕ → Box
+withRecords a k = withLent a (lents.withRecords (a .lent) k)
 
 abbrev pub withLookup : Box → ℕ → Lookup → Box
-withLookup a j l =
-    record {
-      contacts = a .contacts;
-      records = a .records;
-      reply = a .reply;
-      lookups = setAt (a .lookups) j l;
-      inbox = a .inbox;
-      log = a .log;
-      offers = a .offers;
-    }
+withLookup a j l = record { lent = a .lent; lookups = setAt (a .lookups) j l; inbox = a .inbox; log = a .log; offers = a .offers }
+
+abbrev pub withMessage : Box → ℕ → List ℕ → Box
+withMessage a i body = record { lent = a .lent; lookups = a .lookups; inbox = setAt (a .inbox) i body; log = a .log; offers = a .offers }
+
+abbrev pub withOffers : Box → List Offer → Box
+withOffers a os = record { lent = a .lent; lookups = a .lookups; inbox = a .inbox; log = a .log; offers = a .offers ++ os }
+
+abbrev pub logged : Box → Entry → Box
+logged a e = record { lent = a .lent; lookups = a .lookups; inbox = a .inbox; log = a .log ++ (e ∷ []); offers = a .offers }
 
 -- ---- a connection
 -- who is at its other end
@@ -124,6 +114,9 @@ pub record Who : Type 0 where
 
 abbrev pub connOf : Who → Framing → Conn
 connOf w f = record { peer = w .peer; framing = f; server = w .server; asking = w .asking }
+
+abbrev pub linkOf : Line Who → Link
+linkOf l = linked (connOf (l .who) (l .framing)) (l .buffer)
 
 abbrev pub whoIn : Conn → Who
 whoIn c = record { peer = c .peer; server = c .server; asking = c .asking }
@@ -188,48 +181,19 @@ pub data Ask : Type 0 where
   failure : (j : ℕ) → (id : List ℕ) → Ask
 
 -- ---- what an answer leaves: lent memory, and what there is to see of it. `body` is the message that it answers
-abbrev pub noted : ℕ → ℕ → Answer → Sight → List ℕ → List ℕ → List ℕ → List ℕ → List Offer → Box → Box
-noted i at (Reply n) s body t k y os a =
-    record {
-      contacts = t;
-      records = k;
-      reply = y;
-      lookups = a .lookups;
-      inbox = a .inbox;
-      log = a .log ++ (event i at (replied (take n y) s) ∷ []);
-      offers = a .offers ++ os;
-    }
-noted i at (Heard n f) s body t k y os a =
-    record {
-      contacts = t;
-      records = k;
-      reply = y;
-      lookups = a .lookups;
-      inbox = setAt (a .inbox) i body;
-      log = a .log ++ (event i at (heard body f) ∷ []);
-      offers = a .offers ++ os;
-    }
-noted i at (Refused r) s body t k y os a =
-    record {
-      contacts = t;
-      records = k;
-      reply = y;
-      lookups = a .lookups;
-      inbox = a .inbox;
-      log = a .log ++ (event i at (refused r) ∷ []);
-      offers = a .offers ++ os;
-    }
-noted i at More s body t k y os a =
-    record { contacts = t; records = k; reply = y; lookups = a .lookups; inbox = a .inbox; log = a .log; offers = a .offers ++ os }
+abbrev pub noted : ℕ → ℕ → Answer → Sight → List ℕ → Lent → List Offer → Box → Box
+noted i at (Reply n) s body l os a = logged (withOffers (withLent a l) os) (event i at (replied (take n (l .reply)) s))
+noted i at (Heard n f) s body l os a = logged (withMessage (withOffers (withLent a l) os) i body) (event i at (heard body f))
+noted i at (Refused r) s body l os a = logged (withOffers (withLent a l) os) (event i at (refused r))
+noted i at More s body l os a = withOffers (withLent a l) os
 
 module _ (me : Peer) where
   -- ---- the plain reading's side: what a whole message on connection i, or a broken prefix, does
   abbrev pub dealing : Who → Box → List ℕ → Dealing
-  dealing w a body = dealingOf me (connOf w fresh) body (a .contacts) (a .records) (a .reply)
+  dealing w a body = dealingOf me (connOf w fresh) body (a .lent)
 
   abbrev pub happens : ℕ → Who → Box → Event → Box
-  happens i w a (message at body) =
-      let d = dealing w a body in noted i at (d .answer) (d .sight) body (d .contacts) (d .records) (d .reply) (offerIn w body) a
+  happens i w a (message at body) = let d = dealing w a body in noted i at (d .answer) (d .sight) body (d .left) (offerIn w body) a
   happens i w a (broken at r) = logged a (event i at (refused r))
 
   abbrev pub stopsAt : ℕ → Who → Box → Event → Bool
@@ -240,13 +204,12 @@ module _ (me : Peer) where
   -- one call of `receive`, on a connection that 0 to 2 don't refuse
   abbrev pub receiving : ℕ → Line Who → Box → List ℕ → Called Who Box
   receiving i l a bs =
-      let o = receiveOf me (connOf (l .who) (l .framing)) (l .buffer) bs (a .contacts) (a .records) (a .reply) in
+      let o = receiveOf me (linkOf l) bs (a .lent) in
       let e = framedOf (l .framing) (l .buffer) bs .got .answer in
       record {
         line = record { who = whoIn (o .got .conn); framing = o .got .conn .framing; buffer = o .buffer; taken = l .taken + o .got .taken };
         state =
-            noted i (l .taken + o .got .taken) (o .got .answer) (o .got .sight) (bodyIn e (o .buffer)) (o .contacts) (o .records) (o .reply)
-            (offersIn (l .who) e (o .buffer)) a;
+            noted i (l .taken + o .got .taken) (o .got .answer) (o .got .sight) (bodyIn e (o .buffer)) (o .left) (offersIn (l .who) e (o .buffer)) a;
         count = o .got .taken;
         more = isMore (o .got .answer);
       }
@@ -272,17 +235,18 @@ module _ (me : Peer) where
 
   abbrev pub asking : Box → Ask → Box
   asking a (put key value) =
-      logged (withOffer a (putAfter (a .records) key value) (record { key = key; value = value } ∷ [])) (called (putGave (putAnswer (a .records) key value)))
-  asking a (find key) = logged a (called (findGave (findOf (a .records) key)))
+      logged (withOffers (withRecords a (putAfter (a .lent .records) key value)) (record { key = key; value = value } ∷ []))
+      (called (putGave (putAnswer (a .lent .records) key value)))
+  asking a (find key) = logged a (called (findGave (findOf (a .lent .records) key)))
   asking a (seen id client addresses) =
-      logged (withContacts a (seenAfter me (a .contacts) id client addresses)) (called (seenGave (seenOf me (a .contacts) id client)))
+      logged (withContacts a (seenAfter me (a .lent .contacts) id client addresses)) (called (seenGave (seenOf me (a .lent .contacts) id client addresses)))
   asking a (settle head id client addresses answered) =
-      logged (withContacts a (settleAfter me (a .contacts) head id client addresses answered))
-      (called (settleGave (settleOf me (a .contacts) head id client answered)))
-  asking a (remove id) = logged (withContacts a (removeAfter me (a .contacts) id)) (called (removeGave (removeOf me (a .contacts) id)))
-  asking a (doubt id) = logged (withContacts a (doubtAfter me (a .contacts) id)) (called (doubtGave (doubtOf me (a .contacts) id)))
-  asking a (nearest key) = logged a (called (nearestGave (nearestTo me (a .contacts) key)))
-  asking a (start j key limit) = stepping j (lookupStart me (a .contacts) key limit) a
+      logged (withContacts a (settleAfter me (a .lent .contacts) head id client addresses answered))
+      (called (settleGave (settleOf me (a .lent .contacts) head id client addresses answered)))
+  asking a (remove id) = logged (withContacts a (removeAfter me (a .lent .contacts) id)) (called (removeGave (removeOf me (a .lent .contacts) id)))
+  asking a (doubt id) = logged (withContacts a (doubtAfter me (a .lent .contacts) id)) (called (doubtGave (doubtOf me (a .lent .contacts) id)))
+  asking a (nearest key) = logged a (called (nearestGave (nearestTo me (a .lent .contacts) key)))
+  asking a (start j key limit) = stepping j (lookupStart me (a .lent .contacts) key limit) a
   asking a (next j) = stepping j (nextOf (a .lookups j)) a
   asking a (reply j id body view) = stepping j (lookupReply me (a .lookups j) id body view) a
   asking a (replyFrom i j id) = stepping j (lookupReply me (a .lookups j) id (a .inbox i) (fieldsOf (a .inbox i))) a
@@ -306,6 +270,6 @@ module _ (me : Peer) where
 
   -- memory that is in form, and a reply buffer that 1 doesn't refuse
   pub record Good (a : Box) : Type 0 where
-    pub contacts : contactsForm (a .contacts) (me .place) ≡ true
-    pub records : recordsForm (a .records) ≡ true
-    pub room : leastReply ≤ length (a .reply)
+    pub contacts : contactsForm (a .lent .contacts) (me .place) ≡ true
+    pub records : recordsForm (a .lent .records) ≡ true
+    pub room : leastReply ≤ length (a .lent .reply)

@@ -7,6 +7,7 @@ use mathlib.Core.List.{List, [], _∷_, _++_, map}
 use mathlib.Core.Option.{none, some}
 use lib.ListN.{length, take, drop}
 use Rattle.octets.specs.Octets.{Bytes, part}
+use Rattle.limits.specs.Limits.{mostBody, leastReply}
 use Rattle.refusal.specs.declared.Refusal.{Refusal}
 use Rattle.refusal.specs.declared.Refusal.the-variants.{OutOfForm}
 use Rattle.refusal.specs.Refusal.{numberOf}
@@ -18,17 +19,16 @@ use Rattle.contacts.specs.Near.{nearestSlots}
 use Rattle.entries.specs.Entries.{contactEntry, peerEntry}
 use Rattle.contacts.specs.Claims.{AreNearest}
 use Rattle.sightings_kept.specs.Promises.{Hashed}
-use Rattle.contact_calls.specs.declared.SeenOutcome.the-variants as seenAnswer
-use Rattle.contact_calls.specs.declared.SettleOutcome.the-variants as settleAnswer
-use Rattle.contact_calls.specs.declared.RemoveOutcome.the-variants as removeAnswer
-use Rattle.contact_calls.specs.declared.DoubtOutcome.the-variants as doubtAnswer
+use Rattle.sightings.specs.declared.Sighting.the-variants as seenAnswer
+use Rattle.sightings.specs.declared.Settled.the-variants as settleAnswer
+use Rattle.sightings.specs.declared.Removed.the-variants as removeAnswer
+use Rattle.sightings.specs.declared.Doubted.the-variants as doubtAnswer
 use Rattle.recipe.specs.Recipe.{outranks}
 use Rattle.records.specs.declared.Answer.the-variants as putTold
 use Rattle.records.specs.declared.Found.the-variants as findTold
 use Rattle.records.specs.Store.{putAnswer, putAfter, findOf}
 use Rattle.records_history.specs.History.{None, got, Offer, after, cleared, Accepted, Unbeaten}
 use Rattle.records_history.specs.Claims.{FormIsBlind, HighestIsFound, HeldIsFound, JudgedFirst, PutTold}
-use Rattle.message.specs.Limits.{mostBody, leastReply}
 use Rattle.message.specs.Message.{Record, Message, messageOf, decode, encode, frame}
 use Rattle.message.specs.Claims.{ReadsWell, SplitIsMerged}
 use Rattle.message.specs.View.{fieldsOf}
@@ -37,7 +37,8 @@ use Rattle.writer.specs.declared.Written.the-variants as writer
 use Rattle.writer.specs.Writer.{answerOf, outAfter}
 use Rattle.lookup.specs.Value.{Lookup}
 use Rattle.lookup.specs.declared.Answer.the-variants as lookupAnswer
-use Rattle.lookup.specs.Lookup.{keyFits as lookupKeyFits, limitFits, noLookup}
+use Rattle.message.specs.Kinds.{putValue, getValue, findNode, keyFits}
+use Rattle.lookup.specs.Lookup.{limitFits, noLookup}
 use Rattle.lookup_runs.specs.Runs.{accepted, Started, Call as Step, step, outcome}
 use Rattle.lookup_runs.specs.Claims.{Viewed, Claims}
 use Rattle.stream.specs.declared.Framing.the-variants.{Shut}
@@ -47,21 +48,21 @@ use Rattle.cutting.specs.World.{putBack, Line, World, Call, hand, asks, given, 
 use Rattle.cutting.specs.Plain.{ReadOut, plainly, unread}
 use Rattle.framing_back.specs.Claims.{PrefixIsVarint, FramesReadBack, hands, Arrives}
 use Rattle.replies.specs.declared.Answered.the-variants as told
-use Rattle.replies.specs.Replies.{putValue, getValue, findNode, lastEntry}
-use Rattle.replies.specs.Verdicts.{replies, keyFits}
+use Rattle.replies.specs.Lent.{Lent, withRecords}
+use Rattle.replies.specs.Replies.{lastEntry}
+use Rattle.replies.specs.Verdicts.{replies}
 use Rattle.answer.specs.Answers.{verdictOf, dealOf}
 use Rattle.answer_promises.specs.Promises.{Roomed, ReadsBack, AnsweredByVerdict, AnsweredByFields, SentAsTyped, Serves, HeldIsServed}
-use Rattle.connections.specs.declared.Conn.{Conn}
 use Rattle.node.specs.declared.Answer.the-variants.{Reply, Refused}
 use Rattle.connections.specs.declared.Told.the-variants as nodeTold
 use Rattle.connections.specs.Box.{startOf, openOf, endConn}
 use Rattle.node.specs.declared.Gate.the-variants.{Open}
-use Rattle.node.specs.Node.{Out, gateOf, receiveOf}
+use Rattle.node.specs.Node.{Link, Out, gateOf, receiveOf}
 use Rattle.host_contacts.specs.Claims.{ContactsTold}
 use Rattle.host_calls.specs.Hosts.{seenOf, settleOf, removeOf, doubtOf, nearestTo, ownId, lookupStart}
 use Rattle.node_promises.specs.Promises.{Refuses, CallsRefused, ValuesRefused, MessageDone, BoxCalls}
 use Rattle.demands.specs.Lookups.{LookupsAreRuns}
-use Rattle.demands.specs.Box.{event, heard, Box, Who, connOf, bodyIn, Turn, Fits, Ask, put, box, Own, Allowed, Good}
+use Rattle.demands.specs.Box.{event, heard, Box, Who, connOf, linkOf, bodyIn, Turn, Fits, Ask, put, box, Own, Allowed, Good}
 
 -- ==== 1. "Whatever bytes a peer sends, in whatever amount, the box keeps to its memory and gives an answer. Every entry point takes any numbers and
 -- any buffers": that every function has a contract with no precondition, and meets it, is what the checker shows. Here is the rest.
@@ -70,8 +71,8 @@ use Rattle.demands.specs.Box.{event, heard, Box, Who, connOf, bodyIn, Tu
 -- reply, and 0, 1, 2 and 12, which its gate gives, take nothing, the others, 3 to 11, shut; seen, settle, remove and doubt leave the table; start, open, an end with 0
 -- and nearest hand back nobody, a shut connection, the connection as it was, no contacts
 pub record RefusedLeaves (me : Peer) : Type 0 where
-  pub receive : (c : Conn) (m bs t k y : List ℕ) (r : Refusal) → receiveOf me c m bs t k y .got .answer ≡ Refused r → Refuses me c m bs t k y r
-  pub late : (c : Conn) (m bs t k y : List ℕ) → gateOf me c m t k y ≡ Open → (r : Refusal) → receiveOf me c m bs t k y .got .answer ≡ Refused r
+  pub receive : (link : Link) (bs : List ℕ) (l : Lent) (r : Refusal) → receiveOf me link bs l .got .answer ≡ Refused r → Refuses me link bs l r
+  pub late : (link : Link) (bs : List ℕ) (l : Lent) → gateOf me link l ≡ Open → (r : Refusal) → receiveOf me link bs l .got .answer ≡ Refused r
       → (3 ≤ numberOf r) × (numberOf r ≤ 11)
   pub calls : CallsRefused
   pub values : ValuesRefused
@@ -85,17 +86,18 @@ pub record RefusedLeaves (me : Peer) : Type 0 where
 pub record NeverOutOfForm (me : Peer) : Type 0 where
   pub kept : (s : World Who Box Ask) → Ready (Allowed me) (Good me) s → (cs : List (Call Turn Ask)) → AllFit Fits cs → Ready (Allowed me) (Good me) (calls (box me) s cs)
   pub receive : (l : Line Who) (a : Box) (bs : List ℕ) → Fine (Allowed me) l → Good me a
-      → receiveOf me (connOf (l .who) (l .framing)) (l .buffer) bs (a .contacts) (a .records) (a .reply) .got .answer ≡ Refused OutOfForm → ⊥
+      → receiveOf me (linkOf l) bs (a .lent) .got .answer ≡ Refused OutOfForm → ⊥
   pub opens : (id : List ℕ) (server asking : Bool) (addresses : List ℕ) → openOf me id server asking addresses .told ≡ nodeTold.Refused OutOfForm → ⊥
   pub end : (l : Line Who) → Fine (Allowed me) l → endConn me (connOf (l .who) (l .framing)) .answer ≡ ends.Refused OutOfForm → ⊥
-  pub seen : (a : Box) (id : List ℕ) (client : Bool) → Good me a → seenOf me (a .contacts) id client ≡ seenAnswer.Refused OutOfForm → ⊥
-  pub settle : (a : Box) (head id : List ℕ) (client answered : Bool) → Good me a → settleOf me (a .contacts) head id client answered ≡ settleAnswer.Refused OutOfForm → ⊥
-  pub remove : (a : Box) (id : List ℕ) → Good me a → removeOf me (a .contacts) id ≡ removeAnswer.Refused OutOfForm → ⊥
-  pub doubt : (a : Box) (id : List ℕ) → Good me a → doubtOf me (a .contacts) id ≡ doubtAnswer.Refused OutOfForm → ⊥
-  pub nearest : (a : Box) (key : List ℕ) → Good me a → nearestTo me (a .contacts) key .told ≡ nodeTold.Refused OutOfForm → ⊥
-  pub put : (a : Box) (key value : List ℕ) → Good me a → putAnswer (a .records) key value ≡ putTold.Refused OutOfForm → ⊥
-  pub find : (a : Box) (key : List ℕ) → Good me a → findOf (a .records) key ≡ findTold.Refused OutOfForm → ⊥
-  pub start : (a : Box) (key : List ℕ) (limit : ℕ) → Good me a → lookupStart me (a .contacts) key limit .answer ≡ lookupAnswer.Refused OutOfForm → ⊥
+  pub seen : (a : Box) (id : List ℕ) (client : Bool) (addresses : List ℕ) → Good me a → seenOf me (a .lent .contacts) id client addresses ≡ seenAnswer.Refused OutOfForm → ⊥
+  pub settle : (a : Box) (head id : List ℕ) (client : Bool) (addresses : List ℕ) (answered : Bool) → Good me a
+      → settleOf me (a .lent .contacts) head id client addresses answered ≡ settleAnswer.Refused OutOfForm → ⊥
+  pub remove : (a : Box) (id : List ℕ) → Good me a → removeOf me (a .lent .contacts) id ≡ removeAnswer.Refused OutOfForm → ⊥
+  pub doubt : (a : Box) (id : List ℕ) → Good me a → doubtOf me (a .lent .contacts) id ≡ doubtAnswer.Refused OutOfForm → ⊥
+  pub nearest : (a : Box) (key : List ℕ) → Good me a → nearestTo me (a .lent .contacts) key .told ≡ nodeTold.Refused OutOfForm → ⊥
+  pub put : (a : Box) (key value : List ℕ) → Good me a → putAnswer (a .lent .records) key value ≡ putTold.Refused OutOfForm → ⊥
+  pub find : (a : Box) (key : List ℕ) → Good me a → findOf (a .lent .records) key ≡ findTold.Refused OutOfForm → ⊥
+  pub start : (a : Box) (key : List ℕ) (limit : ℕ) → Good me a → lookupStart me (a .lent .contacts) key limit .answer ≡ lookupAnswer.Refused OutOfForm → ⊥
   -- next, failure, and reply with the reader's view, of a lookup that a start gave and that since then came back from calls
   pub lookup : (t key : List ℕ) (limit : ℕ) → Started t (ownId me) (me .place) key limit → (cs : List Step) (c : Step) → Viewed c
       → step c (outcome step (lookupStart me t key limit) cs .lookup) .answer ≡ lookupAnswer.Refused OutOfForm → ⊥
@@ -110,7 +112,7 @@ pub record First (me : Peer) : Type 0 where
   pub calls : BoxCalls
   pub contacts : ContactsTold me
   pub puts : PutTold
-  pub lookups : (t key : List ℕ) (limit : ℕ) → contactsForm t (me .place) ≡ true → lookupKeyFits key ≡ true → limitFits limit ≡ true
+  pub lookups : (t key : List ℕ) (limit : ℕ) → contactsForm t (me .place) ≡ true → keyFits key ≡ true → limitFits limit ≡ true
       → accepted (lookupStart me t key limit .answer) ≡ true
   pub formed : NeverOutOfForm me
 
@@ -133,21 +135,21 @@ pub record Hears (says : Message) (i n : ℕ) (s w : World Who Box Ask) : Type 0
 -- the bytes that one box replies with, handed to another on a connection of its asking side, between messages, in any pieces
 abbrev pub BoxToBox : Peer → Peer → Type 0
 BoxToBox me you =
-    (who : Peer) → Roomed who → (body t k y : List ℕ) → leastReply ≤ length y → (n : ℕ) → dealOf me who body t k y .told ≡ told.Reply n
+    (who : Peer) → Roomed who → (body : List ℕ) (l : Lent) → leastReply ≤ length (l .reply) → (n : ℕ) → dealOf me who body l .told ≡ told.Reply n
     → (s : World Who Box Ask) → Ready (Allowed you) (Good you) s → (i : ℕ) → s .lines i .framing ≡ fresh → s .lines i .who .asking ≡ true
-    → (ps : List (List ℕ)) → joined ps ≡ take n (dealOf me who body t k y .reply)
-    → (says : Message) × (verdictOf me who (messageOf body) t k ≡ replies says) × Hears says i n s (calls (box you) s (hands i ps))
+    → (ps : List (List ℕ)) → joined ps ≡ take n (dealOf me who body l .left .reply)
+    → (says : Message) × (verdictOf me who (messageOf body) l ≡ replies says) × Hears says i n s (calls (box you) s (hands i ps))
 
 -- what a query for a key of 1 to 128 bytes answers: the host's own gives the slots of the nearest contacts, and a peer's their entries, to which FIND_NODE may add one
 pub record Queries (me : Peer) : Type 0 where
   pub host : (t key : List ℕ) → contactsForm t (me .place) ≡ true → keyFits key ≡ true
       → (nearestTo me t key .told ≡ nodeTold.Fine) × (take (nearestTo me t key .closest .n) (nearestTo me t key .closest .at) ≡ nearestSlots t (placeOf key))
-  pub get : (who : Peer) (m : Message) (t k : List ℕ) → m .kind ≡ getValue → keyFits (m .key) ≡ true
-      → (r : Message) × (verdictOf me who m t k ≡ replies r) × (r .closer ≡ map (λ i. contactEntry (slot t i)) (nearestSlots t (placeOf (m .key))))
-      × (got k (m .key) ≡ None → r .held ≡ none)
-  pub find : (who : Peer) (m : Message) (t k : List ℕ) → m .kind ≡ findNode → keyFits (m .key) ≡ true
-      → (r : Message) × (verdictOf me who m t k ≡ replies r)
-      × (r .closer ≡ map (λ i. contactEntry (slot t i)) (nearestSlots t (placeOf (m .key))) ++ lastEntry me who t (placeOf (m .key)))
+  pub get : (who : Peer) (m : Message) (l : Lent) → m .kind ≡ getValue → keyFits (m .key) ≡ true
+      → (r : Message) × (verdictOf me who m l ≡ replies r)
+      × (r .closer ≡ map (λ i. contactEntry (slot (l .contacts) i)) (nearestSlots (l .contacts) (placeOf (m .key)))) × (got (l .records) (m .key) ≡ None → r .held ≡ none)
+  pub find : (who : Peer) (m : Message) (l : Lent) → m .kind ≡ findNode → keyFits (m .key) ≡ true
+      → (r : Message) × (verdictOf me who m l ≡ replies r)
+      × (r .closer ≡ map (λ i. contactEntry (slot (l .contacts) i)) (nearestSlots (l .contacts) (placeOf (m .key))) ++ lastEntry me who (l .contacts) (placeOf (m .key)))
   -- who asks for itself is told of itself: "The extra FIND_NODE entry stands even if its peer is doubtful" (document 02, x), or is no contact; one that is given has no
   -- second entry. Who asks for us is told of us. And nobody is told of another this way
   pub extra : (who : Peer) (t : List ℕ) → (who .place ≡ me .place → ⊥)
@@ -161,9 +163,9 @@ pub record Queries (me : Peer) : Type 0 where
 pub record Begun (s : World Who Box Ask) : Type 0 where
   pub contactBytes : ℕ
   pub recordBytes : ℕ
-  pub contacts : s .shared .state .contacts ≡ cleared contactBytes
-  pub records : s .shared .state .records ≡ cleared recordBytes
-  pub reply : leastReply ≤ length (s .shared .state .reply)
+  pub contacts : s .shared .state .lent .contacts ≡ cleared contactBytes
+  pub records : s .shared .state .lent .records ≡ cleared recordBytes
+  pub reply : leastReply ≤ length (s .shared .state .lent .reply)
   pub shut : (i : ℕ) → s .lines i .framing ≡ Shut
   pub buffers : (i : ℕ) → mostBody ≤ length (s .lines i .buffer)
 
@@ -185,8 +187,8 @@ pub record Second (me : Peer) : Type 0 where
   -- a request gets what its fields call for
   pub verdicts : AnsweredByVerdict me
   -- a reply is the message that the plain reading of the request calls for, it reads back as that message, and bytes after it stay
-  pub replies : (who : Peer) → Roomed who → (body t k y : List ℕ) → leastReply ≤ length y → (n : ℕ) → dealOf me who body t k y .told ≡ told.Reply n
-      → ReadsBack (verdictOf me who (messageOf body) t k) (dealOf me who body t k y) y n
+  pub replies : (who : Peer) → Roomed who → (body : List ℕ) (l : Lent) → leastReply ≤ length (l .reply) → (n : ℕ) → dealOf me who body l .told ≡ told.Reply n
+      → ReadsBack (verdictOf me who (messageOf body) l) (dealOf me who body l) (l .reply) n
   -- and goes by what the request says alone, however it is written
   pub answers : AnsweredByFields me
   -- what a message is told is what its connection does: it replies so, or is refused so; or on the asking side the host hears it, with the reader's view
@@ -197,7 +199,7 @@ pub record Second (me : Peer) : Type 0 where
   pub queries : Queries me
   pub nearest : (t key : List ℕ) → AreNearest t (placeOf key) (nearestSlots t (placeOf key))
   -- and that is the distance of SHA-256 of the ids: "memory once cleared, since then lent whole and changed by calls alone" holds each contact at its id's hash
-  pub hashed : (s : World Who Box Ask) → Begun s → (cs : List (Call Turn Ask)) → AllFit Fits cs → Hashed (calls (box me) s cs .shared .state .contacts)
+  pub hashed : (s : World Who Box Ask) → Begun s → (cs : List (Call Turn Ask)) → AllFit Fits cs → Hashed (calls (box me) s cs .shared .state .lent .contacts)
   -- "A lookup asks nobody twice. It reports complete only when the twenty nearest peers heard of that haven't failed, or all if fewer, have answered, and
   -- no peer was turned away for want of room": over the history of any calls since its start
   pub lookup : (t key : List ℕ) (limit : ℕ) → Started t (ownId me) (me .place) key limit → Claims step t key limit (lookupStart me t key limit)
@@ -211,10 +213,7 @@ since s w = drop (length (s .shared .state .offers)) (w .shared .state .offers)
 
 -- one call of `receive` on connection i, and the message that the piece completes
 abbrev pub receiveOn : Peer → World Who Box Ask → ℕ → List ℕ → Out
-receiveOn me s i p =
-    let l = s .lines i in
-    let a = s .shared .state in
-    receiveOf me (connOf (l .who) (l .framing)) (l .buffer) p (a .contacts) (a .records) (a .reply)
+receiveOn me s i p = receiveOf me (linkOf (s .lines i)) p (s .shared .state .lent)
 
 abbrev pub completed : Peer → World Who Box Ask → ℕ → List ℕ → Message
 completed me s i p = messageOf (bodyIn (framedOf (s .lines i .framing) (s .lines i .buffer) p .got .answer) (receiveOn me s i p .buffer))
@@ -232,7 +231,7 @@ pub record Sent (me : Peer) (s : World Who Box Ask) (i : ℕ) (p key value : Lis
 
 -- "accepted, typed or sent": by the call c on the world s
 pub data Accepts (me : Peer) (s : World Who Box Ask) (key value : List ℕ) (c : Call Turn Ask) : Type 0 where
-  typed : c ≡ asks (put key value) → putAnswer (s .shared .state .records) key value ≡ putTold.Taken → Accepts me s key value c
+  typed : c ≡ asks (put key value) → putAnswer (s .shared .state .lent .records) key value ≡ putTold.Taken → Accepts me s key value c
   sent : (i : ℕ) (p : List ℕ) → c ≡ hand i p → Sent me s i p key value → Accepts me s key value c
 
 -- "the one found under its key": by `find`, and in the reply to every GET_VALUE
@@ -241,8 +240,8 @@ pub record Finds (me : Peer) (k key value : List ℕ) : Type 0 where
   pub end : ℕ
   pub find : findOf k key ≡ findTold.Held at end
   pub there : part k at end ≡ value
-  pub asked : (who : Peer) (body t y : List ℕ) (m : Message) → length body ≤ mostBody → decode body ≡ some m → m .kind ≡ getValue → m .key ≡ key → leastReply ≤ length y
-      → Serves (dealOf me who body t k y) y key value
+  pub asked : (who : Peer) (body : List ℕ) (l : Lent) (m : Message) → length body ≤ mostBody → decode body ≡ some m → m .kind ≡ getValue → m .key ≡ key
+      → leastReply ≤ length (l .reply) → Serves (dealOf me who body (withRecords l k)) (l .reply) key value
 
 -- "Cutting changes nothing. Take the same start, buffers that 0 and 1 don't refuse, and the same order of completed messages, stream refusals,
 -- opens, ends and other host calls on all connections. Hand over each connection's bytes once, before its end, in sequence, cut anywhere, empty pieces included."
@@ -267,16 +266,16 @@ pub record Third (me : Peer) : Type 0 where
       → Accepts me (calls (box me) s before) key v c → (later : List (Call Turn Ask)) → AllFit Fits later
       → let now = call (box me) (calls (box me) s before) c in
       let end = calls (box me) now later in
-      Unbeaten key v (now .shared .state .records) (since now end) → Finds me (end .shared .state .records) key v
+      Unbeaten key v (now .shared .state .lent .records) (since now end) → Finds me (end .shared .state .lent .records) key v
   pub lasts : (s : World Who Box Ask) → Ready (Allowed me) (Good me) s → (cs : List (Call Turn Ask)) → AllFit Fits cs → (key v : List ℕ)
-      → Finds me (s .shared .state .records) key v → Unbeaten key v (s .shared .state .records) (since s (calls (box me) s cs))
-      → Finds me (calls (box me) s cs .shared .state .records) key v
+      → Finds me (s .shared .state .lent .records) key v → Unbeaten key v (s .shared .state .lent .records) (since s (calls (box me) s cs))
+      → Finds me (calls (box me) s cs .shared .state .lent .records) key v
   -- the store is what the offers of all calls make of it, typed or sent; of those accepted none outranks what is found
   pub offers : (s : World Who Box Ask) → Ready (Allowed me) (Good me) s → (cs : List (Call Turn Ask)) → AllFit Fits cs
-      → calls (box me) s cs .shared .state .records ≡ after (s .shared .state .records) (since s (calls (box me) s cs))
+      → calls (box me) s cs .shared .state .lent .records ≡ after (s .shared .state .lent .records) (since s (calls (box me) s cs))
   pub highest : (s : World Who Box Ask) → Ready (Allowed me) (Good me) s → (cs : List (Call Turn Ask)) → AllFit Fits cs → (key v : List ℕ)
-      → Accepted key v (s .shared .state .records) (since s (calls (box me) s cs))
-      → (u : List ℕ) × Finds me (calls (box me) s cs .shared .state .records) key u × (outranks v u ≡ false)
+      → Accepted key v (s .shared .state .lent .records) (since s (calls (box me) s cs))
+      → (u : List ℕ) × Finds me (calls (box me) s cs .shared .state .lent .records) key u × (outranks v u ≡ false)
   -- and that is what is found, sent to who asks for it and compared with what comes, whatever the recipe rules say of it (document 02, ix: "Records already held
   -- stay held and are still served and ranked"); what comes, typed or sent, is judged before it is compared
   pub found : HeldIsFound

@@ -68,7 +68,7 @@ module _ (me : Peer) (j : ℕ) where
   traced s x [] = x
   traced s x (c ∷ cs) =
       let w = call (box me) s c in
-      traced w (traceWith (s .shared .state .contacts) (logSince s w) (partOf (s .shared .state .inbox) c) x) cs
+      traced w (traceWith (s .shared .state .lent .contacts) (logSince s w) (partOf (s .shared .state .inbox) c) x) cs
 
 -- what its start gave
 abbrev pub startIn : {E : Type 0} → Peer → Trace E → Step

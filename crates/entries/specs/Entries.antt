@@ -1,11 +1,9 @@
 -- Entries of closerPeers: document 01, 'Answers to requests'.
 use Prim.Native.Nat.{ℕ}
-use mathlib.Core.List.{List, map}
-use lib.ListN.{take}
+use mathlib.Core.List.{List}
 use Rattle.contacts.specs.Contact.{entryId, entryAddresses}
 use Rattle.peer.specs.declared.Peer as peers
-use Rattle.peer.specs.Addresses.{addressRoom, mostAddresses}
-use Rattle.peer.specs.Peers.{idIn, addressesIn}
+use Rattle.peer.specs.Peers.{idIn, usableIn}
 use Rattle.message.specs.Message.{Peer}
 
 -- "connection 0"
@@ -16,7 +14,6 @@ unconnected = 0
 unfoldable pub contactEntry : List ℕ → Peer
 contactEntry s = record { id = entryId s; addrs = entryAddresses s; connection = unconnected }
 
--- we or the requester, with the addresses "from the box's start .. or the open". Those are four of at most 128 bytes, and a peer of other numbers is
--- cut to that
+-- we or the requester: "Its first four usable addresses come from the box's start .. or the open"
 unfoldable pub peerEntry : peers.Peer → Peer
-peerEntry p = record { id = idIn p; addrs = map (take addressRoom) (take mostAddresses (addressesIn p)); connection = unconnected }
+peerEntry p = record { id = idIn p; addrs = usableIn p; connection = unconnected }

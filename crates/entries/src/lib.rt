@@ -3,12 +3,14 @@ use peer::Peer;
 ghost use mathlib.Core.Path.{_≡_};
 ghost use mathlib.Core.Bool.{true};
 ghost use Prim.Native.Nat.{_+_, _*_, _<_, _≤_, min};
-ghost use lib.ListN.{length, take};
+ghost use lib.ListN.{length};
 ghost use Rattle.octets.specs.Octets.{part};
+ghost use Rattle.limits.specs.Limits.{mostId, mostAddress, mostAddresses, addressesSize};
 ghost use Rattle.contacts.specs.Table.{slot};
 ghost use Rattle.wire.specs.Items.{Put};
 ghost use Rattle.pieces.specs.Writable.{peerFits, peerPiece};
 ghost use Rattle.entries.specs.Entries.{contactEntry, peerEntry};
+ghost use Rattle.pieces.specs.Sizes.{mostPeerField};
 
 // The field of closerPeers, and what an entry says of the connection.
 const CLOSER: u8 = 8;
@@ -17,7 +19,7 @@ const UNCONNECTED: u8 = 0;
 
 // How many bytes the contact in slot i takes as an entry.
 pub fn contact_len(table: &[u8], i: usize) -> usize
-    ensures { λ r. ⌜ (r ≡ length (peerPiece 8 (contactEntry (slot (now (table .entry)) i)))) × (r ≤ 595) ⌝ }
+    ensures { λ r. ⌜ (r ≡ length (peerPiece 8 (contactEntry (slot (now (table .entry)) i)))) × (r ≤ mostPeerField) ⌝ }
 {
     pieces::peer_len(
         CLOSER,
@@ -49,39 +51,40 @@ pub fn put_contact(buf: &mut [u8], at: usize, table: &[u8], i: usize) -> usize
     )
 }
 
-// A size, cut at a limit.
-fn at_most(size: u8, limit: usize) -> usize
-    ensures { λ r. ⌜ r ≡ min size limit ⌝ }
+// The size of an id, cut to 64.
+fn id_size(size: u8) -> usize
+    ensures { λ r. ⌜ r ≡ min size mostId ⌝ }
 {
     let n = size as usize;
-    if n < limit {
+    if n < limits::MOST_ID {
         return n;
     }
-    limit
+    limits::MOST_ID
 }
 
-// The address in room k of four, cut to its room.
+// The address in room k of four.
 fn room(addrs: &[u8], k: usize, size: u8) -> &[u8]
-    requires { ⌜ (length (now addrs) ≡ 512) × (k < 4) ⌝ }
-    ensures { λ r. ⌜ now r ≡ take 128 (part (now (addrs .entry)) (k * 128) (k * 128 + size)) ⌝ }
+    requires { ⌜ (length (now addrs) ≡ addressesSize) × (k < mostAddresses) × (size ≤ mostAddress) ⌝ }
+    ensures { λ r. ⌜ now r ≡ part (now (addrs .entry)) (k * mostAddress) (k * mostAddress + size) ⌝ }
 {
-    let from = k * peer::ADDRESS;
-    let end = from + at_most(size, peer::ADDRESS);
+    let from = k * limits::MOST_ADDRESS;
+    let end = from + size as usize;
     &addrs[from..end]
 }
 
-// How many bytes a peer by value takes as an entry: we, or the requester.
+// How many bytes a peer by value takes as an entry, with its usable addresses: we, or the requester.
 pub fn own_len(p: Peer) -> usize
-    ensures { λ r. ⌜ (r ≡ length (peerPiece 8 (peerEntry p))) × (r ≤ 595) × (peerFits (peerEntry p) ≡ true) ⌝ }
+    ensures { λ r. ⌜ (r ≡ length (peerPiece 8 (peerEntry p))) × (r ≤ mostPeerField) × (peerFits (peerEntry p) ≡ true) ⌝ }
 {
-    let id = p.id;
-    let addrs = p.addrs;
-    let lens = p.lens;
-    let size = at_most(p.size, peer::ID);
+    let q = peer::tidied(p);
+    let id = q.id;
+    let addrs = q.addrs;
+    let lens = q.lens;
+    let size = id_size(q.size);
     pieces::peer_len(
         CLOSER,
         &id[..size],
-        p.count as usize,
+        q.count as usize,
         room(&addrs, 0, lens[0]),
         room(&addrs, 1, lens[1]),
         room(&addrs, 2, lens[2]),
@@ -94,16 +97,17 @@ pub fn own_len(p: Peer) -> usize
 pub fn put_own(buf: &mut [u8], at: usize, p: Peer) -> usize
     ensures { λ r. ⌜ Put (now (buf .entry)) at (peerPiece 8 (peerEntry p)) (now (buf .exit)) r ⌝ }
 {
-    let id = p.id;
-    let addrs = p.addrs;
-    let lens = p.lens;
-    let size = at_most(p.size, peer::ID);
+    let q = peer::tidied(p);
+    let id = q.id;
+    let addrs = q.addrs;
+    let lens = q.lens;
+    let size = id_size(q.size);
     pieces::put_peer(
         buf,
         at,
         CLOSER,
         &id[..size],
-        p.count as usize,
+        q.count as usize,
         room(&addrs, 0, lens[0]),
         room(&addrs, 1, lens[1]),
         room(&addrs, 2, lens[2]),

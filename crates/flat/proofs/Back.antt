@@ -10,7 +10,7 @@ use Rattle.octets.proofs.Parts.{part-part}
 use Rattle.octets.proofs.Stores.{take-sets, getD-sets-before}
 use Rattle.peer.specs.Addresses.{padded}
 use Rattle.peer.specs.declared.Peer.{Peer}
-use Rattle.sightings.specs.Order.{contactBytes}
+use Rattle.peer.specs.Peers.{contactBytes}
 use Rattle.stream.specs.declared.Held.the-variants.{Nothing, One, Two}
 use Rattle.stream.specs.declared.Framing.{Framing}
 use Rattle.stream.specs.declared.Framing.the-variants.{Shut, Prefix, Body}
@@ -18,7 +18,7 @@ use Rattle.stream.specs.Stream.{inForm}
 use Rattle.stream.proofs.Steps.{body-short, body-small}
 use Rattle.connections.specs.declared.Conn.{Conn}
 use Rattle.connections.specs.Box as box
-use Rattle.flat.specs.Flat.{field, peerIn, unread, prefixOf, framingOf, pairAt, framingIn, saysYes, connIn, peerBytes, framingBytes, bit, connBytes, withFraming}
+use Rattle.flat.specs.Flat.{peerSize, serverAt, askingAt, framingAt, connSize, field, peerIn, unread, prefixOf, framingOf, pairAt, framingIn, saysYes, connIn, peerBytes, framingBytes, bit, connBytes, withFraming}
 use Rattle.flat.specs.Promises.{Whole, Sizes, ReadsBack, ReadsBackLent, LooksNoFurther, NoFraming}
 use Rattle.flat.proofs.Reading.{peer-read, too-many-held, kind-prefix, kind-other, conn-read}
 use Rattle.flat.proofs.Writing.{length-peer, length-framing, length-conn}
@@ -55,7 +55,7 @@ field-within a n m s l = sym (padded-take n (drop a (take m s))) ∙ ap (padded 
         let x : 0 + (a + n) ≡ a + n = omega arith in
         rw (x, y, z, e) at (part-part s 0 m a (a + n) (omega arith))
 
-peer-within : (m : ℕ) (s : List ℕ) → 616 ≤ m → peerIn (take m s) ≡ peerIn s
+peer-within : (m : ℕ) (s : List ℕ) → peerSize ≤ m → peerIn (take m s) ≡ peerIn s
 unfolding peerIn
 peer-within m s l =
     rw (
@@ -72,16 +72,16 @@ unfolding framingIn
 framing-same s t h =
     rw (h 0 (omega arith), h 1 (omega arith), h 2 (omega arith), h 3 (omega arith), h 4 (omega arith), h 5 (omega arith), h 6 (omega arith), h 7 (omega arith))
 
-framing-within : (s : List ℕ) → framingIn (drop 618 (take 640 s)) ≡ framingIn (drop 618 s)
-framing-within s = framing-same (drop 618 (take 640 s)) (drop 618 s) (λ i l. each i l)
+framing-within : (s : List ℕ) → framingIn (drop framingAt (take connSize s)) ≡ framingIn (drop framingAt s)
+framing-within s = framing-same (drop framingAt (take connSize s)) (drop framingAt s) (λ i l. each i l)
   where
-    each : (i : ℕ) → i < 8 → getD (drop 618 (take 640 s)) i 0 ≡ getD (drop 618 s) i 0
-    each i l = getD-drop 618 (take 640 s) i 0 ∙ getD-take 640 s (618 + i) 0 (omega arith) ∙ sym (getD-drop 618 s i 0)
+    each : (i : ℕ) → i < 8 → getD (drop framingAt (take connSize s)) i 0 ≡ getD (drop framingAt s) i 0
+    each i l = getD-drop framingAt (take connSize s) i 0 ∙ getD-take connSize s (framingAt + i) 0 (omega arith) ∙ sym (getD-drop framingAt s i 0)
 
-conn-within : (s : List ℕ) → connIn (take 640 s) ≡ connIn s
+conn-within : (s : List ℕ) → connIn (take connSize s) ≡ connIn s
 unfolding connIn
 conn-within s =
-    rw (peer-within 640 s (omega arith), framing-within s, getD-take 640 s 616 0 (omega arith), getD-take 640 s 617 0 (omega arith))
+    rw (peer-within connSize s (omega arith), framing-within s, getD-take connSize s serverAt 0 (omega arith), getD-take connSize s askingAt 0 (omega arith))
 
 -- ---- a peer
 -- its parts, one after the other, and what follows
@@ -166,8 +166,8 @@ unfolding connBytes
 conn-back c rest w h =
     ap connIn (append-assoc ps (bit (c .server) ∷ bit (c .asking) ∷ fs ++ replicate 14 0) rest ∙ ap (λ (l : List ℕ). ps ++ (bit (c .server) ∷ bit (c .asking) ∷ l)) (append-assoc fs (replicate 14 0) rest))
     ∙ sym (conn-read (ps ++ tail) (c .peer) (c .framing) (c .server) (c .asking) (bit (c .server)) (bit (c .asking))
-    (sym (peer-back (c .peer) tail w)) (sym (ap framingIn (skip ps tail 616 2 long) ∙ framing-back (c .framing) (replicate 14 0 ++ rest) h))
-    (sym (at-add ps tail 616 0 long)) (bit-back (c .server)) (sym (at-add ps tail 616 1 long)) (bit-back (c .asking)))
+    (sym (peer-back (c .peer) tail w)) (sym (ap framingIn (skip ps tail peerSize 2 long) ∙ framing-back (c .framing) (replicate 14 0 ++ rest) h))
+    (sym (at-add ps tail peerSize 0 long)) (bit-back (c .server)) (sym (at-add ps tail peerSize 1 long)) (bit-back (c .asking)))
   where
     ps : List ℕ
     ps = peerBytes (c .peer)
@@ -178,34 +178,34 @@ conn-back c rest w h =
     tail : List ℕ
     tail = bit (c .server) ∷ bit (c .asking) ∷ fs ++ (replicate 14 0 ++ rest)
 
-    long : length ps ≡ 616
+    long : length ps ≡ peerSize
     long = length-peer (c .peer) w
 
 -- ---- from a lent buffer
-peer-lent : (s : List ℕ) (p : Peer) → 616 ≤ length s → Whole p → peerIn (sets s 0 (peerBytes p)) ≡ p
+peer-lent : (s : List ℕ) (p : Peer) → peerSize ≤ length s → Whole p → peerIn (sets s 0 (peerBytes p)) ≡ p
 peer-lent s p l w =
     ap peerIn (sets-eq (peerBytes p) s 0 (omega (arith, length-peer p w))) ∙ peer-back p (drop (0 + length (peerBytes p)) s) w
 
-conn-lent : (s : List ℕ) (c : Conn) → 640 ≤ length s → Whole (c .peer) → inForm (c .framing) ≡ true → connIn (sets s 0 (connBytes c)) ≡ c
+conn-lent : (s : List ℕ) (c : Conn) → connSize ≤ length s → Whole (c .peer) → inForm (c .framing) ≡ true → connIn (sets s 0 (connBytes c)) ≡ c
 conn-lent s c l w h =
     ap connIn (sets-eq (connBytes c) s 0 (omega (arith, length-conn c w))) ∙ conn-back c (drop (0 + length (connBytes c)) s) w h
 
-framing-lent : (s : List ℕ) (f : Framing) → 640 ≤ length s → inForm f ≡ true → connIn (withFraming s f) ≡ box.withFraming (connIn s) f
+framing-lent : (s : List ℕ) (f : Framing) → connSize ≤ length s → inForm f ≡ true → connIn (withFraming s f) ≡ box.withFraming (connIn s) f
 unfolding connIn
 framing-lent s f l h =
-    rw (same-peer, same-framing, getD-sets-before s 618 (framingBytes f) 616 (omega arith), getD-sets-before s 618 (framingBytes f) 617 (omega arith))
+    rw (same-peer, same-framing, getD-sets-before s framingAt (framingBytes f) serverAt (omega arith), getD-sets-before s framingAt (framingBytes f) askingAt (omega arith))
   where
     same-peer : peerIn (withFraming s f) ≡ peerIn s
     same-peer =
-        sym (peer-within 616 (withFraming s f) (omega arith)) ∙ ap peerIn (take-sets 616 s 618 (framingBytes f) (omega arith)) ∙ peer-within 616 s (omega arith)
+        sym (peer-within peerSize (withFraming s f) (omega arith)) ∙ ap peerIn (take-sets peerSize s framingAt (framingBytes f) (omega arith)) ∙ peer-within peerSize s (omega arith)
 
     after : List ℕ
-    after = drop (618 + length (framingBytes f)) s
+    after = drop (framingAt + length (framingBytes f)) s
 
-    same-framing : framingIn (drop 618 (withFraming s f)) ≡ f
+    same-framing : framingIn (drop framingAt (withFraming s f)) ≡ f
     same-framing =
-        ap (λ (t : List ℕ). framingIn (drop 618 t)) (sets-eq (framingBytes f) s 618 (omega (arith, length-framing f)) ∙ append-assoc (take 618 s) (framingBytes f) after)
-        ∙ ap framingIn (drop-at (take 618 s) (framingBytes f ++ after) 618 (length-take-le 618 s (omega arith))) ∙ framing-back f after h
+        ap (λ (t : List ℕ). framingIn (drop framingAt t)) (sets-eq (framingBytes f) s framingAt (omega (arith, length-framing f)) ∙ append-assoc (take framingAt s) (framingBytes f) after)
+        ∙ ap framingIn (drop-at (take framingAt s) (framingBytes f ++ after) framingAt (length-take-le framingAt s (omega arith))) ∙ framing-back f after h
 
 -- ---- the promises
 pub sizes : Sizes
@@ -218,7 +218,7 @@ pub reads-back-lent : ReadsBackLent
 reads-back-lent = record { peer = peer-lent; conn = conn-lent; framing = framing-lent }
 
 pub looks-no-further : LooksNoFurther
-looks-no-further = record { peer = λ s. peer-within 616 s (omega arith); conn = conn-within }
+looks-no-further = record { peer = λ s. peer-within peerSize s (omega arith); conn = conn-within }
 
 pub no-framing : NoFraming
 no-framing = record { kind = no-kind; held = no-held }

@@ -17,7 +17,7 @@ use Rattle.stream.specs.declared.Held.the-variants.{Nothing, One, Two}
 use Rattle.stream.specs.declared.Framing.{Framing}
 use Rattle.stream.specs.declared.Framing.the-variants.{Shut, Prefix, Body}
 use Rattle.connections.specs.declared.Conn.{Conn}
-use Rattle.flat.specs.Flat.{field, peerIn, unread, prefixOf, framingOf, pairAt, framingIn, saysYes, connIn}
+use Rattle.flat.specs.Flat.{serverAt, askingAt, framingAt, field, peerIn, unread, prefixOf, framingOf, pairAt, framingIn, saysYes, connIn}
 
 -- ---- bytes
 pub pair-read : (s : List ℕ) (at low high : ℕ) → low ≡ getD s at 0 → high ≡ getD s (at + 1) 0 → low + high * 256 ≡ pairAt s at
@@ -82,8 +82,8 @@ module _ (kind held a b want have : ℕ) where
           q ∙ sym (cond-no (eqb kind 0) _ _ (ne-eqb _ _ n0) ∙ cond-no (eqb kind 1) _ _ (ne-eqb _ _ n1) ∙ cond-no (eqb kind 2) _ _ (ne-eqb _ _ n2))
 
 pub framing-read : (s : List ℕ) (f : Framing) (kind held a b want have : ℕ) → f ≡ framingOf kind held a b want have
-    → kind ≡ getD s 618 0 → held ≡ getD s 619 0 → a ≡ getD s 620 0 → b ≡ getD s 621 0 → want ≡ pairAt s 622 → have ≡ pairAt s 624
-    → f ≡ framingIn (drop 618 s)
+    → kind ≡ getD s framingAt 0 → held ≡ getD s 619 0 → a ≡ getD s 620 0 → b ≡ getD s 621 0 → want ≡ pairAt s 622 → have ≡ pairAt s 624
+    → f ≡ framingIn (drop framingAt s)
 unfolding framingIn
 framing-read s f kind held a b want have e e0 e1 e2 e3 e4 e6 =
     e ∙ rw (
@@ -93,19 +93,19 @@ framing-read s f kind held a b want have e e0 e1 e2 e3 e4 e6 =
       e3,
       e4,
       e6,
-      getD-drop 618 s 0 0,
-      getD-drop 618 s 1 0,
-      getD-drop 618 s 2 0,
-      getD-drop 618 s 3 0,
-      getD-drop 618 s 4 0,
-      getD-drop 618 s 5 0,
-      getD-drop 618 s 6 0,
-      getD-drop 618 s 7 0,
+      getD-drop framingAt s 0 0,
+      getD-drop framingAt s 1 0,
+      getD-drop framingAt s 2 0,
+      getD-drop framingAt s 3 0,
+      getD-drop framingAt s 4 0,
+      getD-drop framingAt s 5 0,
+      getD-drop framingAt s 6 0,
+      getD-drop framingAt s 7 0,
     )
 
 -- ---- a connection
-pub conn-read : (s : List ℕ) (p : Peer) (f : Framing) (server asking : Bool) (x y : ℕ) → p ≡ peerIn s → f ≡ framingIn (drop 618 s)
-    → x ≡ getD s 616 0 → server ≡ saysYes x → y ≡ getD s 617 0 → asking ≡ saysYes y
+pub conn-read : (s : List ℕ) (p : Peer) (f : Framing) (server asking : Bool) (x y : ℕ) → p ≡ peerIn s → f ≡ framingIn (drop framingAt s)
+    → x ≡ getD s serverAt 0 → server ≡ saysYes x → y ≡ getD s askingAt 0 → asking ≡ saysYes y
     → _≡_ {A = Conn} (record { peer = p; framing = f; server = server; asking = asking }) (connIn s)
 unfolding connIn
 conn-read s p f server asking x y ep ef ex es ey ea = rw (ep, ef, es, ex, ea, ey)

@@ -18,53 +18,36 @@ use mathlib.Core.List.{List, [], _∷_, _++_}
 use lib.ListN.{getD, drop, replicate}
 use lib.Seq.{sets}
 use lib.Dec.{eqb}
+use Rattle.limits.specs.Limits.{mostId, mostAddresses, addressesSize, placeSize}
+use Rattle.contact_table.specs.Table.{idSizeAt, countAt, sizesAt, placeAt, idAt, addressesAt, slotSize}
 use Rattle.peer.specs.Addresses.{padded}
 use Rattle.peer.specs.declared.Peer.{Peer}
-use Rattle.sightings.specs.Order.{contactBytes}
+use Rattle.peer.specs.Peers.{contactBytes}
 use Rattle.stream.specs.declared.Held.{Held}
 use Rattle.stream.specs.declared.Held.the-variants.{Nothing, One, Two}
 use Rattle.stream.specs.declared.Framing.{Framing}
 use Rattle.stream.specs.declared.Framing.the-variants.{Shut, Prefix, Body}
 use Rattle.connections.specs.declared.Conn.{Conn}
 
--- ---- where the parts of a peer stand
-abbrev pub sizeAt : ℕ
-sizeAt = 2
-
-abbrev pub countAt : ℕ
-countAt = 3
-
-abbrev pub lensAt : ℕ
-lensAt = 4
-
-abbrev pub placeAt : ℕ
-placeAt = 8
-
-abbrev pub idAt : ℕ
-idAt = 40
-
-abbrev pub addressesAt : ℕ
-addressesAt = 104
-
+-- ---- where the parts of a connection stand; those of a peer stand where a slot has them
 abbrev pub peerSize : ℕ
-peerSize = 616
+peerSize = slotSize
 
--- ---- and those of a connection
 abbrev pub serverAt : ℕ
-serverAt = 616
+serverAt = peerSize
 
 abbrev pub askingAt : ℕ
-askingAt = 617
+askingAt = serverAt + 1
 
 abbrev pub framingAt : ℕ
-framingAt = 618
+framingAt = askingAt + 1
 
 -- zeros from here on
 abbrev pub restAt : ℕ
-restAt = 626
+restAt = framingAt + 8
 
 abbrev pub connSize : ℕ
-connSize = 640
+connSize = restAt + 14
 
 -- ---- reading. What lies past the end of a byte string reads as zeros
 -- n bytes from a on
@@ -73,11 +56,11 @@ field a n s = padded n (drop a s)
 
 unfoldable pub peerIn : List ℕ → Peer
 peerIn s = record {
-  addrs = field addressesAt 512 s;
-  id = field idAt 64 s;
-  place = field placeAt 32 s;
-  lens = field lensAt 4 s;
-  size = getD s sizeAt 0;
+  addrs = field addressesAt addressesSize s;
+  id = field idAt mostId s;
+  place = field placeAt placeSize s;
+  lens = field sizesAt mostAddresses s;
+  size = getD s idSizeAt 0;
   count = getD s countAt 0;
 }
 

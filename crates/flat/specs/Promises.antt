@@ -5,6 +5,7 @@ use mathlib.Core.Bool.{true, false}
 use mathlib.Core.List.{List, _++_}
 use lib.ListN.{length, getD, take}
 use lib.Seq.{sets}
+use Rattle.limits.specs.Limits.{mostId, mostAddresses, addressesSize, placeSize}
 use Rattle.peer.specs.declared.Peer.{Peer}
 use Rattle.stream.specs.declared.Framing.{Framing}
 use Rattle.stream.specs.Stream.{inForm}
@@ -14,10 +15,10 @@ use Rattle.flat.specs.Flat.{peerSize, connSize, peerIn, framingIn, connI
 
 -- a peer's arrays have their lengths, as every value of the type does
 pub record Whole (p : Peer) : Type 0 where
-  pub addrs : length (p .addrs) ≡ 512
-  pub id : length (p .id) ≡ 64
-  pub place : length (p .place) ≡ 32
-  pub lens : length (p .lens) ≡ 4
+  pub addrs : length (p .addrs) ≡ addressesSize
+  pub id : length (p .id) ≡ mostId
+  pub place : length (p .place) ≡ placeSize
+  pub lens : length (p .lens) ≡ mostAddresses
 
 -- ---- how many bytes are written
 pub record Sizes : Type 0 where

@@ -1,6 +1,13 @@
 // The box and a connection as plain bytes that a host lends, and back. Every function takes any bytes; what lies past the end of a byte string reads as zeros,
 // and what would be written past the end of a buffer is left out.
 use connections::Conn;
+use contact_table::ADDRESSES_AT;
+use contact_table::COUNT_AT;
+use contact_table::ID_AT;
+use contact_table::ID_SIZE_AT;
+use contact_table::PLACE_AT;
+use contact_table::SIZES_AT;
+use contact_table::SLOT;
 use peer::Peer;
 use stream::Framing;
 use stream::Held;
@@ -11,31 +18,18 @@ ghost use lib.Seq.{sets};
 ghost use Rattle.flat.specs.Flat.{peerIn, prefixOf, framingOf, pairAt, framingIn, saysYes, connIn, peerBytes, eightBytes, prefixBytes, framingBytes, bit, connBytes, withFraming};
 
 // The bytes of a box, and those of a connection.
-pub const PEER: usize = 616;
+pub const PEER: usize = SLOT;
 
-pub const CONN: usize = 640;
-
-// Where the parts of a peer stand: those of a contact's slot.
-const SIZE: usize = 2;
-
-const COUNT: usize = 3;
-
-const LENS: usize = 4;
-
-const PLACE: usize = 8;
-
-const ID: usize = 40;
-
-const ADDRESSES: usize = 104;
+pub const CONN: usize = REST + 14;
 
 // Where the parts of a connection stand, after its peer.
-const SERVER: usize = 616;
+const SERVER: usize = PEER;
 
-const ASKING: usize = 617;
+const ASKING: usize = SERVER + 1;
 
-const FRAMING: usize = 618;
+const FRAMING: usize = ASKING + 1;
 
-const REST: usize = 626;
+const REST: usize = FRAMING + 8;
 
 // ---- reading
 
@@ -73,16 +67,16 @@ fn fill(field: &mut [u8], s: &[u8], at: usize)
 pub fn peer_in(bytes: &[u8]) -> Peer
     ensures { λ r. ⌜ r ≡ peerIn (now (bytes .entry)) ⌝ }
 {
-    let mut addrs = [0u8; 512];
-    let mut id = [0u8; 64];
+    let mut addrs = [0u8; limits::ADDRESSES_SIZE];
+    let mut id = [0u8; limits::MOST_ID];
     let mut place = [0u8; 32];
     let mut lens = [0u8; 4];
-    fill(&mut addrs, bytes, ADDRESSES);
-    fill(&mut id, bytes, ID);
-    fill(&mut place, bytes, PLACE);
-    fill(&mut lens, bytes, LENS);
-    let size = byte(bytes, SIZE);
-    let count = byte(bytes, COUNT);
+    fill(&mut addrs, bytes, ADDRESSES_AT);
+    fill(&mut id, bytes, ID_AT);
+    fill(&mut place, bytes, PLACE_AT);
+    fill(&mut lens, bytes, SIZES_AT);
+    let size = byte(bytes, ID_SIZE_AT);
+    let count = byte(bytes, COUNT_AT);
     Peer {
         addrs,
         id,
@@ -183,10 +177,10 @@ pub fn put_peer(out: &mut [u8], p: Peer)
     let id = p.id;
     let addrs = p.addrs;
     octets::copy(out, 0, &head);
-    octets::copy(out, LENS, &lens);
-    octets::copy(out, PLACE, &place);
-    octets::copy(out, ID, &id);
-    octets::copy(out, ADDRESSES, &addrs);
+    octets::copy(out, SIZES_AT, &lens);
+    octets::copy(out, PLACE_AT, &place);
+    octets::copy(out, ID_AT, &id);
+    octets::copy(out, ADDRESSES_AT, &addrs);
 }
 
 // The two lowest bytes of a number.

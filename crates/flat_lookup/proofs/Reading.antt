@@ -5,15 +5,16 @@ use mathlib.Core.List.{List}
 use native.Mathlib.Omega.{arith}
 use lib.ListN.{length, getD, drop, List·getD-eq-default}
 use lib.Seq.{drop-drop}
-use Rattle.lookup.specs.Lookup.{room, idMost, padded, nobody}
+use Rattle.limits.specs.Limits.{mostId, placeSize}
+use Rattle.lookup.specs.Lookup.{room, padded, nobody}
 use Rattle.lookup_candidates.specs.declared.Candidate.{Candidate}
-use Rattle.flat_lookup.specs.FlatLookup.{placeSize, idAt, placeAt, candidateSize, candidatesAt, byteAt, bytesAt, candidateIn, candidatesIn, lookupIn, candidateAt}
+use Rattle.flat_lookup.specs.FlatLookup.{idAt, placeAt, candidateSize, candidatesAt, byteAt, bytesAt, candidateIn, candidatesIn, lookupIn, candidateAt}
 
 -- ---- a field, as it is cut out and copied
 pub bytes-read : (n : ℕ) (s : List ℕ) (i : ℕ) (t u : List ℕ) → t ≡ drop i s → u ≡ padded n t → u ≡ bytesAt n s i
 bytes-read n s i t u et eu = eu ∙ ap (padded n) et
 
-pub candidate-read : (s t kept p : List ℕ) (m n : ℕ) → t ≡ drop idAt s → kept ≡ padded idMost t → p ≡ bytesAt placeSize s placeAt → m ≡ byteAt s 0 → n ≡ byteAt s 1
+pub candidate-read : (s t kept p : List ℕ) (m n : ℕ) → t ≡ drop idAt s → kept ≡ padded mostId t → p ≡ bytesAt placeSize s placeAt → m ≡ byteAt s 0 → n ≡ byteAt s 1
     → record { id = kept; place = p; mark = m; len = n } ≡ candidateIn s
 candidate-read s t kept p m n et ek ep em en = rw (ek, et, ep, em, en)
 

@@ -10,11 +10,12 @@ use lib.ListN.{length, getD, take, drop, length-append, length-drop, take-append
 use lib.Seq.{sets-eq, take-all, length-take-le, drop-append-le, drop-at}
 use borrow.Author.Tests.{ltb-true, ltb-false}
 use Rattle.octets.proofs.Bools.{either}
-use Rattle.lookup.specs.Lookup.{room, idMost, keyMost, padded, nobody}
+use Rattle.limits.specs.Limits.{mostId, placeSize, mostKey}
+use Rattle.lookup.specs.Lookup.{room, padded, nobody}
 use Rattle.lookup_candidates.specs.declared.Candidate.{Candidate}
 use Rattle.lookup.specs.Value.{Lookup}
 use Rattle.lookup.proofs.Form.{Formed, formed}
-use Rattle.flat_lookup.specs.FlatLookup.{placeSize, idAt, placeAt, candidateSize, keyAt, targetAt, candidatesAt, flatSize, byteAt, bytesAt, candidateIn, candidatesIn, lookupIn, candidateBytes, candidatesBytes, headBytes, lookupBytes}
+use Rattle.flat_lookup.specs.FlatLookup.{idAt, placeAt, candidateSize, keyAt, targetAt, candidatesAt, flatSize, byteAt, bytesAt, candidateIn, candidatesIn, lookupIn, candidateBytes, candidatesBytes, headBytes, lookupBytes}
 use Rattle.flat_lookup.specs.Promises.{SizedCandidate, Fits, ReadsBack, FormReadsBack, FlatLength, LooksNoFurther, StoredReadsBack}
 use Rattle.flat_lookup.proofs.Padding.{padded-length, padded-whole, padded-enough, padded-front}
 use Rattle.flat_lookup.proofs.Writing.{candidate-length, candidates-long, head-length}
@@ -27,7 +28,7 @@ bytes-further n s t i h =
 pub candidate-further : (s t : List ℕ) → candidateSize ≤ length s → candidateIn (s ++ t) ≡ candidateIn s
 candidate-further s t h =
     rw (
-      bytes-further idMost s t idAt (omega arith),
+      bytes-further mostId s t idAt (omega arith),
       bytes-further placeSize s t placeAt (omega arith),
       List·getD-append s t 0 0 (omega arith),
       List·getD-append s t 0 1 (omega arith),
@@ -46,7 +47,7 @@ further s t h =
     rw (
       drop-append-le candidatesAt s t (omega arith),
       candidates-further room (drop candidatesAt s) t (omega (arith, length-drop candidatesAt s)),
-      bytes-further keyMost s t keyAt (omega arith),
+      bytes-further mostKey s t keyAt (omega arith),
       bytes-further placeSize s t targetAt (omega arith),
       List·getD-append s t 0 0 (omega arith),
       List·getD-append s t 0 1 (omega arith),
@@ -70,11 +71,11 @@ looks-no-further s = ⊎-elim short long (either (ltb (length s) flatSize))
 pub candidate-back : (c : Candidate) → SizedCandidate c → candidateIn (candidateBytes c) ≡ c
 unfolding candidateBytes
 candidate-back c h =
-    let p : List ℕ = padded idMost (c .id) in
+    let p : List ℕ = padded mostId (c .id) in
     let q : List ℕ = padded placeSize (c .place) in
-    let ei : padded idMost (p ++ q) ≡ c .id = padded-front idMost p q (padded-length idMost (c .id)) ∙ padded-whole idMost (c .id) (h .idLong) in
-    let ep : padded placeSize (drop idMost (p ++ q)) ≡ c .place =
-    ap (padded placeSize) (drop-at p q idMost (padded-length idMost (c .id)))
+    let ei : padded mostId (p ++ q) ≡ c .id = padded-front mostId p q (padded-length mostId (c .id)) ∙ padded-whole mostId (c .id) (h .idLong) in
+    let ep : padded placeSize (drop mostId (p ++ q)) ≡ c .place =
+    ap (padded placeSize) (drop-at p q mostId (padded-length mostId (c .id)))
     ∙ padded-whole placeSize q (padded-length placeSize (c .place)) ∙ padded-whole placeSize (c .place) (h .placeLong) in
     ap₂ (λ (i o : List ℕ). record { id = i; place = o; mark = c .mark; len = c .len }) ei ep
 
@@ -99,15 +100,15 @@ turned-back : (b : Bool) → ltb 0 (cond b 1 0) ≡ b
 turned-back true = refl
 turned-back false = refl
 
-key-back : (l : Lookup) → length (l .key) ≡ keyMost → bytesAt keyMost (headBytes l) keyAt ≡ l .key
+key-back : (l : Lookup) → length (l .key) ≡ mostKey → bytesAt mostKey (headBytes l) keyAt ≡ l .key
 unfolding headBytes
 key-back l h =
-    padded-front keyMost (padded keyMost (l .key)) (padded placeSize (l .target)) (padded-length keyMost (l .key)) ∙ padded-whole keyMost (l .key) h
+    padded-front mostKey (padded mostKey (l .key)) (padded placeSize (l .target)) (padded-length mostKey (l .key)) ∙ padded-whole mostKey (l .key) h
 
 target-back : (l : Lookup) → length (l .target) ≡ placeSize → bytesAt placeSize (headBytes l) targetAt ≡ l .target
 unfolding headBytes
 target-back l h =
-    ap (padded placeSize) (drop-at (padded keyMost (l .key)) (padded placeSize (l .target)) keyMost (padded-length keyMost (l .key)))
+    ap (padded placeSize) (drop-at (padded mostKey (l .key)) (padded placeSize (l .target)) mostKey (padded-length mostKey (l .key)))
     ∙ padded-whole placeSize (padded placeSize (l .target)) (padded-length placeSize (l .target))
     ∙ padded-whole placeSize (l .target) h
 
@@ -134,13 +135,13 @@ reads-back l h f =
     ap (candidatesIn room) (drop-at head after candidatesAt (head-length l))
     ∙ ap (λ (n : ℕ). candidatesIn n after) (sym (h .candidatesLong))
     ∙ candidates-back (l .candidates) (λ i m. h .each i (omega (arith, h .candidatesLong))) in
-    let ek : bytesAt keyMost (head ++ after) keyAt ≡ l .key =
-    bytes-further keyMost head after keyAt (omega (arith, head-length l)) ∙ key-back l (h .keyLong) in
+    let ek : bytesAt mostKey (head ++ after) keyAt ≡ l .key =
+    bytes-further mostKey head after keyAt (omega (arith, head-length l)) ∙ key-back l (h .keyLong) in
     let et : bytesAt placeSize (head ++ after) targetAt ≡ l .target =
     bytes-further placeSize head after targetAt (omega (arith, head-length l)) ∙ target-back l (h .targetLong) in
     together (l .candidates) (l .key) (l .target) (head ++ after) ec ek et (numbers-back l after f)
   where
-    together : (cs : List Candidate) (k t s : List ℕ) → candidatesIn room (drop candidatesAt s) ≡ cs → bytesAt keyMost s keyAt ≡ k → bytesAt placeSize s targetAt ≡ t
+    together : (cs : List Candidate) (k t s : List ℕ) → candidatesIn room (drop candidatesAt s) ≡ cs → bytesAt mostKey s keyAt ≡ k → bytesAt placeSize s targetAt ≡ t
         → (byteAt s 0 + byteAt s 1 * 256 ≡ l .count) × (byteAt s 2 ≡ l .size) × (byteAt s 3 ≡ l .limit) × (ltb 0 (byteAt s 4) ≡ l .turned)
         → lookupIn s ≡ record { candidates = cs; key = k; target = t; count = l .count; size = l .size; limit = l .limit; turned = l .turned }
     together cs k t s ec ek et (en, es, el, eb) = rw (ec, ek, et, en, es, el, eb)

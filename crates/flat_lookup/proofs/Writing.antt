@@ -8,10 +8,11 @@ use native.Mathlib.Numerals.{add-one}
 use lib.ListN.{length, getD, take, length-append}
 use lib.Seq.{sets, length-sets, take-suc, take-all, length-take-le}
 use Rattle.octets.proofs.Stores.{sets-append}
-use Rattle.lookup.specs.Lookup.{room, idMost, keyMost, padded}
+use Rattle.limits.specs.Limits.{mostId, placeSize, mostKey}
+use Rattle.lookup.specs.Lookup.{room, padded}
 use Rattle.lookup_candidates.specs.declared.Candidate.{Candidate}
 use Rattle.lookup.specs.Value.{Lookup}
-use Rattle.flat_lookup.specs.FlatLookup.{placeSize, candidateSize, candidatesAt, candidateBytes, candidatesBytes, headBytes, lookupBytes}
+use Rattle.flat_lookup.specs.FlatLookup.{candidateSize, candidatesAt, candidateBytes, candidatesBytes, headBytes, lookupBytes}
 use Rattle.flat_lookup.proofs.Padding.{padded-length, padded-whole, three-runs}
 
 -- ---- lengths
@@ -19,8 +20,8 @@ pub candidate-length : (c : Candidate) → length (candidateBytes c) ≡ candida
 unfolding candidateBytes
 candidate-length c =
     ap (λ (n : ℕ). suc (suc n))
-    (length-append (padded idMost (c .id)) (padded placeSize (c .place))
-    ∙ ap₂ (λ (m n : ℕ). m + n) (padded-length idMost (c .id)) (padded-length placeSize (c .place)))
+    (length-append (padded mostId (c .id)) (padded placeSize (c .place))
+    ∙ ap₂ (λ (m n : ℕ). m + n) (padded-length mostId (c .id)) (padded-length placeSize (c .place)))
 
 pub candidates-long : (cs : List Candidate) → length (candidatesBytes cs) ≡ length cs * candidateSize
 unfolding candidatesBytes
@@ -35,27 +36,27 @@ numbersOf l b = l .count % 256 ∷ l .count / 256 % 256 ∷ l .size % 256 ∷ l 
 pub head-length : (l : Lookup) → length (headBytes l) ≡ candidatesAt
 unfolding headBytes
 head-length l =
-    length-append (numbersOf l (cond (l .turned) 1 0)) (padded keyMost (l .key) ++ padded placeSize (l .target))
+    length-append (numbersOf l (cond (l .turned) 1 0)) (padded mostKey (l .key) ++ padded placeSize (l .target))
     ∙ ap (λ (n : ℕ). 8 + n)
-    (length-append (padded keyMost (l .key)) (padded placeSize (l .target))
-    ∙ ap₂ (λ (m n : ℕ). m + n) (padded-length keyMost (l .key)) (padded-length placeSize (l .target)))
+    (length-append (padded mostKey (l .key)) (padded placeSize (l .target))
+    ∙ ap₂ (λ (m n : ℕ). m + n) (padded-length mostKey (l .key)) (padded-length placeSize (l .target)))
 
 -- ---- a candidate
-pub candidate-put : (out : List ℕ) (at : ℕ) (c : Candidate) → length (c .id) ≡ idMost → length (c .place) ≡ placeSize
+pub candidate-put : (out : List ℕ) (at : ℕ) (c : Candidate) → length (c .id) ≡ mostId → length (c .place) ≡ placeSize
     → (x y z : List ℕ) → x ≡ sets out at (c .mark ∷ c .len ∷ []) → y ≡ sets x (at + 2) (c .id) → z ≡ sets y (at + 66) (c .place) → z ≡ sets out at (candidateBytes c)
 unfolding candidateBytes
 candidate-put out at c hi hp x y z ex ey ez =
     three-runs out at (c .mark ∷ c .len ∷ []) (c .id) (c .place) (at + 2) (at + 66) refl (omega arith) x y z ex ey ez
-    ∙ ap₂ (λ (i p : List ℕ). sets out at (c .mark ∷ c .len ∷ (i ++ p))) (sym (padded-whole idMost (c .id) hi)) (sym (padded-whole placeSize (c .place) hp))
+    ∙ ap₂ (λ (i p : List ℕ). sets out at (c .mark ∷ c .len ∷ (i ++ p))) (sym (padded-whole mostId (c .id) hi)) (sym (padded-whole placeSize (c .place) hp))
 
 -- ---- what stands before the candidates
-pub head-put : (out : List ℕ) (l : Lookup) (b : ℕ) → b ≡ cond (l .turned) 1 0 → length (l .key) ≡ keyMost → length (l .target) ≡ placeSize
+pub head-put : (out : List ℕ) (l : Lookup) (b : ℕ) → b ≡ cond (l .turned) 1 0 → length (l .key) ≡ mostKey → length (l .target) ≡ placeSize
     → (x y z : List ℕ) → x ≡ sets out 0 (numbersOf l b) → y ≡ sets x 8 (l .key) → z ≡ sets y 136 (l .target) → z ≡ sets out 0 (headBytes l)
 unfolding headBytes
 head-put out l b eb hk ht x y z ex ey ez =
     three-runs out 0 (numbersOf l b) (l .key) (l .target) 8 136 refl (omega arith) x y z ex ey ez
     ∙ ap (λ (n : ℕ). sets out 0 (numbersOf l n ++ (l .key ++ l .target))) eb
-    ∙ ap₂ (λ (k t : List ℕ). sets out 0 (numbersOf l (cond (l .turned) 1 0) ++ (k ++ t))) (sym (padded-whole keyMost (l .key) hk)) (sym (padded-whole placeSize (l .target) ht))
+    ∙ ap₂ (λ (k t : List ℕ). sets out 0 (numbersOf l (cond (l .turned) 1 0) ++ (k ++ t))) (sym (padded-whole mostKey (l .key) hk)) (sym (padded-whole placeSize (l .target) ht))
 
 -- ---- one candidate after another
 bytes-snoc : (cs : List Candidate) (c : Candidate) → candidatesBytes (cs ++ (c ∷ [])) ≡ candidatesBytes cs ++ candidateBytes c

@@ -12,14 +12,12 @@ use mathlib.Core.Bool.{cond}
 use mathlib.Core.List.{List, [], _∷_, _++_}
 use lib.ListN.{getD, drop}
 use lib.Dec.{ltb}
-use Rattle.lookup.specs.Lookup.{room, idMost, keyMost, padded, nobody}
+use Rattle.limits.specs.Limits.{mostId, placeSize, mostKey}
+use Rattle.lookup.specs.Lookup.{room, padded, nobody}
 use Rattle.lookup_candidates.specs.declared.Candidate.{Candidate}
 use Rattle.lookup.specs.Value.{Lookup}
 
 -- ---- the layout
-abbrev pub placeSize : ℕ
-placeSize = 32
-
 -- of a candidate
 abbrev pub markAt : ℕ
 markAt = 0
@@ -31,10 +29,10 @@ abbrev pub idAt : ℕ
 idAt = 2
 
 abbrev pub placeAt : ℕ
-placeAt = 66
+placeAt = idAt + mostId
 
 abbrev pub candidateSize : ℕ
-candidateSize = 98
+candidateSize = placeAt + placeSize
 
 -- of a lookup
 abbrev pub countAt : ℕ
@@ -53,13 +51,13 @@ abbrev pub keyAt : ℕ
 keyAt = 8
 
 abbrev pub targetAt : ℕ
-targetAt = 136
+targetAt = keyAt + mostKey
 
 abbrev pub candidatesAt : ℕ
-candidatesAt = 168
+candidatesAt = targetAt + placeSize
 
 abbrev pub flatSize : ℕ
-flatSize = 25256
+flatSize = candidatesAt + room * candidateSize
 
 -- ---- reading: any bytes stand for a lookup; what lies past their end reads as 0
 abbrev pub byteAt : List ℕ → ℕ → ℕ
@@ -71,7 +69,7 @@ bytesAt n s i = padded n (drop i s)
 
 -- the candidate at the start of s
 abbrev pub candidateIn : List ℕ → Candidate
-candidateIn s = record { id = bytesAt idMost s idAt; place = bytesAt placeSize s placeAt; mark = byteAt s markAt; len = byteAt s lenAt }
+candidateIn s = record { id = bytesAt mostId s idAt; place = bytesAt placeSize s placeAt; mark = byteAt s markAt; len = byteAt s lenAt }
 
 -- n candidates, one right after another
 unfoldable pub candidatesIn : ℕ → List ℕ → List Candidate
@@ -83,7 +81,7 @@ abbrev pub lookupIn : List ℕ → Lookup
 lookupIn s =
     record {
       candidates = candidatesIn room (drop candidatesAt s);
-      key = bytesAt keyMost s keyAt;
+      key = bytesAt mostKey s keyAt;
       target = bytesAt placeSize s targetAt;
       count = byteAt s countAt + byteAt s (countAt + 1) * 256;
       size = byteAt s sizeAt;
@@ -98,7 +96,7 @@ candidateAt s i = getD (lookupIn s .candidates) i nobody
 -- ---- writing: a limit or a length of the key that doesn't fit is cut to its lowest byte, the count to its lowest two. The other numbers of a lookup are
 -- bytes where it is one that bytes stand for, and where a step gives it.
 unfoldable pub candidateBytes : Candidate → List ℕ
-candidateBytes c = c .mark ∷ c .len ∷ (padded idMost (c .id) ++ padded placeSize (c .place))
+candidateBytes c = c .mark ∷ c .len ∷ (padded mostId (c .id) ++ padded placeSize (c .place))
 
 unfoldable pub candidatesBytes : List Candidate → List ℕ
 candidatesBytes [] = []
@@ -108,7 +106,7 @@ candidatesBytes (c ∷ cs) = candidateBytes c ++ candidatesBytes cs
 unfoldable pub headBytes : Lookup → List ℕ
 headBytes l =
     l .count % 256 ∷ l .count / 256 % 256 ∷ l .size % 256 ∷ l .limit % 256 ∷ cond (l .turned) 1 0 ∷ 0 ∷ 0 ∷ 0
-    ∷ (padded keyMost (l .key) ++ padded placeSize (l .target))
+    ∷ (padded mostKey (l .key) ++ padded placeSize (l .target))
 
 unfoldable pub lookupBytes : Lookup → List ℕ
 lookupBytes l = headBytes l ++ candidatesBytes (l .candidates)

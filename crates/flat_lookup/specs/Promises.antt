@@ -5,19 +5,20 @@ use mathlib.Core.Bool.{true}
 use mathlib.Core.List.{List}
 use lib.ListN.{length, getD, take}
 use lib.Seq.{sets}
-use Rattle.lookup.specs.Lookup.{room, idMost, keyMost, nobody, inForm}
+use Rattle.limits.specs.Limits.{mostId, placeSize, mostKey}
+use Rattle.lookup.specs.Lookup.{room, nobody, inForm}
 use Rattle.lookup_candidates.specs.declared.Candidate.{Candidate}
 use Rattle.lookup.specs.Value.{Lookup}
-use Rattle.flat_lookup.specs.FlatLookup.{placeSize, flatSize, lookupIn, lookupBytes}
+use Rattle.flat_lookup.specs.FlatLookup.{flatSize, lookupIn, lookupBytes}
 
 -- the arrays have their lengths: those of each lookup that bytes stand for have, and of what each step gives of it
 pub record SizedCandidate (c : Candidate) : Type 0 where
-  pub idLong : length (c .id) ≡ idMost
+  pub idLong : length (c .id) ≡ mostId
   pub placeLong : length (c .place) ≡ placeSize
 
 pub record Sized (l : Lookup) : Type 0 where
   pub candidatesLong : length (l .candidates) ≡ room
-  pub keyLong : length (l .key) ≡ keyMost
+  pub keyLong : length (l .key) ≡ mostKey
   pub targetLong : length (l .target) ≡ placeSize
   pub each : (i : ℕ) → i < room → SizedCandidate (getD (l .candidates) i nobody)
 

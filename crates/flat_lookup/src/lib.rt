@@ -2,13 +2,14 @@
 ghost use mathlib.Core.Path.{_≡_};
 ghost use Prim.Native.Nat.{_<_};
 ghost use lib.ListN.{getD, drop};
-ghost use Rattle.flat_lookup.specs.FlatLookup.{placeSize, bytesAt, candidateIn, lookupIn, candidateAt};
+ghost use Rattle.limits.specs.Limits.{placeSize};
+ghost use Rattle.flat_lookup.specs.FlatLookup.{bytesAt, candidateIn, lookupIn, candidateAt};
 use lookup::Candidate;
 
 // How many bytes a lookup has, and a candidate.
-pub const SIZE: usize = 25256;
+pub const SIZE: usize = CANDIDATES_AT + lookup::ROOM * CANDIDATE;
 
-pub const CANDIDATE: usize = 98;
+pub const CANDIDATE: usize = PLACE_AT + limits::PLACE;
 
 // Where the numbers of a lookup stand, its key, its target and its first candidate.
 pub const COUNT_AT: usize = 0;
@@ -21,9 +22,9 @@ pub const TURNED_AT: usize = 4;
 
 pub const KEY_AT: usize = 8;
 
-pub const TARGET_AT: usize = 136;
+pub const TARGET_AT: usize = KEY_AT + limits::MOST_KEY;
 
-pub const CANDIDATES_AT: usize = 168;
+pub const CANDIDATES_AT: usize = TARGET_AT + limits::PLACE;
 
 // Where the parts of a candidate stand, from its start on.
 pub const MARK_AT: usize = 0;
@@ -32,7 +33,7 @@ pub const LEN_AT: usize = 1;
 
 pub const ID_AT: usize = 2;
 
-pub const PLACE_AT: usize = 66;
+pub const PLACE_AT: usize = ID_AT + limits::MOST_ID;
 
 // A byte of a slice, 0 past its end.
 fn byte(s: &[u8], at: usize) -> u8
@@ -75,7 +76,7 @@ fn place_in(s: &[u8], at: usize) -> [u8; 32]
 fn candidate_in(s: &[u8]) -> Candidate
     ensures { λ r. ⌜ r ≡ candidateIn (now (s .entry)) ⌝ }
 {
-    let mut id = [0u8; 64];
+    let mut id = [0u8; limits::MOST_ID];
     octets::copy(&mut id, 0, rest(s, ID_AT));
     let place = place_in(s, PLACE_AT);
     let mark = byte(s, MARK_AT);

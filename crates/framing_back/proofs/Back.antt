@@ -9,8 +9,8 @@ use lib.Seq.{drop-at, take-at}
 use lib.Dec.{eqb}
 use borrow.Author.Tests.{le-leb}
 use Rattle.octets.proofs.Bools.{cond-no}
+use Rattle.limits.specs.Limits.{mostBody}
 use Rattle.wire.specs.Items.{minimal}
-use Rattle.message.specs.Limits.{mostBody}
 use Rattle.message.specs.Message.{frame}
 use Rattle.stream.specs.declared.Prefixed.{Prefixed}
 use Rattle.stream.specs.declared.Framing.{Framing}

@@ -8,6 +8,7 @@ use lib.ListN.{length}
 use lib.Dec.{ltb}
 use borrow.Author.Tests.{lt-ltb, le-ltb, ltb-true, ltb-false, ne-eqb}
 use Rattle.octets.proofs.Bools.{either}
+use Rattle.limits.specs.Limits.{mostBody}
 use Rattle.wire.specs.Items.{digits, minimal}
 use Rattle.wire_put.proofs.Digits.{digits-last, digits-more}
 use Rattle.stream.specs.declared.Held.{Held}
@@ -16,14 +17,14 @@ use Rattle.stream.specs.declared.Lead.{Lead}
 use Rattle.stream.specs.declared.Lead.the-variants.{On, Length}
 use Rattle.stream.specs.declared.Prefixed.{Prefixed}
 use Rattle.stream.specs.Stream as stream
-use Rattle.stream.specs.Stream.{bodyLimit, limited, prefixStep, prefixed, onward, prefixOf}
+use Rattle.stream.specs.Stream.{limited, prefixStep, prefixed, onward, prefixOf}
 
 -- ---- one byte of a prefix
-pub within : (n : ℕ) → n ≤ bodyLimit → limited n ≡ Length n
+pub within : (n : ℕ) → n ≤ mostBody → limited n ≡ Length n
 unfolding limited
-within n h = rw (le-ltb bodyLimit n h)
+within n h = rw (le-ltb mostBody n h)
 
-closes : (z n : ℕ) → 0 < z → n ≤ bodyLimit → stream.minimal z n ≡ Length n
+closes : (z n : ℕ) → 0 < z → n ≤ mostBody → stream.minimal z n ≡ Length n
 unfolding stream.minimal
 closes z n p h = let q : z ≡ 0 → ⊥ = λ e. omega arith in rw (ne-eqb z 0 q) (within n h)
 
@@ -35,7 +36,7 @@ pub first-on : (a : ℕ) → 128 ≤ a → prefixStep Nothing a ≡ On (One a)
 unfolding prefixStep
 first-on a h = rw (le-ltb a 128 h)
 
-pub second-last : (a z n : ℕ) → 0 < z → z < 128 → n ≤ bodyLimit → a % 128 + z * 128 ≡ n → prefixStep (One a) z ≡ Length n
+pub second-last : (a z n : ℕ) → 0 < z → z < 128 → n ≤ mostBody → a % 128 + z * 128 ≡ n → prefixStep (One a) z ≡ Length n
 unfolding prefixStep
 second-last a z n p h l e = rw (lt-ltb z 128 h, e) (closes z n p l)
 
@@ -43,7 +44,7 @@ pub second-on : (a b : ℕ) → 128 ≤ b → prefixStep (One a) b ≡ On (Two a
 unfolding prefixStep
 second-on a b h = rw (le-ltb b 128 h)
 
-pub third-last : (a b z n : ℕ) → 0 < z → z < 128 → n ≤ bodyLimit → a % 128 + b % 128 * 128 + z * 16384 ≡ n → prefixStep (Two a b) z ≡ Length n
+pub third-last : (a b z n : ℕ) → 0 < z → z < 128 → n ≤ mostBody → a % 128 + b % 128 * 128 + z * 16384 ≡ n → prefixStep (Two a b) z ≡ Length n
 unfolding prefixStep
 third-last a b z n p h l e = rw (lt-ltb z 128 h, e) (closes z n p l)
 
@@ -60,7 +61,7 @@ goes-on h k a m n rest e r = ap (λ (l : Lead). onward l (λ j. prefixOf j rest)
 abbrev Reads : Held → ℕ → List ℕ → List ℕ → Type 0
 Reads h n p rest = prefixOf h (p ++ rest) ≡ prefixed (length p) (Length n)
 
-pub prefix-back : (n : ℕ) (rest : List ℕ) → n ≤ bodyLimit → Reads Nothing n (minimal n) rest
+pub prefix-back : (n : ℕ) (rest : List ℕ) → n ≤ mostBody → Reads Nothing n (minimal n) rest
 unfolding minimal
 prefix-back n rest h =
     ⊎-elim (λ e. one (ltb-true n 128 e)) (λ e. ⊎-elim (λ f. two (ltb-false n 128 e) (ltb-true (n / 128) 128 f)) (λ f. three (ltb-false n 128 e) (ltb-false (n / 128) 128 f)) (either (ltb (n / 128) 128))) (either (ltb n 128))

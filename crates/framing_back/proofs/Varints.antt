@@ -11,20 +11,20 @@ use borrow.Author.Tests.{lt-ltb, le-ltb, ltb-true, ltb-false, le-leb, lt-leb, le
 use Rattle.octets.specs.Octets.{Bytes, same}
 use Rattle.octets.proofs.Bools.{either}
 use Rattle.octets.proofs.Strings.{same-eq, same-yes, same-size}
+use Rattle.limits.specs.Limits.{mostBody}
 use Rattle.refusal.specs.declared.Refusal.the-variants.{PrefixNotMinimal, TooLong}
 use Rattle.wire.specs.Wire.{before, varint, placed, varintAt}
 use Rattle.wire.specs.Items.{digits, minimal}
 use Rattle.wire.specs.declared.Varint.{Varint}
 use Rattle.wire.specs.declared.Varint.the-variants.{Value, Bad as NoVarint}
 use Rattle.wire_put.proofs.Digits.{digits-last, digits-more, minimal-one, minimal-two}
-use Rattle.message.specs.Limits.{mostBody}
 use Rattle.stream.specs.declared.Held.{Held}
 use Rattle.stream.specs.declared.Held.the-variants.{Nothing, One, Two}
 use Rattle.stream.specs.declared.Lead.{Lead}
 use Rattle.stream.specs.declared.Lead.the-variants.{On, Length, Bad}
 use Rattle.stream.specs.declared.Prefixed.{Prefixed}
 use Rattle.stream.specs.Stream as stream
-use Rattle.stream.specs.Stream.{bodyLimit, limited, prefixStep, prefixed, later, onward, prefixOf}
+use Rattle.stream.specs.Stream.{limited, prefixStep, prefixed, later, onward, prefixOf}
 use Rattle.cutting.specs.Frames.{prefixAt}
 use Rattle.framing_back.specs.Claims.{begun, calledFor, PrefixIsVarint}
 use Rattle.framing_back.proofs.Prefix.{first-last, first-on, second-last, second-on, third-last, prefix-back}
@@ -81,9 +81,9 @@ third-zero : (a b : ℕ) → prefixStep (Two a b) 0 ≡ Bad PrefixNotMinimal
 unfolding prefixStep stream.minimal
 third-zero a b = refl
 
-third-over : (a b z n : ℕ) → 0 < z → z < 128 → bodyLimit < n → a % 128 + b % 128 * 128 + z * 16384 ≡ n → prefixStep (Two a b) z ≡ Bad TooLong
+third-over : (a b z n : ℕ) → 0 < z → z < 128 → mostBody < n → a % 128 + b % 128 * 128 + z * 16384 ≡ n → prefixStep (Two a b) z ≡ Bad TooLong
 unfolding prefixStep stream.minimal limited
-third-over a b z n p h l e = let q : z ≡ 0 → ⊥ = λ f. omega arith in rw (lt-ltb z 128 h, ne-eqb z 0 q, e, lt-ltb bodyLimit n l)
+third-over a b z n p h l e = let q : z ≡ 0 → ⊥ = λ f. omega arith in rw (lt-ltb z 128 h, ne-eqb z 0 q, e, lt-ltb mostBody n l)
 
 third-on : (a b z : ℕ) → 128 ≤ z → prefixStep (Two a b) z ≡ Bad TooLong
 unfolding prefixStep
@@ -189,12 +189,12 @@ module _ (a : ℕ) (l : 128 ≤ a) (u : a < 256) where
       three =
           ⊎-elim
           (λ t. both (a ∷ b ∷ z ∷ s) (Value value 3) (prefixed 3 (Bad TooLong))
-          (goes-two (z ∷ s) (prefixed 1 (Bad TooLong)) (steps (Two a b) z s (Bad TooLong) (third-over a b z value p h (ltb-true bodyLimit value t) value-is)))
-          read-three (over-for (a ∷ b ∷ z ∷ s) value 3 bytes-three (ltb-true bodyLimit value t)))
+          (goes-two (z ∷ s) (prefixed 1 (Bad TooLong)) (steps (Two a b) z s (Bad TooLong) (third-over a b z value p h (ltb-true mostBody value t) value-is)))
+          read-three (over-for (a ∷ b ∷ z ∷ s) value 3 bytes-three (ltb-true mostBody value t)))
           (λ t. both (a ∷ b ∷ z ∷ s) (Value value 3) (prefixed 3 (Length value))
-          (goes-two (z ∷ s) (prefixed 1 (Length value)) (steps (Two a b) z s (Length value) (third-last a b z value p h (ltb-false bodyLimit value t) value-is)))
-          read-three (taken-for (a ∷ b ∷ z ∷ s) value 3 bytes-three (ltb-false bodyLimit value t)))
-          (either (ltb bodyLimit value))
+          (goes-two (z ∷ s) (prefixed 1 (Length value)) (steps (Two a b) z s (Length value) (third-last a b z value p h (ltb-false mostBody value t) value-is)))
+          read-three (taken-for (a ∷ b ∷ z ∷ s) value 3 bytes-three (ltb-false mostBody value t)))
+          (either (ltb mostBody value))
 
     too-many : (z : ℕ) (s : List ℕ) → 128 ≤ z → Reads (a ∷ b ∷ z ∷ s)
     unfolding varint before

@@ -7,12 +7,12 @@ use mathlib.Core.List.{List, [], _∷_, _++_, map}
 use lib.ListN.{length, take, drop}
 use lib.Dec.{eqb, leb, ltb}
 use Rattle.octets.specs.Octets.{Bytes, same}
+use Rattle.limits.specs.Limits.{mostBody}
 use Rattle.refusal.specs.declared.Refusal.the-variants.{PrefixNotMinimal, TooLong}
 use Rattle.wire.specs.Wire.{varint, varintAt}
 use Rattle.wire.specs.Items.{minimal}
 use Rattle.wire.specs.declared.Varint.{Varint}
 use Rattle.wire.specs.declared.Varint.the-variants.{Value, Bad as NoVarint}
-use Rattle.message.specs.Limits.{mostBody}
 use Rattle.message.specs.Message.{frame}
 use Rattle.stream.specs.declared.Framing.the-variants.{Shut}
 use Rattle.stream.specs.declared.Held.{Held}

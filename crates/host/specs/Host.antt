@@ -9,7 +9,8 @@ use lib.Seq.{sets}
 use lib.Dec.{ltb}
 use Rattle.connections.specs.declared.Opened.{Opened}
 use Rattle.node.specs.Box.{startOf, openOf, endConn}
-use Rattle.node.specs.Node.{Out, receiveOf}
+use Rattle.replies.specs.Lent as memory
+use Rattle.node.specs.Node.{linked, Out, receiveOf}
 use Rattle.lookup.specs.Value.{Step}
 use Rattle.lookup.specs.Lookup.{nextOf}
 use Rattle.host_calls.specs.Hosts.{seenOf, seenAfter, settleOf, settleAfter, removeOf, removeAfter, doubtOf, doubtAfter, nearestTo, lookupStart, lookupReply, lookupFailure}
@@ -57,17 +58,17 @@ abbrev pub endMemory : List ℕ → List ℕ → List ℕ
 endMemory me conn = lentBoth me conn conn (endedMemory conn (endConn (peerIn me) (connIn conn)))
 
 -- ---- contacts
-abbrev pub seenCode : List ℕ → List ℕ → List ℕ → ℕ → ℕ
-seenCode me t id client = lent peerSize me 0 (seenNumber (seenOf (peerIn me) t id (saysYes client)))
+abbrev pub seenCode : List ℕ → List ℕ → List ℕ → ℕ → List ℕ → ℕ
+seenCode me t id client addresses = lent peerSize me 0 (seenNumber (seenOf (peerIn me) t id (saysYes client) addresses))
 
 abbrev pub seenContacts : List ℕ → List ℕ → List ℕ → ℕ → List ℕ → List ℕ
 seenContacts me t id client addresses = lent peerSize me t (seenAfter (peerIn me) t id (saysYes client) addresses)
 
-abbrev pub seenOut : List ℕ → List ℕ → List ℕ → ℕ → List ℕ → List ℕ
-seenOut me t id client out = lent peerSize me out (seenNumbers out (seenOf (peerIn me) t id (saysYes client)))
+abbrev pub seenOut : List ℕ → List ℕ → List ℕ → ℕ → List ℕ → List ℕ → List ℕ
+seenOut me t id client addresses out = lent peerSize me out (seenNumbers out (seenOf (peerIn me) t id (saysYes client) addresses))
 
-abbrev pub settleCode : List ℕ → List ℕ → List ℕ → List ℕ → ℕ → ℕ → ℕ
-settleCode me t head id client answered = lent peerSize me 0 (settleNumber (settleOf (peerIn me) t head id (saysYes client) (saysYes answered)))
+abbrev pub settleCode : List ℕ → List ℕ → List ℕ → List ℕ → ℕ → List ℕ → ℕ → ℕ
+settleCode me t head id client addresses answered = lent peerSize me 0 (settleNumber (settleOf (peerIn me) t head id (saysYes client) addresses (saysYes answered)))
 
 abbrev pub settleContacts : List ℕ → List ℕ → List ℕ → List ℕ → ℕ → List ℕ → ℕ → List ℕ
 settleContacts me t head id client addresses answered =
@@ -92,18 +93,18 @@ abbrev pub nearestOut : List ℕ → List ℕ → List ℕ → List ℕ → List
 nearestOut me t key out = lent peerSize me out (nearestNumbers out (nearestTo (peerIn me) t key))
 
 -- ---- receiving
-abbrev pub receiveFor : List ℕ → List ℕ → List ℕ → List ℕ → List ℕ → List ℕ → List ℕ → Out
-receiveFor me conn m bs t k y = receiveOf (peerIn me) (connIn conn) m bs t k y
+abbrev pub receiveFor : List ℕ → List ℕ → List ℕ → List ℕ → memory.Lent → Out
+receiveFor me conn m bs l = receiveOf (peerIn me) (linked (connIn conn) m) bs l
 
 -- the box, a connection, its receive buffer, a piece, contacts, records, reply buffer and out; then what is returned and each lent slice afterwards
 pub record Receives (me conn m bs t k y out : List ℕ) (r : ℕ) (conn′ m′ t′ k′ y′ out′ : List ℕ) : Type 0 where
-  pub code : r ≡ lentBoth me conn 0 (answerNumber (receiveFor me conn m bs t k y .got .answer))
-  pub connection : conn′ ≡ lentBoth me conn conn (receivedMemory conn (receiveFor me conn m bs t k y .got))
-  pub buffer : m′ ≡ lentBoth me conn m (receiveFor me conn m bs t k y .buffer)
-  pub contacts : t′ ≡ lentBoth me conn t (receiveFor me conn m bs t k y .contacts)
-  pub records : k′ ≡ lentBoth me conn k (receiveFor me conn m bs t k y .records)
-  pub reply : y′ ≡ lentBoth me conn y (receiveFor me conn m bs t k y .reply)
-  pub numbers : out′ ≡ lentBoth me conn (nothingTaken out) (receivedNumbers out (receiveFor me conn m bs t k y .got))
+  pub code : r ≡ lentBoth me conn 0 (answerNumber (receiveFor me conn m bs (memory.lent t k y) .got .answer))
+  pub connection : conn′ ≡ lentBoth me conn conn (receivedMemory conn (receiveFor me conn m bs (memory.lent t k y) .got))
+  pub buffer : m′ ≡ lentBoth me conn m (receiveFor me conn m bs (memory.lent t k y) .buffer)
+  pub contacts : t′ ≡ lentBoth me conn t (receiveFor me conn m bs (memory.lent t k y) .left .contacts)
+  pub records : k′ ≡ lentBoth me conn k (receiveFor me conn m bs (memory.lent t k y) .left .records)
+  pub reply : y′ ≡ lentBoth me conn y (receiveFor me conn m bs (memory.lent t k y) .left .reply)
+  pub numbers : out′ ≡ lentBoth me conn (nothingTaken out) (receivedNumbers out (receiveFor me conn m bs (memory.lent t k y) .got))
 
 -- ---- lookups
 -- the memory of a box or of a lookup has too few bytes

@@ -93,7 +93,7 @@ pub extern "C" fn starterbell_seen(
     addresses: &[u8],
     out: &mut [u64],
 ) -> u32
-    ensures { λ r. ⌜ (r ≡ seenCode (now (me .entry)) (now (contacts .entry)) (now (id .entry)) client) × (now (contacts .exit) ≡ seenContacts (now (me .entry)) (now (contacts .entry)) (now (id .entry)) client (now (addresses .entry))) × (now (out .exit) ≡ seenOut (now (me .entry)) (now (contacts .entry)) (now (id .entry)) client (now (out .entry))) ⌝ }
+    ensures { λ r. ⌜ (r ≡ seenCode (now (me .entry)) (now (contacts .entry)) (now (id .entry)) client (now (addresses .entry))) × (now (contacts .exit) ≡ seenContacts (now (me .entry)) (now (contacts .entry)) (now (id .entry)) client (now (addresses .entry))) × (now (out .exit) ≡ seenOut (now (me .entry)) (now (contacts .entry)) (now (id .entry)) client (now (addresses .entry)) (now (out .entry))) ⌝ }
 {
     if me.len() < flat::PEER {
         return 0;
@@ -123,7 +123,7 @@ pub extern "C" fn starterbell_settle(
     addresses: &[u8],
     answered: u32,
 ) -> u32
-    ensures { λ r. ⌜ (r ≡ settleCode (now (me .entry)) (now (contacts .entry)) (now (head .entry)) (now (id .entry)) client answered) × (now (contacts .exit) ≡ settleContacts (now (me .entry)) (now (contacts .entry)) (now (head .entry)) (now (id .entry)) client (now (addresses .entry)) answered) ⌝ }
+    ensures { λ r. ⌜ (r ≡ settleCode (now (me .entry)) (now (contacts .entry)) (now (head .entry)) (now (id .entry)) client (now (addresses .entry)) answered) × (now (contacts .exit) ≡ settleContacts (now (me .entry)) (now (contacts .entry)) (now (head .entry)) (now (id .entry)) client (now (addresses .entry)) answered) ⌝ }
 {
     if me.len() < flat::PEER {
         return 0;

@@ -6,8 +6,8 @@ use lib.ListN.{take}
 use lib.Seq.{sets}
 use lib.Dec.{ltb}
 use Rattle.refusal.specs.Refusal.{numberOf}
-use Rattle.contact_calls.specs.declared.SeenOutcome.{SeenOutcome}
-use Rattle.contact_calls.specs.declared.SeenOutcome.the-variants as seen
+use Rattle.sightings.specs.declared.Sighting.{Sighting}
+use Rattle.sightings.specs.declared.Sighting.the-variants as seen
 use Rattle.records.specs.declared.Answer as records
 use Rattle.records.specs.declared.Answer.the-variants as offer
 use Rattle.records.specs.declared.Found.{Found}
@@ -26,7 +26,7 @@ use Rattle.host_numbers.specs.Numbers.{unlessRefused, viewNumbers}
 
 -- ---- contacts
 -- seen, settle, remove and doubt have their numbers in contact_calls (specs/Calls). Of seen, the slot goes to out
-abbrev pub seenNumbers : List ℕ → SeenOutcome → List ℕ
+abbrev pub seenNumbers : List ℕ → Sighting → List ℕ
 seenNumbers out (seen.Moved i) = sets out 0 (i ∷ [])
 seenNumbers out (seen.Joined i) = sets out 0 (i ∷ [])
 seenNumbers out (seen.Probe h) = sets out 0 (h ∷ [])

@@ -1,8 +1,8 @@
 // What a call on contacts, records or messages answers, as a number and the numbers that go to `out`, for the functions that C and Rust programs link (crates/host).
-use contact_calls::DoubtOutcome;
-use contact_calls::RemoveOutcome;
-use contact_calls::SeenOutcome;
-use contact_calls::SettleOutcome;
+use contact_calls::Doubted;
+use contact_calls::Removed;
+use contact_calls::Settled;
+use contact_calls::Sighting;
 use host_calls::Nearby;
 use message::Reading;
 use node::Told;
@@ -19,54 +19,54 @@ ghost use Rattle.host_answers.specs.Answers.{entryFrom, laterOf, address
 // ---- contacts
 
 // 64 moved, 65 joined, 13 with the head of the bucket, or another refusal; the slot goes to out.
-pub fn seen_answer(out: &mut [u64], o: SeenOutcome) -> u32
+pub fn seen_answer(out: &mut [u64], o: Sighting) -> u32
     ensures { λ r. ⌜ (r ≡ seenNumber o) × (now (out .exit) ≡ seenNumbers (now (out .entry)) o) ⌝ }
 {
     match o {
-        SeenOutcome::Moved(i) => {
+        Sighting::Moved(i) => {
             host_numbers::put_number(out, i);
             64
         }
-        SeenOutcome::Joined(i) => {
+        Sighting::Joined(i) => {
             host_numbers::put_number(out, i);
             65
         }
-        SeenOutcome::Probe(h) => {
+        Sighting::Probe(h) => {
             host_numbers::put_number(out, h);
             host_numbers::code_of(Refusal::BucketFull)
         }
-        SeenOutcome::Refused(r) => host_numbers::code_of(r),
+        Sighting::Refused(r) => host_numbers::code_of(r),
     }
 }
 
 // 64 the head is kept, 65 the two are swapped, or a refusal.
-pub fn settle_answer(o: SettleOutcome) -> u32
+pub fn settle_answer(o: Settled) -> u32
     ensures { λ r. ⌜ r ≡ settleNumber o ⌝ }
 {
     match o {
-        SettleOutcome::Kept => 64,
-        SettleOutcome::Swapped => 65,
-        SettleOutcome::Refused(r) => host_numbers::code_of(r),
+        Settled::Kept => 64,
+        Settled::Swapped => 65,
+        Settled::Refused(r) => host_numbers::code_of(r),
     }
 }
 
 // 64 gone, or a refusal.
-pub fn remove_answer(o: RemoveOutcome) -> u32
+pub fn remove_answer(o: Removed) -> u32
     ensures { λ r. ⌜ r ≡ removeNumber o ⌝ }
 {
     match o {
-        RemoveOutcome::Gone => 64,
-        RemoveOutcome::Refused(r) => host_numbers::code_of(r),
+        Removed::Gone => 64,
+        Removed::Refused(r) => host_numbers::code_of(r),
     }
 }
 
 // 64 marked, or a refusal.
-pub fn doubt_answer(o: DoubtOutcome) -> u32
+pub fn doubt_answer(o: Doubted) -> u32
     ensures { λ r. ⌜ r ≡ doubtNumber o ⌝ }
 {
     match o {
-        DoubtOutcome::Marked => 64,
-        DoubtOutcome::Refused(r) => host_numbers::code_of(r),
+        Doubted::Marked => 64,
+        Doubted::Refused(r) => host_numbers::code_of(r),
     }
 }
 

@@ -14,7 +14,7 @@ use Rattle.peer.specs.declared.Peer.{Peer}
 use Rattle.contacts.specs.Form.{inForm}
 use Rattle.contacts.specs.declared.Closest.{Closest}
 use Rattle.contacts.specs.Near.{nearestOf}
-use Rattle.replies.specs.Verdicts.{keyFits}
+use Rattle.message.specs.Kinds.{keyFits}
 use Rattle.host_calls.specs.declared.Nearby.{Nearby}
 use Rattle.connections.specs.declared.Told.the-variants.{Fine}
 use Rattle.connections.specs.Box.{ownFits}

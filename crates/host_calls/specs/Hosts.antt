@@ -3,13 +3,14 @@ use Prim.Native.Nat.{ℕ}
 use mathlib.Core.Bool.{cond, not}
 use mathlib.Core.List.{List}
 use lib.ListN.{replicate}
+use Rattle.limits.specs.Limits.{mostNear}
 use Rattle.refusal.specs.declared.Refusal.{Refusal}
 use Rattle.refusal.specs.declared.Refusal.the-variants.{OutOfForm, BreaksRules, BadPeer}
 use Rattle.peer.specs.declared.Peer.{Peer}
 use Rattle.place.specs.Place.{placeOf}
 use Rattle.contacts.specs.Form.{inForm}
-use Rattle.contacts.specs.Near.{nearestCount, nearestOf}
-use Rattle.replies.specs.Verdicts.{keyFits}
+use Rattle.contacts.specs.Near.{nearestOf}
+use Rattle.message.specs.Kinds.{keyFits}
 use Rattle.connections.specs.Box.{ownFits}
 use Rattle.connections.specs.declared.Told.the-variants.{Fine, Refused}
 use Rattle.host_calls.specs.declared.Nearby.{Nearby}
@@ -18,7 +19,7 @@ unfoldable pub use Rattle.host_lookups.specs.Lookups.{ownId, lookupStart, looku
 
 -- of the contacts that aren't doubtful, those nearest to a key: 0, 8 unless it has 1 to 128 bytes, 12
 abbrev pub noneNear : Refusal → Nearby
-noneNear r = record { closest = record { at = replicate nearestCount 0; n = 0 }; told = Refused r }
+noneNear r = record { closest = record { at = replicate mostNear 0; n = 0 }; told = Refused r }
 
 unfoldable pub nearestTo : Peer → List ℕ → List ℕ → Nearby
 nearestTo me t key =

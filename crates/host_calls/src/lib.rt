@@ -29,7 +29,7 @@ pub struct Nearby {
 fn none_near(r: Refusal) -> Nearby
     ensures { λ x. ⌜ x ≡ noneNear r ⌝ }
 {
-    let at = [0usize; contacts::NEAREST];
+    let at = [0usize; limits::MOST_NEAR];
     let closest = Closest { at, n: 0 };
     let told = Told::Refused(r);
     Nearby { closest, told }
@@ -46,7 +46,7 @@ pub fn nearest(me: Peer, contacts: &[u8], key: &[u8]) -> Nearby
     if key.len() == 0 {
         return none_near(Refusal::BreaksRules);
     }
-    if message::MOST_KEY < key.len() {
+    if limits::MOST_KEY < key.len() {
         return none_near(Refusal::BreaksRules);
     }
     if !connections::own_fits(me) {

@@ -9,14 +9,14 @@ use Rattle.refusal.specs.declared.Refusal.{Refusal}
 use Rattle.refusal.specs.declared.Refusal.the-variants.{OutOfForm, BadPeer}
 use Rattle.peer.specs.declared.Peer.{Peer}
 use Rattle.contacts.specs.Form.{inForm}
-use Rattle.contact_calls.specs.declared.SeenOutcome.{SeenOutcome}
-use Rattle.contact_calls.specs.declared.SeenOutcome.the-variants as seen
-use Rattle.contact_calls.specs.declared.SettleOutcome.{SettleOutcome}
-use Rattle.contact_calls.specs.declared.SettleOutcome.the-variants as settle
-use Rattle.contact_calls.specs.declared.RemoveOutcome.{RemoveOutcome}
-use Rattle.contact_calls.specs.declared.RemoveOutcome.the-variants as remove
-use Rattle.contact_calls.specs.declared.DoubtOutcome.{DoubtOutcome}
-use Rattle.contact_calls.specs.declared.DoubtOutcome.the-variants as doubt
+use Rattle.sightings.specs.declared.Sighting.{Sighting}
+use Rattle.sightings.specs.declared.Sighting.the-variants as seen
+use Rattle.sightings.specs.declared.Settled.{Settled}
+use Rattle.sightings.specs.declared.Settled.the-variants as settle
+use Rattle.sightings.specs.declared.Removed.{Removed}
+use Rattle.sightings.specs.declared.Removed.the-variants as remove
+use Rattle.sightings.specs.declared.Doubted.{Doubted}
+use Rattle.sightings.specs.declared.Doubted.the-variants as doubt
 use Rattle.contact_calls.specs.Calls.{seenCall, seenCallTable, settleCall, settleCallTable, removeCall, removeCallTable, doubtCall, doubtCallTable}
 use Rattle.connections.specs.Box.{ownFits}
 use Rattle.host_contacts.specs.Contacts.{gated, seenOf, seenAfter, settleOf, settleAfter, removeOf, removeAfter, doubtOf, doubtAfter}
@@ -46,37 +46,37 @@ module _ {A : Type 0} (me : Peer) (t : List ℕ) where
 
 -- ---- seen
 module _ (me : Peer) (t id : List ℕ) (client : Bool) (addresses : List ℕ) where
-  pub seen-off : (x : Refusal) → ownFits me ≡ false → x ≡ refusalOfBox t (me .place) → (seen.Refused x ≡ seenOf me t id client) × (t ≡ seenAfter me t id client addresses)
+  pub seen-off : (x : Refusal) → ownFits me ≡ false → x ≡ refusalOfBox t (me .place) → (seen.Refused x ≡ seenOf me t id client addresses) × (t ≡ seenAfter me t id client addresses)
   unfolding seenOf seenAfter
-  seen-off x h e = (box-off me t seen.Refused (seenCall t (me .place) id client) x h e, sym (cond-no (ownFits me) _ t h))
+  seen-off x h e = (box-off me t seen.Refused (seenCall t (me .place) id client addresses) x h e, sym (cond-no (ownFits me) _ t h))
 
-  seen-zero : inForm t (me .place) ≡ false → seenCall t (me .place) id client ≡ seen.Refused OutOfForm
+  seen-zero : inForm t (me .place) ≡ false → seenCall t (me .place) id client addresses ≡ seen.Refused OutOfForm
   unfolding seenCall
   seen-zero h = cond-yes (not (inForm t (me .place))) _ _ (ap not h)
 
-  pub seen-on : (r : SeenOutcome) (u : List ℕ) → ownFits me ≡ true → (r ≡ seenCall t (me .place) id client) × (u ≡ seenCallTable t (me .place) id client addresses)
-      → (r ≡ seenOf me t id client) × (u ≡ seenAfter me t id client addresses)
+  pub seen-on : (r : Sighting) (u : List ℕ) → ownFits me ≡ true → (r ≡ seenCall t (me .place) id client addresses) × (u ≡ seenCallTable t (me .place) id client addresses)
+      → (r ≡ seenOf me t id client addresses) × (u ≡ seenAfter me t id client addresses)
   unfolding seenOf seenAfter
   seen-on r u h e =
-      (e .0 ∙ box-on me t (seen.Refused OutOfForm) (seen.Refused BadPeer) (seenCall t (me .place) id client) h seen-zero, e .1 ∙ sym (cond-yes (ownFits me) _ t h))
+      (e .0 ∙ box-on me t (seen.Refused OutOfForm) (seen.Refused BadPeer) (seenCall t (me .place) id client addresses) h seen-zero, e .1 ∙ sym (cond-yes (ownFits me) _ t h))
 
 -- ---- settle
 module _ (me : Peer) (t head id : List ℕ) (client : Bool) (addresses : List ℕ) (answered : Bool) where
   pub settle-off : (x : Refusal) → ownFits me ≡ false → x ≡ refusalOfBox t (me .place)
-      → (settle.Refused x ≡ settleOf me t head id client answered) × (t ≡ settleAfter me t head id client addresses answered)
+      → (settle.Refused x ≡ settleOf me t head id client addresses answered) × (t ≡ settleAfter me t head id client addresses answered)
   unfolding settleOf settleAfter
-  settle-off x h e = (box-off me t settle.Refused (settleCall t (me .place) head id client answered) x h e, sym (cond-no (ownFits me) _ t h))
+  settle-off x h e = (box-off me t settle.Refused (settleCall t (me .place) head id client addresses answered) x h e, sym (cond-no (ownFits me) _ t h))
 
-  settle-zero : inForm t (me .place) ≡ false → settleCall t (me .place) head id client answered ≡ settle.Refused OutOfForm
+  settle-zero : inForm t (me .place) ≡ false → settleCall t (me .place) head id client addresses answered ≡ settle.Refused OutOfForm
   unfolding settleCall
   settle-zero h = cond-yes (not (inForm t (me .place))) _ _ (ap not h)
 
-  pub settle-on : (r : SettleOutcome) (u : List ℕ) → ownFits me ≡ true
-      → (r ≡ settleCall t (me .place) head id client answered) × (u ≡ settleCallTable t (me .place) head id client addresses answered)
-      → (r ≡ settleOf me t head id client answered) × (u ≡ settleAfter me t head id client addresses answered)
+  pub settle-on : (r : Settled) (u : List ℕ) → ownFits me ≡ true
+      → (r ≡ settleCall t (me .place) head id client addresses answered) × (u ≡ settleCallTable t (me .place) head id client addresses answered)
+      → (r ≡ settleOf me t head id client addresses answered) × (u ≡ settleAfter me t head id client addresses answered)
   unfolding settleOf settleAfter
   settle-on r u h e = (
-    e .0 ∙ box-on me t (settle.Refused OutOfForm) (settle.Refused BadPeer) (settleCall t (me .place) head id client answered) h settle-zero,
+    e .0 ∙ box-on me t (settle.Refused OutOfForm) (settle.Refused BadPeer) (settleCall t (me .place) head id client addresses answered) h settle-zero,
     e .1 ∙ sym (cond-yes (ownFits me) _ t h),
   )
 
@@ -90,7 +90,7 @@ module _ (me : Peer) (t id : List ℕ) where
   unfolding removeCall
   remove-zero h = cond-yes (not (inForm t (me .place))) _ _ (ap not h)
 
-  pub remove-on : (r : RemoveOutcome) (u : List ℕ) → ownFits me ≡ true → (r ≡ removeCall t (me .place) id) × (u ≡ removeCallTable t (me .place) id)
+  pub remove-on : (r : Removed) (u : List ℕ) → ownFits me ≡ true → (r ≡ removeCall t (me .place) id) × (u ≡ removeCallTable t (me .place) id)
       → (r ≡ removeOf me t id) × (u ≡ removeAfter me t id)
   unfolding removeOf removeAfter
   remove-on r u h e =
@@ -106,7 +106,7 @@ module _ (me : Peer) (t id : List ℕ) where
   unfolding doubtCall
   doubt-zero h = cond-yes (not (inForm t (me .place))) _ _ (ap not h)
 
-  pub doubt-on : (r : DoubtOutcome) (u : List ℕ) → ownFits me ≡ true → (r ≡ doubtCall t (me .place) id) × (u ≡ doubtCallTable t (me .place) id)
+  pub doubt-on : (r : Doubted) (u : List ℕ) → ownFits me ≡ true → (r ≡ doubtCall t (me .place) id) × (u ≡ doubtCallTable t (me .place) id)
       → (r ≡ doubtOf me t id) × (u ≡ doubtAfter me t id)
   unfolding doubtOf doubtAfter
   doubt-on r u h e =

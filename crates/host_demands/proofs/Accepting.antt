@@ -12,6 +12,7 @@ use lib.Dec.{eqb}
 use borrow.Author.Tests.{eqb-true}
 use Rattle.octets.specs.Octets.{part, same}
 use Rattle.octets.proofs.Bools.{cond-ind, cond-yes, cond-no, either}
+use Rattle.limits.specs.Limits.{mostBody}
 use Rattle.peer.specs.declared.Peer.{Peer}
 use Rattle.recipe.specs.Recipe.{outranks}
 use Rattle.records.specs.declared.Answer as stored
@@ -23,7 +24,6 @@ use Rattle.records_history.specs.History as history
 use Rattle.records_history.specs.History.{Offer, accepts, taken}
 use Rattle.records_history.proofs.Kept.{found-is}
 use Rattle.records_history.proofs.Stays.{put-is}
-use Rattle.message.specs.Limits.{mostBody}
 use Rattle.message.specs.Message.{Record, Message, messageOf, decode, encode, frame}
 use Rattle.message.specs.View.{readingOf}
 use Rattle.message.specs.declared.Fields.{Fields}
@@ -37,14 +37,16 @@ use Rattle.stream.proofs.Steps.{call-runs}
 use Rattle.cutting.specs.World.{Line, World, Called, call, calls, AllFit}
 use Rattle.cutting.proofs.Kept.{run-within, message-fits}
 use Rattle.cutting.proofs.Once.{run-taken}
-use Rattle.replies.specs.Replies.{putValue, putValueReply}
+use Rattle.message.specs.Kinds.{putValue}
+use Rattle.replies.specs.Replies.{putValueReply}
 use Rattle.replies.specs.declared.Answered.the-variants as told
 use Rattle.replies.specs.Verdicts.{Verdict, replies, echoed, putVerdict, Dealt, byVerdict}
+use Rattle.replies.specs.Lent.{Lent, withRecords}
 use Rattle.answer.specs.Answers.{verdictOf, recordsAfter, byReading, dealOf}
 use Rattle.connections.specs.declared.Conn.{Conn}
 use Rattle.node.specs.declared.Answer.{Answer}
 use Rattle.node.specs.declared.Answer.the-variants.{Reply, Heard, Refused, More}
-use Rattle.node.specs.Node.{Dealing, Out, byEvent}
+use Rattle.node.specs.Node.{linked, Dealing, Out, byEvent}
 use Rattle.node_promises.proofs.Doing.{message-done}
 use Rattle.flat.specs.Flat.{peerIn}
 use Rattle.host_answers.specs.Answers.{putNumber, findNumber, findNumbers}
@@ -60,7 +62,7 @@ use Rattle.demands.proofs.Deal.{deal-is}
 use Rattle.demands.proofs.Receives.{let-through, runs-as, receives as box-receives}
 use Rattle.demands.proofs.Theorems.{third}
 use Rattle.host_demands.specs.Calls as host
-use Rattle.host_demands.specs.Calls.{Memory, History, Lent, Export, receivedBy, takenBy, returns, leaves, meant, leavesAll, meantAll, worldIn, historyOf}
+use Rattle.host_demands.specs.Calls.{Memory, History, Enough, Export, receivedBy, takenBy, returns, leaves, meant, leavesAll, meantAll, worldIn, historyOf}
 use Rattle.host_demands.specs.Hosted.{Started, ReadyFor, Follows, FollowsAll, after, completed, Sent, Accepts, typed, sent, Unbeaten, Asks, Serves, Finds, Stays, Lasts}
 use Rattle.host_demands.proofs.Numbers.{number-small}
 use Rattle.host_demands.proofs.Connections.{both-enough}
@@ -98,7 +100,7 @@ module _ (me : List ℕ) (S : Started me) where
   us = peerIn me
 
   -- ==== one call
-  module _ (m : Memory) (h : History) (len : Lent m) (ready : ReadyFor me (worldIn m h)) where
+  module _ (m : Memory) (h : History) (len : Enough m) (ready : ReadyFor me (worldIn m h)) where
     abbrev world : World Who Box Ask
     world = worldIn m h
 
@@ -143,10 +145,10 @@ module _ (me : List ℕ) (S : Started me) where
         taken-run = taken-is ∙ ap (λ (c : Called Who Box). c .count) (box-receives us (S .own) i line state piece (ready .lines i) going (ready .good))
 
         gives : (p : List ℕ) (o : streams.Out) → framing p ≡ o
-            → receiveOn us world i p ≡ byEvent (o .got .answer) us (connOf (line .who) (o .got .framing)) (o .got .taken) (o .buffer) (m .contacts) (m .records) (m .reply)
+            → receiveOn us world i p ≡ byEvent (o .got .answer) us (linked (connOf (line .who) (o .got .framing)) (o .buffer)) (o .got .taken) (m .lent)
         gives p o e =
-            let-through us line p (m .contacts) (m .records) (m .reply) (gate-open us (S .own) line state (ready .lines i) going (ready .good))
-            ∙ runs-as us line p (m .contacts) (m .records) (m .reply) o e
+            let-through us line p (m .lent) (gate-open us (S .own) line state (ready .lines i) going (ready .good))
+            ∙ runs-as us line p (m .lent) o e
 
         -- ---- the bytes that it took, by themselves, get the same
         same-framing : framing short ≡ framing piece
@@ -190,12 +192,12 @@ module _ (me : List ℕ) (S : Started me) where
         body = take l (framing piece .buffer)
 
         abbrev deal : Dealt
-        deal = dealOf us (line .who .peer) body (m .contacts) (m .records) (m .reply)
+        deal = dealOf us (line .who .peer) body (m .lent)
 
-        done : got ≡ byEvent (framed.Message l) us conn (framing piece .got .taken) (framing piece .buffer) (m .contacts) (m .records) (m .reply)
+        done : got ≡ byEvent (framed.Message l) us (linked conn (framing piece .buffer)) (framing piece .got .taken) (m .lent)
         done =
             gives going piece (framing piece) refl
-            ∙ ap (λ (x : stream.Answer). byEvent x us conn (framing piece .got .taken) (framing piece .buffer) (m .contacts) (m .records) (m .reply)) whole
+            ∙ ap (λ (x : stream.Answer). byEvent x us (linked conn (framing piece .buffer)) (framing piece .got .taken) (m .lent)) whole
 
         body-is : completed me m i piece ≡ body
         body-is = ap₂ (λ (x : stream.Answer) (o : Out). bodyIn x (o .buffer)) whole done
@@ -203,36 +205,36 @@ module _ (me : List ℕ) (S : Started me) where
         answers : (n : ℕ) → line .who .asking ≡ false → deal .told ≡ told.Reply n → got .got .answer ≡ Reply n
         answers n side e =
             ap (λ (o : Out). o .got .answer) done
-            ∙ ap (λ (d : Dealing). d .answer) (message-done .replies us conn body (m .contacts) (m .records) (m .reply) n side e)
+            ∙ ap (λ (d : Dealing). d .answer) (message-done .replies us conn body (m .lent) n side e)
 
-        reply-is : (n : ℕ) → line .who .asking ≡ false → deal .told ≡ told.Reply n → got .reply ≡ deal .reply
+        reply-is : (n : ℕ) → line .who .asking ≡ false → deal .told ≡ told.Reply n → got .left .reply ≡ deal .left .reply
         reply-is n side e =
-            ap (λ (o : Out). o .reply) done
-            ∙ ap (λ (d : Dealing). d .reply) (message-done .replies us conn body (m .contacts) (m .records) (m .reply) n side e)
+            ap (λ (o : Out). o .left .reply) done
+            ∙ ap (λ (d : Dealing). d .left .reply) (message-done .replies us conn body (m .lent) n side e)
 
         -- a PUT_VALUE whose record the store takes is answered
         put-told : (f : Fields) (r : Record) → readingOf body ≡ reading.Whole f → messageOf body .held ≡ some r → messageOf body .kind ≡ putValue
-            → same (r .key) (messageOf body .key) ≡ true → accepts (m .records) (record { key = messageOf body .key; value = r .value }) ≡ true
+            → same (r .key) (messageOf body .key) ≡ true → accepts (m .lent .records) (record { key = messageOf body .key; value = r .value }) ≡ true
             → (n : ℕ) × (deal .told ≡ told.Reply n)
         unfolding verdictOf putVerdict accepts
         put-told f r w q k s a =
             let key : List ℕ = messageOf body .key in
             let v : List ℕ = r .value in
             let says : Message = putValueReply key v in
-            let t : offerAnswer (m .records) key v ≡ store.Taken = was-taken _ (ap taken (sym (put-is (m .records) key v (ready .good .records) .0)) ∙ a) in
-            let verdict : verdictOf us (line .who .peer) (messageOf body) (m .contacts) (m .records) ≡ replies says =
-            cond-yes _ _ _ (ap (λ (z : ℕ). eqb z putValue) k) ∙ ap (λ (x : Option Record). putVerdict key x (m .records)) q ∙ cond-yes _ _ _ s
+            let t : offerAnswer (m .lent .records) key v ≡ store.Taken = was-taken _ (ap taken (sym (put-is (m .lent .records) key v (ready .good .records) .0)) ∙ a) in
+            let verdict : verdictOf us (line .who .peer) (messageOf body) (m .lent) ≡ replies says =
+            cond-yes _ _ _ (ap (λ (z : ℕ). eqb z putValue) k) ∙ ap (λ (x : Option Record). putVerdict key x (m .lent .records)) q ∙ cond-yes _ _ _ s
             ∙ ap (λ (x : stored.Answer). echoed x says) t in (
               length (frame (encode says)),
               ap (λ (d : Dealt). d .told)
-                  (deal-is us (line .who .peer) body (m .contacts) (m .records) (m .reply)
-                  ∙ ap (λ (x : Reading). byReading x us (line .who .peer) (messageOf body) (m .contacts) (m .records) (m .reply)) w
-                  ∙ ap (λ (x : Verdict). byVerdict x (m .records) (recordsAfter (messageOf body) (m .records)) (m .reply)) verdict),
+                  (deal-is us (line .who .peer) body (m .lent)
+                  ∙ ap (λ (x : Reading). byReading x us (line .who .peer) (messageOf body) (m .lent)) w
+                  ∙ ap (λ (x : Verdict). byVerdict x (withRecords (m .lent) (recordsAfter (messageOf body) (m .lent .records))) (m .lent)) verdict),
             )
 
         -- so what it offers is accepted only by a receive that returns 65
         put-sent : line .who .asking ≡ false → (f : Fields) (r : Record) → readingOf body ≡ reading.Whole f → messageOf body .held ≡ some r → messageOf body .kind ≡ putValue
-            → same (r .key) (messageOf body .key) ≡ true → accepts (m .records) (record { key = messageOf body .key; value = r .value }) ≡ true
+            → same (r .key) (messageOf body .key) ≡ true → accepts (m .lent .records) (record { key = messageOf body .key; value = r .value }) ≡ true
             → Sent me m i piece (messageOf body .key) (r .value)
         put-sent side f r w q k s a =
             let t = put-told f r w q k s a in
@@ -246,17 +248,17 @@ module _ (me : List ℕ) (S : Started me) where
             }
 
         -- and a GET_VALUE is answered with what is found
-        get-served : (key v : List ℕ) → inner.Finds us (m .records) key v → Asks me m i piece key → Serves me m i piece key v
+        get-served : (key v : List ℕ) → inner.Finds us (m .lent .records) key v → Asks me m i piece key → Serves me m i piece key v
         get-served key v f a =
             let fits : l ≤ mostBody =
             message-fits (line .framing) (line .buffer) piece l (ready .lines i .form) (ap (λ (o : streams.Out). o .got .answer) (sym (runs going piece)) ∙ whole) in
-            let s = f .asked (line .who .peer) body (m .contacts) (m .reply) (a .says) (omega (arith, fits, length-take l (framing piece .buffer)))
+            let s = f .asked (line .who .peer) body (m .lent) (a .says) (omega (arith, fits, length-take l (framing piece .buffer)))
             (ap decode (sym body-is) ∙ a .reads) (a .kind) (a .under) (ready .good .room) in
             record {
               reply = code-is ∙ ap answerNumber (answers (s .size) (a .side) (s .told));
               says = s .back .says;
               bytes = ap₂ take (enough 0 (answerLength (got .got .answer)) ∙ ap answerLength (answers (s .size) (a .side) (s .told)))
-                  (enough (m .reply) (got .reply) ∙ reply-is (s .size) (a .side) (s .told))
+                  (ap (λ (x : Lent). x .reply) (enough (m .lent) (got .left)) ∙ reply-is (s .size) (a .side) (s .told))
                   ∙ s .back .stands;
               back = s .back .back;
               held = ap (λ (x : Message). x .held) (sym (said (s .back .verdict))) ∙ s .held;
@@ -265,7 +267,7 @@ module _ (me : List ℕ) (S : Started me) where
       -- ---- what a receive offers
       module _ (key v : List ℕ) (c : (u : List ℕ) → Accepts me m key u (host.receives i piece) → outranks u v ≡ true → ⊥) where
         abbrev Fine : List Offer → Type 0
-        Fine os = history.Unbeaten key v (m .records) os
+        Fine os = history.Unbeaten key v (m .lent .records) os
 
         offer-fine : (going : isShut (line .framing) ≡ false) (l : ℕ) → framing piece .got .answer ≡ framed.Message l → Fine (offerIn (line .who) (take l (framing piece .buffer)))
         unfolding history.Unbeaten
@@ -300,85 +302,85 @@ module _ (me : List ℕ) (S : Started me) where
         receive-fine : Fine (since world (call (box.box us) world (meant me m (host.receives i piece))))
         receive-fine =
             ⊎-elim
-            (λ shut. subst (λ (os : List Offer). Fine (drop (length (h .offers)) os)) (sym (offers-same me S m h len ready i piece shut)) (unbeaten-none key v (m .records) (h .offers)))
+            (λ shut. subst (λ (os : List Offer). Fine (drop (length (h .offers)) os)) (sym (offers-same me S m h len ready i piece shut)) (unbeaten-none key v (m .lent .records) (h .offers)))
             (λ going. subst Fine
             (sym (ap (drop (length (h .offers))) (offers-now me S m h len ready i piece going) ∙ drop-at (h .offers) _ (length (h .offers)) refl)) (offers-fine going))
             (either (isShut (line .framing)))
 
     put-fine : (k u key v : List ℕ) → ((x : List ℕ) → Accepts me m key x (host.put k u) → outranks x v ≡ true → ⊥)
-        → history.Unbeaten key v (m .records) (record { key = k; value = u } ∷ [])
+        → history.Unbeaten key v (m .lent .records) (record { key = k; value = u } ∷ [])
     unfolding history.Unbeaten accepts
     put-fine k u key v c = (
-      (λ at a up. c u (typed (ap (λ (x : List ℕ). host.put x u) at) (ap putNumber (was-taken (putAnswer (m .records) k u) a))) up),
+      (λ at a up. c u (typed (ap (λ (x : List ℕ). host.put x u) at) (ap putNumber (was-taken (putAnswer (m .lent .records) k u) a))) up),
       tt,
     )
 
     -- ---- any call
     call-fine : (c : Export) (key v : List ℕ) → ((u : List ℕ) → Accepts me m key u c → outranks u v ≡ true → ⊥)
-        → history.Unbeaten key v (m .records) (since world (call (box.box us) world (meant me m c)))
+        → history.Unbeaten key v (m .lent .records) (since world (call (box.box us) world (meant me m c)))
     unfolding call
-    call-fine (host.opens i id server asking addresses buffer) key v c = unbeaten-none key v (m .records) (h .offers)
+    call-fine (host.opens i id server asking addresses buffer) key v c = unbeaten-none key v (m .lent .records) (h .offers)
     call-fine (host.receives i piece) key v c = receive-fine i piece key v c
-    call-fine (host.ends i) key v c = unbeaten-none key v (m .records) (h .offers)
+    call-fine (host.ends i) key v c = unbeaten-none key v (m .lent .records) (h .offers)
     call-fine (host.put k u) key v c =
-        subst (history.Unbeaten key v (m .records)) (sym (drop-at (h .offers) (record { key = k; value = u } ∷ []) (length (h .offers)) refl)) (put-fine k u key v c)
-    call-fine (host.find k) key v c = unbeaten-none key v (m .records) (h .offers)
-    call-fine (host.seen id client addresses) key v c = unbeaten-none key v (m .records) (h .offers)
-    call-fine (host.settle head id client addresses answered) key v c = unbeaten-none key v (m .records) (h .offers)
-    call-fine (host.remove id) key v c = unbeaten-none key v (m .records) (h .offers)
-    call-fine (host.doubt id) key v c = unbeaten-none key v (m .records) (h .offers)
-    call-fine (host.nearest k) key v c = unbeaten-none key v (m .records) (h .offers)
-    call-fine (host.lookupStarts j k limit) key v c = unbeaten-none key v (m .records) (h .offers)
-    call-fine (host.lookupNext j) key v c = unbeaten-none key v (m .records) (h .offers)
-    call-fine (host.lookupReplies j id body view) key v c = unbeaten-none key v (m .records) (h .offers)
-    call-fine (host.lookupHears i j id) key v c = unbeaten-none key v (m .records) (h .offers)
-    call-fine (host.lookupFails j id) key v c = unbeaten-none key v (m .records) (h .offers)
+        subst (history.Unbeaten key v (m .lent .records)) (sym (drop-at (h .offers) (record { key = k; value = u } ∷ []) (length (h .offers)) refl)) (put-fine k u key v c)
+    call-fine (host.find k) key v c = unbeaten-none key v (m .lent .records) (h .offers)
+    call-fine (host.seen id client addresses) key v c = unbeaten-none key v (m .lent .records) (h .offers)
+    call-fine (host.settle head id client addresses answered) key v c = unbeaten-none key v (m .lent .records) (h .offers)
+    call-fine (host.remove id) key v c = unbeaten-none key v (m .lent .records) (h .offers)
+    call-fine (host.doubt id) key v c = unbeaten-none key v (m .lent .records) (h .offers)
+    call-fine (host.nearest k) key v c = unbeaten-none key v (m .lent .records) (h .offers)
+    call-fine (host.lookupStarts j k limit) key v c = unbeaten-none key v (m .lent .records) (h .offers)
+    call-fine (host.lookupNext j) key v c = unbeaten-none key v (m .lent .records) (h .offers)
+    call-fine (host.lookupReplies j id body view) key v c = unbeaten-none key v (m .lent .records) (h .offers)
+    call-fine (host.lookupHears i j id) key v c = unbeaten-none key v (m .lent .records) (h .offers)
+    call-fine (host.lookupFails j id) key v c = unbeaten-none key v (m .lent .records) (h .offers)
 
     accepts-there : (c : Export) (key v : List ℕ) → Accepts me m key v c → inner.Accepts us world key v (meant me m c)
     accepts-there c key v (typed q e) = inner.typed (ap (meant me m) q) (put-number _ (ap (returns me m) (sym q) ∙ e))
     accepts-there c key v (sent i piece q s) = inner.sent i (take (takenBy me m i piece) piece) (ap (meant me m) q) (sent-there i piece key v s)
 
-    accepted-found : (c : Export) (key v : List ℕ) → Accepts me m key v c → inner.Finds us (call (box.box us) world (meant me m c) .shared .state .records) key v
+    accepted-found : (c : Export) (key v : List ℕ) → Accepts me m key v c → inner.Finds us (call (box.box us) world (meant me m c) .shared .state .lent .records) key v
     unfolding calls AllFit
     accepted-found c key v a =
         let w : World Who Box Ask = call (box.box us) world (meant me m c) in
         third us (S .own) .stays world ready [] tt (meant me m c) key v (accepts-there c key v a) [] tt
-        (unbeaten-none key v (w .shared .state .records) (w .shared .state .offers))
+        (unbeaten-none key v (w .shared .state .lent .records) (w .shared .state .offers))
 
     -- ---- what is found, in memory
-    pub finds-there : (key v : List ℕ) → Finds me m key v → inner.Finds us (m .records) key v
+    pub finds-there : (key v : List ℕ) → Finds me m key v → inner.Finds us (m .lent .records) key v
     unfolding findOf
-    finds-there key v f = got-finds us (m .records) key v (ready .good .records) (go (findOf (m .records) key) refl (f .find) (f .there (0 ∷ 0 ∷ []) (omega arith)))
+    finds-there key v f = got-finds us (m .lent .records) key v (ready .good .records) (go (findOf (m .lent .records) key) refl (f .find) (f .there (0 ∷ 0 ∷ []) (omega arith)))
       where
-        go : (x : Found) → findOf (m .records) key ≡ x → findNumber x ≡ 64
-            → part (m .records) (getD (findNumbers (0 ∷ 0 ∷ []) x) 0 0) (getD (findNumbers (0 ∷ 0 ∷ []) x) 1 0) ≡ v
-            → history.got (m .records) key ≡ history.Has v
-        go (found.Held a b) e n p = found-is (m .records) key (sym (cond-no _ _ _ (ap not (ready .good .records))) ∙ e) .2 ∙ ap history.Has p
+        go : (x : Found) → findOf (m .lent .records) key ≡ x → findNumber x ≡ 64
+            → part (m .lent .records) (getD (findNumbers (0 ∷ 0 ∷ []) x) 0 0) (getD (findNumbers (0 ∷ 0 ∷ []) x) 1 0) ≡ v
+            → history.got (m .lent .records) key ≡ history.Has v
+        go (found.Held a b) e n p = found-is (m .lent .records) key (sym (cond-no _ _ _ (ap not (ready .good .records))) ∙ e) .2 ∙ ap history.Has p
         go found.NotHeld e n p = absurd (omega (arith, n))
         go (found.Refused r) e n p = absurd (omega (arith, n, number-small r))
 
-    pub finds-here : (key v : List ℕ) → inner.Finds us (m .records) key v → Finds me m key v
+    pub finds-here : (key v : List ℕ) → inner.Finds us (m .lent .records) key v → Finds me m key v
     finds-here key v f =
         record {
           find = ap findNumber (f .find);
-          there = λ out l. ap (λ (x : Found). part (m .records) (getD (findNumbers out x) 0 0) (getD (findNumbers out x) 1 0)) (f .find) ∙ at out l;
+          there = λ out l. ap (λ (x : Found). part (m .lent .records) (getD (findNumbers out x) 0 0) (getD (findNumbers out x) 1 0)) (f .find) ∙ at out l;
           asked = λ i piece a. get-served i piece (whole-open _ (m .buffers i) piece (a .size) (a .whole)) (a .size) (a .whole) key v f a;
         }
       where
-        at : (out : List ℕ) → 2 ≤ length out → part (m .records) (getD (sets out 0 (f .at ∷ f .end ∷ [])) 0 0) (getD (sets out 0 (f .at ∷ f .end ∷ [])) 1 0) ≡ v
+        at : (out : List ℕ) → 2 ≤ length out → part (m .lent .records) (getD (sets out 0 (f .at ∷ f .end ∷ [])) 0 0) (getD (sets out 0 (f .at ∷ f .end ∷ [])) 1 0) ≡ v
         at [] l = absurd (omega (arith, l))
         at (x ∷ []) l = absurd (omega (arith, l))
         at (x ∷ y ∷ out) l = f .there
 
     -- ---- after a call: what memory holds is what the world holds
-    after-call : (c : Export) (key v : List ℕ) → inner.Finds us (call (box.box us) world (meant me m c) .shared .state .records) key v
-        → inner.Finds us (leaves me m c .records) key v
+    after-call : (c : Export) (key v : List ℕ) → inner.Finds us (call (box.box us) world (meant me m c) .shared .state .lent .records) key v
+        → inner.Finds us (leaves me m c .lent .records) key v
     after-call c key v f =
         let one : Follows me m world c = one-call me S m world c len ready refl in
-        subst (λ (k : List ℕ). inner.Finds us k key v) (sym (ap (λ (w : World Who Box Ask). w .shared .state .records) (one .stands))) f
+        subst (λ (k : List ℕ). inner.Finds us k key v) (sym (ap (λ (w : World Who Box Ask). w .shared .state .lent .records) (one .stands))) f
 
-    still-found : (c : Export) (key v : List ℕ) → AllFit Fits (meant me m c ∷ []) → inner.Finds us (m .records) key v
-        → ((u : List ℕ) → Accepts me m key u c → outranks u v ≡ true → ⊥) → inner.Finds us (leaves me m c .records) key v
+    still-found : (c : Export) (key v : List ℕ) → AllFit Fits (meant me m c ∷ []) → inner.Finds us (m .lent .records) key v
+        → ((u : List ℕ) → Accepts me m key u c → outranks u v ≡ true → ⊥) → inner.Finds us (leaves me m c .lent .records) key v
     unfolding calls
     still-found c key v fits f u = after-call c key v (third us (S .own) .lasts world ready (meant me m c ∷ []) fits key v f (call-fine c key v u))
 
@@ -396,13 +398,13 @@ module _ (me : List ℕ) (S : Started me) where
     then-ready c fits = subst (ReadyFor me) (sym (one-call me S m world c len ready refl .stands)) (ready-after me S m world c [] ready fits)
 
   -- ==== any calls
-  found-on : (cs : List Export) (m : Memory) (h : History) → Lent m → ReadyFor me (worldIn m h) → AllFit Fits (meantAll me m cs) → (key v : List ℕ)
-      → inner.Finds us (m .records) key v → Unbeaten me key v m cs → Finds me (leavesAll me m cs) key v
+  found-on : (cs : List Export) (m : Memory) (h : History) → Enough m → ReadyFor me (worldIn m h) → AllFit Fits (meantAll me m cs) → (key v : List ℕ)
+      → inner.Finds us (m .lent .records) key v → Unbeaten me key v m cs → Finds me (leavesAll me m cs) key v
   unfolding leavesAll meantAll Unbeaten
   found-on [] m h len r fits key v f u = finds-here m h len r key v f
   found-on (c ∷ cs) m h len r fits key v f u =
       let here : AllFit Fits (meant me m c ∷ []) = fits-head me S (meant me m c) (meantAll me (leaves me m c) cs) fits in
-      found-on cs (leaves me m c) (then m h len r c) (one-call me S m (worldIn m h) c len r refl .lent) (then-ready m h len r c here) (later-fit me S m c cs fits) key v
+      found-on cs (leaves me m c) (then m h len r c) (one-call me S m (worldIn m h) c len r refl .enough) (then-ready m h len r c here) (later-fit me S m c cs fits) key v
       (still-found m h len r c key v here f (u .0)) (u .1)
 
   pub lasts : Lasts me
@@ -414,6 +416,6 @@ module _ (me : List ℕ) (S : Started me) where
       let m₁ : Memory = leavesAll me m before in
       let h₁ : History = historyOf (after me (worldIn m h) m before) in
       let r₁ : ReadyFor me (worldIn m₁ h₁) = subst (ReadyFor me) (sym (b .stands)) (b .ready) in
-      found-on later (leaves me m₁ c) (then m₁ h₁ (b .lent) r₁ c) (one-call me S m₁ (worldIn m₁ h₁) c (b .lent) r₁ refl .lent)
-      (then-ready m₁ h₁ (b .lent) r₁ c (accepted-fits m₁ h₁ (b .lent) r₁ c key v a)) then-fits key v
-      (after-call m₁ h₁ (b .lent) r₁ c key v (accepted-found m₁ h₁ (b .lent) r₁ c key v a)) u
+      found-on later (leaves me m₁ c) (then m₁ h₁ (b .enough) r₁ c) (one-call me S m₁ (worldIn m₁ h₁) c (b .enough) r₁ refl .enough)
+      (then-ready m₁ h₁ (b .enough) r₁ c (accepted-fits m₁ h₁ (b .enough) r₁ c key v a)) then-fits key v
+      (after-call m₁ h₁ (b .enough) r₁ c key v (accepted-found m₁ h₁ (b .enough) r₁ c key v a)) u

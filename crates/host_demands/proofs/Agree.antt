@@ -7,6 +7,7 @@ use mathlib.Core.List.{List, [], _∷_, _++_, map, append-assoc, append-nil}
 use native.Mathlib.Omega.{arith}
 use lib.ListN.{length, take, length-take}
 use Rattle.octets.proofs.Bools.{either, not-both, cond-ind}
+use Rattle.limits.specs.Limits.{mostBody}
 use Rattle.peer.specs.declared.Peer.{Peer}
 use Rattle.recipe.specs.Recipe.{isRecipe}
 use Rattle.records.specs.Store.{inForm, findOf}
@@ -15,7 +16,6 @@ use Rattle.records_history.specs.Agree as store
 use Rattle.records_history.specs.Agree.{NoRecords, SameSet, HoldSame, Highest}
 use Rattle.records_history.proofs.Holding.{held-is-found}
 use Rattle.records_history.proofs.Agree.{offered-parts, offered-left, offered-right, highest-moved, agreement}
-use Rattle.message.specs.Limits.{mostBody}
 use Rattle.stream.specs.declared.Answer as stream
 use Rattle.stream.specs.declared.Answer.the-variants as framed
 use Rattle.stream.specs.Stream as streams
@@ -25,7 +25,8 @@ use Rattle.cutting.specs.World.{World, call, calls, AllFit}
 use Rattle.cutting.proofs.Kept.{message-fits}
 use Rattle.flat.specs.Flat.{peerIn}
 use Rattle.connections.specs.declared.Conn.{Conn}
-use Rattle.node.specs.Node.{Out, byEvent}
+use Rattle.replies.specs.Lent.{Lent}
+use Rattle.node.specs.Node.{Link, linked, Out, byEvent}
 use Rattle.host_answers.specs.Answers.{findNumber}
 use Rattle.demands.specs.Box as box
 use Rattle.demands.specs.Box.{Entry, Box, Who, Ask, Fits, connOf, offerIn, offersIn}
@@ -36,7 +37,7 @@ use Rattle.demands.proofs.Connections.{gate-open, whole-open}
 use Rattle.demands.proofs.Receives.{let-through, runs-as}
 use Rattle.demands.proofs.Agree.{offer-ind, sends-offer, benches-agree}
 use Rattle.host_demands.specs.Calls as host
-use Rattle.host_demands.specs.Calls.{Memory, History, Seen, Lent, Export, noEvent, receivedBy, returns, leaves, meant, seesOf, meantAll, seesAll, worldIn, historyOf, entrySeen}
+use Rattle.host_demands.specs.Calls.{Memory, History, Seen, Enough, Export, noEvent, receivedBy, returns, leaves, meant, seesOf, meantAll, seesAll, worldIn, historyOf, entrySeen}
 use Rattle.host_demands.specs.Hosted.{Started, nothingYet, ReadyFor, Follows, FollowsAll, after, Finds}
 use Rattle.host_demands.specs.Agree.{Offers, typed, sent, SomeOffers, Never11, Program, end, WasOffered, SameOffers, ProgramsAgree}
 use Rattle.host_demands.proofs.Receiving.{offers-now, offers-same}
@@ -61,10 +62,10 @@ sort (host.lookupReplies j id body view) = 2
 sort (host.lookupHears i j id) = 2
 sort (host.lookupFails j id) = 2
 
-kept-buffer : (x : stream.Answer) (me : Peer) (c : Conn) (n : ℕ) (b t k y : List ℕ) → byEvent x me c n b t k y .buffer ≡ b
-kept-buffer (framed.Message l) me c n b t k y = refl
-kept-buffer (framed.Refused r) me c n b t k y = refl
-kept-buffer framed.More me c n b t k y = refl
+kept-buffer : (x : stream.Answer) (me : Peer) (link : Link) (n : ℕ) (l : Lent) → byEvent x me link n l .buffer ≡ link .buffer
+kept-buffer (framed.Message size) me link n l = refl
+kept-buffer (framed.Refused r) me link n l = refl
+kept-buffer framed.More me link n l = refl
 
 -- what is added to the offers of a world is what P says of a key and a value
 record Adds (P : List ℕ → List ℕ → Type 0) (before now : List Offer) : Type 0 where
@@ -97,7 +98,7 @@ module _ (me : List ℕ) (S : Started me) where
   us = peerIn me
 
   -- ==== one call: what it adds to the offers of the world that memory stands for
-  module _ (m : Memory) (h : History) (len : Lent m) (ready : ReadyFor me (worldIn m h)) where
+  module _ (m : Memory) (h : History) (len : Enough m) (ready : ReadyFor me (worldIn m h)) where
     abbrev world : World Who Box Ask
     world = worldIn m h
 
@@ -152,9 +153,9 @@ module _ (me : List ℕ) (S : Started me) where
         buffer-is : receivedBy me m i piece .buffer ≡ framing .buffer
         buffer-is =
             ap (λ (o : Out). o .buffer)
-            (let-through us (world .lines i) piece (m .contacts) (m .records) (m .reply) (gate-open us (S .own) (world .lines i) (world .shared .state) (ready .lines i) going (ready .good))
-            ∙ runs-as us (world .lines i) piece (m .contacts) (m .records) (m .reply) framing refl)
-            ∙ kept-buffer (framing .got .answer) us (connOf who (framing .got .framing)) (framing .got .taken) (framing .buffer) (m .contacts) (m .records) (m .reply)
+            (let-through us (world .lines i) piece (m .lent) (gate-open us (S .own) (world .lines i) (world .shared .state) (ready .lines i) going (ready .good))
+            ∙ runs-as us (world .lines i) piece (m .lent) framing refl)
+            ∙ kept-buffer (framing .got .answer) us (linked (connOf who (framing .got .framing)) (framing .buffer)) (framing .got .taken) (m .lent)
 
         in-message : (n : ℕ) → framing .got .answer ≡ framed.Message n
             → offersIn who (framing .got .answer) (receivedBy me m i piece .buffer) ≡ offerIn who (take n (framing .buffer))
@@ -221,7 +222,7 @@ module _ (me : List ℕ) (S : Started me) where
   abbrev AddsAll : Memory → History → List Export → Type 0
   AddsAll m h cs = Adds (λ key v. SomeOffers me key v m cs) (h .offers) (after me (worldIn m h) m cs .shared .state .offers)
 
-  adds-all : (cs : List Export) (m : Memory) (h : History) → Lent m → ReadyFor me (worldIn m h) → AllFit Fits (meantAll me m cs) → AddsAll m h cs
+  adds-all : (cs : List Export) (m : Memory) (h : History) → Enough m → ReadyFor me (worldIn m h) → AllFit Fits (meantAll me m cs) → AddsAll m h cs
   unfolding meantAll calls SomeOffers store.IsOffered
   adds-all [] m h len r f = record { os = []; adds = sym (append-nil (h .offers)); there = λ key v o. absurd o; back = λ key v o. absurd o }
   adds-all (c ∷ cs) m h len r f =
@@ -229,7 +230,7 @@ module _ (me : List ℕ) (S : Started me) where
       let one : Follows me m (worldIn m h) c = one-call me S m (worldIn m h) c len r refl in
       let a : AddsOne m h len r c = adds-one m h len r c in
       let later : AddsAll (leaves me m c) (historyOf w) cs =
-      adds-all cs (leaves me m c) (historyOf w) (one .lent) (subst (ReadyFor me) (sym (one .stands)) (ready-after me S m (worldIn m h) c cs r f)) (later-fit me S m c cs f) in
+      adds-all cs (leaves me m c) (historyOf w) (one .enough) (subst (ReadyFor me) (sym (one .stands)) (ready-after me S m (worldIn m h) c cs r f)) (later-fit me S m c cs f) in
       record {
         os = a .os ++ later .os;
         adds = ap (λ (x : World Who Box Ask). after me x (leaves me m c) cs .shared .state .offers) (sym (one .stands)) ∙ later .adds
@@ -268,7 +269,7 @@ module _ (p : Program) where
   begun = worldIn (p .memory) nothingYet
 
   follows : FollowsAll (p .me) (p .memory) begun (p .calls)
-  follows = all-calls (p .me) (p .started) (p .memory) begun (p .calls) (p .lent) (p .ready) refl (p .fit)
+  follows = all-calls (p .me) (p .started) (p .memory) begun (p .calls) (p .enough) (p .ready) refl (p .fit)
 
   log-quiet : inner.Never11 (after (p .me) begun (p .memory) (p .calls) .shared .state .log)
   log-quiet = quiet-log _ (subst Quiet (sym (follows .log)) (quiet-all (p .me) (p .started) (p .calls) (p .memory) (p .never)))
@@ -286,11 +287,11 @@ module _ (p : Program) where
         never = log-quiet;
       }
 
-  held-is : end p .records ≡ inner.held bench
-  held-is = ap (λ (w : World Who Box Ask). w .shared .state .records) (follows .stands)
+  held-is : end p .lent .records ≡ inner.held bench
+  held-is = ap (λ (w : World Who Box Ask). w .shared .state .lent .records) (follows .stands)
 
   all-of : AddsAll (p .me) (p .started) (p .memory) nothingYet (p .calls)
-  all-of = adds-all (p .me) (p .started) (p .calls) (p .memory) nothingYet (p .lent) (p .ready) (p .fit)
+  all-of = adds-all (p .me) (p .started) (p .calls) (p .memory) nothingYet (p .enough) (p .ready) (p .fit)
 
   offered-there : (key v : List ℕ) → WasOffered p key v → store.IsOffered key v (inner.offers bench)
   offered-there key v o = subst (store.IsOffered key v) (sym (all-of .adds)) (all-of .there key v o)
@@ -309,9 +310,9 @@ same-set p q s =
       back = λ k v o. offered-there p k v (s .back k v (offered-back q k v o));
     }
 
-two : (p q : Program) → SameOffers p q → HoldSame (end p .records) (end q .records)
+two : (p q : Program) → SameOffers p q → HoldSame (end p .lent .records) (end q .lent .records)
 two p q s =
-    subst (λ (x : List ℕ). HoldSame x (end q .records)) (sym (held-is p))
+    subst (λ (x : List ℕ). HoldSame x (end q .lent .records)) (sym (held-is p))
     (subst (HoldSame (inner.held (bench p))) (sym (held-is q)) (benches-agree .two (bench p) (bench q) (same-set p q s)))
 
 -- memory stays such that calls may go on
@@ -326,16 +327,16 @@ find-number t u key f h None a b = ap findNumber (held-is-found .missing t key f
 find-number t u key f h (Has v) a b = ap findNumber (held-is-found .found t key v f a .2) ∙ sym (ap findNumber (held-is-found .found u key v h b .2))
 
 find : (p q : Program) → SameOffers p q → (key : List ℕ) → returns (p .me) (end p) (host.find key) ≡ returns (q .me) (end q) (host.find key)
-find p q s key = find-number (end p .records) (end q .records) key (still p .good .records) (still q .good .records) _ (two p q s .found key) refl
+find p q s key = find-number (end p .lent .records) (end q .lent .records) key (still p .good .records) (still q .good .records) _ (two p q s .found key) refl
 
 found : (p q : Program) → SameOffers p q → (key v : List ℕ) → Finds (p .me) (end p) key v → Finds (q .me) (end q) key v
 found p q s key v f =
-    finds-here (q .me) (q .started) (end q) (now q) (follows q .lent) (still q) key v
+    finds-here (q .me) (q .started) (end q) (now q) (follows q .enough) (still q) key v
     (subst (λ (x : List ℕ). demands.Finds (peerIn (q .me)) x key v) (sym (held-is q))
     (benches-agree .found (bench p) (bench q) (same-set p q s) key v
-    (subst (λ (x : List ℕ). demands.Finds (peerIn (p .me)) x key v) (held-is p) (finds-there (p .me) (p .started) (end p) (now p) (follows p .lent) (still p) key v f))))
+    (subst (λ (x : List ℕ). demands.Finds (peerIn (p .me)) x key v) (held-is p) (finds-there (p .me) (p .started) (end p) (now p) (follows p .enough) (still p) key v f))))
 
-highest : (p : Program) (key : List ℕ) → Highest isRecipe key (WasOffered p key) (got (end p .records) key)
+highest : (p : Program) (key : List ℕ) → Highest isRecipe key (WasOffered p key) (got (end p .lent .records) key)
 highest p key =
     subst (λ (x : List ℕ). Highest isRecipe key (WasOffered p key) (got x key)) (sym (held-is p))
     (highest-moved isRecipe key _ _ (offered-back p key) (offered-there p key) _ (benches-agree .highest (bench p) key))

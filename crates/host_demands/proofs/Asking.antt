@@ -26,7 +26,7 @@ use Rattle.host.specs.Host.{lent, tooShort, seenContacts, settleContacts, remov
 use Rattle.demands.specs.Box as box
 use Rattle.demands.specs.Box.{Box, Who, Ask}
 use Rattle.host_demands.specs.Calls as calls
-use Rattle.host_demands.specs.Calls.{Memory, History, Lent, Seen, onlyNumber, withContacts, withLookup, worldIn, Stands, entrySeen, startStep, nextStep, replyStep, heardStep, failureStep}
+use Rattle.host_demands.specs.Calls.{Memory, History, Enough, Seen, onlyNumber, withContacts, withLookup, worldIn, Stands, entrySeen, startStep, nextStep, replyStep, heardStep, failureStep}
 use Rattle.host_demands.specs.Hosted.{Started, Follows}
 use Rattle.host_demands.proofs.Connections.{lent-enough}
 use Rattle.lookup_in_place.proofs.ReadBack.{start-reads}
@@ -34,7 +34,7 @@ use Rattle.lookup_value.proofs.ReadBack.{step-reads}
 use Rattle.host_demands.proofs.Lookups.{step-length, start-length}
 use Rattle.host_demands.proofs.Standing.{set-lookup, one-more-seen}
 
-module _ (me : List ℕ) (S : Started me) (m : Memory) (h : History) (len : Lent m) where
+module _ (me : List ℕ) (S : Started me) (m : Memory) (h : History) (len : Enough m) where
   abbrev us : Peer
   us = peerIn me
 
@@ -50,15 +50,15 @@ module _ (me : List ℕ) (S : Started me) (m : Memory) (h : History) (len : Lent
   -- ---- records
   pub put-follows : (key value : List ℕ) → Follows me m world (calls.put key value)
   unfolding call
-  put-follows key value = record { lent = record { conns = len .conns; lookups = len .lookups }; stands = refl; log = one-seen _ _ refl; order = refl }
+  put-follows key value = record { enough = record { conns = len .conns; lookups = len .lookups }; stands = refl; log = one-seen _ _ refl; order = refl }
 
   pub find-follows : (key : List ℕ) → Follows me m world (calls.find key)
   unfolding call
-  find-follows key = record { lent = len; stands = refl; log = one-seen _ _ refl; order = refl }
+  find-follows key = record { enough = len; stands = refl; log = one-seen _ _ refl; order = refl }
 
   -- ---- contacts
-  contacts-lent : (t : List ℕ) → Lent (withContacts m t)
-  contacts-lent t = record { conns = len .conns; lookups = len .lookups }
+  contacts-enough : (t : List ℕ) → Enough (withContacts m t)
+  contacts-enough t = record { conns = len .conns; lookups = len .lookups }
 
   -- a world that differs in its contacts, its log and its order alone
   contacts-stand : (s t : List ℕ) (e : box.Entry) (o : Ask) → s ≡ t
@@ -74,11 +74,11 @@ module _ (me : List ℕ) (S : Started me) (m : Memory) (h : History) (len : Lent
   unfolding call
   seen-follows id client addresses =
       record {
-        lent = contacts-lent (seenContacts me (m .contacts) id client addresses);
-        stands = contacts-stand _ _ _ _ (enough (m .contacts) (seenAfter us (m .contacts) id (saysYes client) addresses));
-        log = one-seen (box.seenGave (seenOf us (m .contacts) id (saysYes client))) _
-            (λ z. calls.told (enough 0 (seenNumber (seenOf us (m .contacts) id (saysYes client))) z)
-            (λ out. enough out (seenNumbers out (seenOf us (m .contacts) id (saysYes client))) z));
+        enough = contacts-enough (seenContacts me (m .lent .contacts) id client addresses);
+        stands = contacts-stand _ _ _ _ (enough (m .lent .contacts) (seenAfter us (m .lent .contacts) id (saysYes client) addresses));
+        log = one-seen (box.seenGave (seenOf us (m .lent .contacts) id (saysYes client) addresses)) _
+            (λ z. calls.told (enough 0 (seenNumber (seenOf us (m .lent .contacts) id (saysYes client) addresses)) z)
+            (λ out. enough out (seenNumbers out (seenOf us (m .lent .contacts) id (saysYes client) addresses)) z));
         order = refl;
       }
 
@@ -86,10 +86,10 @@ module _ (me : List ℕ) (S : Started me) (m : Memory) (h : History) (len : Lent
   unfolding call
   settle-follows head id client addresses answered =
       record {
-        lent = contacts-lent (settleContacts me (m .contacts) head id client addresses answered);
-        stands = contacts-stand _ _ _ _ (enough (m .contacts) (settleAfter us (m .contacts) head id (saysYes client) addresses (saysYes answered)));
-        log = one-seen (box.settleGave (settleOf us (m .contacts) head id (saysYes client) (saysYes answered))) _
-            (ap onlyNumber (enough 0 (settleNumber (settleOf us (m .contacts) head id (saysYes client) (saysYes answered)))));
+        enough = contacts-enough (settleContacts me (m .lent .contacts) head id client addresses answered);
+        stands = contacts-stand _ _ _ _ (enough (m .lent .contacts) (settleAfter us (m .lent .contacts) head id (saysYes client) addresses (saysYes answered)));
+        log = one-seen (box.settleGave (settleOf us (m .lent .contacts) head id (saysYes client) addresses (saysYes answered))) _
+            (ap onlyNumber (enough 0 (settleNumber (settleOf us (m .lent .contacts) head id (saysYes client) addresses (saysYes answered)))));
         order = refl;
       }
 
@@ -97,9 +97,9 @@ module _ (me : List ℕ) (S : Started me) (m : Memory) (h : History) (len : Lent
   unfolding call
   remove-follows id =
       record {
-        lent = contacts-lent (removeContacts me (m .contacts) id);
-        stands = contacts-stand _ _ _ _ (enough (m .contacts) (removeAfter us (m .contacts) id));
-        log = one-seen (box.removeGave (removeOf us (m .contacts) id)) _ (ap onlyNumber (enough 0 (removeNumber (removeOf us (m .contacts) id))));
+        enough = contacts-enough (removeContacts me (m .lent .contacts) id);
+        stands = contacts-stand _ _ _ _ (enough (m .lent .contacts) (removeAfter us (m .lent .contacts) id));
+        log = one-seen (box.removeGave (removeOf us (m .lent .contacts) id)) _ (ap onlyNumber (enough 0 (removeNumber (removeOf us (m .lent .contacts) id))));
         order = refl;
       }
 
@@ -107,18 +107,18 @@ module _ (me : List ℕ) (S : Started me) (m : Memory) (h : History) (len : Lent
   unfolding call
   doubt-follows id =
       record {
-        lent = contacts-lent (doubtContacts me (m .contacts) id);
-        stands = contacts-stand _ _ _ _ (enough (m .contacts) (doubtAfter us (m .contacts) id));
-        log = one-seen (box.doubtGave (doubtOf us (m .contacts) id)) _ (ap onlyNumber (enough 0 (doubtNumber (doubtOf us (m .contacts) id))));
+        enough = contacts-enough (doubtContacts me (m .lent .contacts) id);
+        stands = contacts-stand _ _ _ _ (enough (m .lent .contacts) (doubtAfter us (m .lent .contacts) id));
+        log = one-seen (box.doubtGave (doubtOf us (m .lent .contacts) id)) _ (ap onlyNumber (enough 0 (doubtNumber (doubtOf us (m .lent .contacts) id))));
         order = refl;
       }
 
   pub nearest-follows : (key : List ℕ) → Follows me m world (calls.nearest key)
   unfolding call
   nearest-follows key =
-      let n : Nearby = nearestTo us (m .contacts) key in
+      let n : Nearby = nearestTo us (m .lent .contacts) key in
       record {
-        lent = len;
+        enough = len;
         stands = refl;
         log = one-seen (box.nearestGave n) _ (λ z. calls.told (enough 0 (toldCode (n .told)) z) (λ out. enough out (nearestNumbers out n) z));
         order = refl;
@@ -135,8 +135,8 @@ module _ (me : List ℕ) (S : Started me) (m : Memory) (h : History) (len : Lent
     abbrev stepped : World Who Box Ask
     stepped = record { lines = world .lines; shared = record { state = box.stepping us j g (world .shared .state); order = h .order ++ (asked o ∷ []) } }
 
-    step-lent : Lent (withLookup m j left)
-    step-lent =
+    step-enough : Enough (withLookup m j left)
+    step-enough =
         record {
           conns = len .conns;
           lookups = λ k. cond-ind (λ (x : List ℕ). flatSize ≤ length x) (eqb k j) left (m .lookups k)
@@ -150,9 +150,7 @@ module _ (me : List ℕ) (S : Started me) (m : Memory) (h : History) (len : Lent
           lines = world .lines;
           shared = record {
             state = record {
-              contacts = m .contacts;
-              records = m .records;
-              reply = m .reply;
+              lent = m .lent;
               lookups = e z;
               inbox = m .inbox;
               log = h .log ++ (box.called (box.stepGave g) ∷ []);
@@ -173,14 +171,14 @@ module _ (me : List ℕ) (S : Started me) (m : Memory) (h : History) (len : Lent
       let written : List ℕ = startedMemory (m .lookups j) g in
       let is : left ≡ written = long-enough j (m .lookups j) written in
       let long : flatSize ≤ length written = start-length (m .lookups j) g (len .lookups j) in
-      let reads : lookupIn written ≡ g .lookup = start-reads (m .lookups j) (m .contacts) (ownId us) (us .place) key limit (len .lookups j) in
+      let reads : lookupIn written ≡ g .lookup = start-reads (m .lookups j) (m .lent .contacts) (ownId us) (us .place) key limit (len .lookups j) in
       let n : ℕ = cond (tooShort me (m .lookups j)) 0 (stepNumber (g .answer)) in
       let code : n ≡ stepNumber (g .answer) = long-enough j 0 (stepNumber (g .answer)) in
       let o : Ask = box.start j key limit in
       let w : List ℕ → List ℕ = λ out. cond (tooShort me (m .lookups j)) out (stepNumbers out g) in
       let numbers : (out : List ℕ) → w out ≡ stepNumbers out g = λ out. long-enough j out (stepNumbers out g) in
       record {
-        lent = step-lent j left written g o n is long reads code w numbers;
+        enough = step-enough j left written g o n is long reads code w numbers;
         stands = step-stands j left written g o n is long reads code w numbers;
         log = step-log j left written g o n is long reads code w numbers;
         order = refl;
@@ -201,7 +199,7 @@ module _ (me : List ℕ) (S : Started me) (m : Memory) (h : History) (len : Lent
       let w : List ℕ → List ℕ = λ out. lent flatSize (m .lookups j) out (stepNumbers out g) in
       let numbers : (out : List ℕ) → w out ≡ stepNumbers out g = λ out. lent-enough flatSize (m .lookups j) out (stepNumbers out g) (len .lookups j) in
       record {
-        lent = step-lent j left written g o n is long reads code w numbers;
+        enough = step-enough j left written g o n is long reads code w numbers;
         stands = step-stands j left written g o n is long reads code w numbers;
         log = step-log j left written g o n is long reads code w numbers;
         order = refl;
@@ -222,7 +220,7 @@ module _ (me : List ℕ) (S : Started me) (m : Memory) (h : History) (len : Lent
       let w : List ℕ → List ℕ = λ out. cond (tooShort me (m .lookups j)) out (stepNumbers out g) in
       let numbers : (out : List ℕ) → w out ≡ stepNumbers out g = λ out. long-enough j out (stepNumbers out g) in
       record {
-        lent = step-lent j left written g o n is long reads code w numbers;
+        enough = step-enough j left written g o n is long reads code w numbers;
         stands = step-stands j left written g o n is long reads code w numbers;
         log = step-log j left written g o n is long reads code w numbers;
         order = refl;
@@ -253,7 +251,7 @@ module _ (me : List ℕ) (S : Started me) (m : Memory) (h : History) (len : Lent
       let w : List ℕ → List ℕ = λ out. cond (tooShort me (m .lookups j)) out (stepNumbers out (heardStep me m i j id)) in
       let numbers : (out : List ℕ) → w out ≡ stepNumbers out g = λ out. long-enough j out (stepNumbers out (heardStep me m i j id)) ∙ ap (stepNumbers out) same in
       record {
-        lent = step-lent j left written g o n is long reads code w numbers;
+        enough = step-enough j left written g o n is long reads code w numbers;
         stands = step-stands j left written g o n is long reads code w numbers;
         log = step-log j left written g o n is long reads code w numbers;
         order = refl;
@@ -274,7 +272,7 @@ module _ (me : List ℕ) (S : Started me) (m : Memory) (h : History) (len : Lent
       let w : List ℕ → List ℕ = λ out. cond (tooShort me (m .lookups j)) out (stepNumbers out g) in
       let numbers : (out : List ℕ) → w out ≡ stepNumbers out g = λ out. long-enough j out (stepNumbers out g) in
       record {
-        lent = step-lent j left written g o n is long reads code w numbers;
+        enough = step-enough j left written g o n is long reads code w numbers;
         stands = step-stands j left written g o n is long reads code w numbers;
         log = step-log j left written g o n is long reads code w numbers;
         order = refl;

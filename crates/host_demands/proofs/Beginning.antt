@@ -6,11 +6,12 @@ use native.Mathlib.Omega.{arith}
 use lib.ListN.{length, getD, set, drop, replicate, length-replicate}
 use lib.Seq.{sets}
 use lib.Dec.{ltb}
+use Rattle.limits.specs.Limits.{mostId, placeSize, mostKey}
 use Rattle.stream.specs.declared.Framing.the-variants.{Shut}
 use Rattle.lookup.specs.Value.{Lookup}
-use Rattle.lookup.specs.Lookup.{room, idMost, keyMost, padded, nobody, noLookup}
+use Rattle.lookup.specs.Lookup.{room, padded, nobody, noLookup}
 use Rattle.flat.specs.Flat.{connSize, framingAt, peerIn, connIn, framingIn, framingOf, pairAt, withFraming}
-use Rattle.flat_lookup.specs.FlatLookup.{placeSize, idAt, placeAt, keyAt, targetAt, flatSize, candidatesAt, candidateSize, candidateIn, candidatesIn, lookupIn, candidateBytes, candidatesBytes, headBytes, lookupBytes}
+use Rattle.flat_lookup.specs.FlatLookup.{idAt, placeAt, keyAt, targetAt, flatSize, candidatesAt, candidateSize, candidateIn, candidatesIn, lookupIn, candidateBytes, candidatesBytes, headBytes, lookupBytes}
 use Rattle.demands.specs.Demands.{Begun}
 use Rattle.demands.proofs.Beginning.{beginnings}
 use Rattle.host_demands.specs.Calls.{Memory, worldIn}
@@ -75,7 +76,7 @@ padded-zeros n i k = blank-in (drop i (zeros k)) n 0 (blank-drop i k)
 
 zero-candidate : (k : ℕ) → candidateIn (zeros k) ≡ nobody
 zero-candidate k =
-    λ z. record { id = padded-zeros idMost idAt k z; place = padded-zeros placeSize placeAt k z; mark = zero-at k 0 z; len = zero-at k 1 z }
+    λ z. record { id = padded-zeros mostId idAt k z; place = padded-zeros placeSize placeAt k z; mark = zero-at k 0 z; len = zero-at k 1 z }
 
 zero-candidates : (n k : ℕ) → candidatesIn n (zeros k) ≡ replicate n nobody
 unfolding candidatesIn
@@ -91,7 +92,7 @@ zero-lookup n =
     let e : candidatesIn room (drop candidatesAt (zeros n)) ≡ replicate room nobody = ap (candidatesIn room) (b .is) ∙ zero-candidates room (b .count) in
     λ z. record {
       candidates = e z;
-      key = padded-zeros keyMost keyAt n z;
+      key = padded-zeros mostKey keyAt n z;
       target = padded-zeros placeSize targetAt n z;
       count = zero-at n 0 z + zero-at n 1 z * 256;
       size = zero-at n 2 z;
@@ -104,7 +105,7 @@ padded-blank n k = record { count = n; is = zeros-in k n 0 }
 
 nobody-blank : Blank (candidateBytes nobody)
 unfolding candidateBytes
-nobody-blank = zeros-on 2 _ (blank-on (padded idMost (zeros idMost)) (padded placeSize (zeros 32)) (padded-blank idMost idMost) (padded-blank placeSize 32))
+nobody-blank = zeros-on 2 _ (blank-on (padded mostId (zeros mostId)) (padded placeSize (zeros 32)) (padded-blank mostId mostId) (padded-blank placeSize 32))
 
 none-blank : (n : ℕ) → Blank (candidatesBytes (replicate n nobody))
 unfolding candidatesBytes
@@ -113,7 +114,7 @@ none-blank (suc n) = blank-on (candidateBytes nobody) (candidatesBytes (replicat
 
 head-blank : Blank (headBytes noLookup)
 unfolding headBytes
-head-blank = zeros-on 8 _ (blank-on (padded keyMost (zeros keyMost)) (padded placeSize (zeros 32)) (padded-blank keyMost keyMost) (padded-blank placeSize 32))
+head-blank = zeros-on 8 _ (blank-on (padded mostKey (zeros mostKey)) (padded placeSize (zeros 32)) (padded-blank mostKey mostKey) (padded-blank placeSize 32))
 
 empty-blank : Blank (lookupBytes noLookup)
 unfolding lookupBytes

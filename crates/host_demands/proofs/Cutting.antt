@@ -6,17 +6,17 @@ use lib.Seq.{sets}
 use Rattle.peer.specs.declared.Peer.{Peer}
 use Rattle.stream.specs.declared.Framing.{Framing}
 use Rattle.cutting.specs.World.{World, Mark, Act, given, calls, AllFit}
-use Rattle.cutting.proofs.Lists.{cancel}
+use Rattle.octets.proofs.Lists.{cancel}
 use Rattle.flat.specs.Flat.{peerIn, connIn, withFraming}
 use Rattle.flat_lookup.specs.FlatLookup.{lookupBytes}
 use Rattle.demands.specs.Box.{Box, Who, Turn, Ask, Fits, box}
 use Rattle.demands.proofs.Theorems.{third}
-use Rattle.host_demands.specs.Calls.{Memory, History, Lent, Export, leavesAll, meantAll, seesAll, worldIn, historyOf, entrySeen}
+use Rattle.host_demands.specs.Calls.{Memory, History, Enough, Export, leavesAll, meantAll, seesAll, worldIn, historyOf, entrySeen}
 use Rattle.host_demands.specs.Hosted.{Started, ReadyFor, FollowsAll, Alike, Written, SameEnd, CutAnywhere}
 use Rattle.host_demands.proofs.Running.{all-calls}
 use Rattle.host_demands.proofs.Written.{origin, Left, all-left}
 
-module _ (me : List ℕ) (S : Started me) (m : Memory) (h : History) (len : Lent m) (wrote : Written m) (ready : ReadyFor me (worldIn m h)) where
+module _ (me : List ℕ) (S : Started me) (m : Memory) (h : History) (len : Enough m) (wrote : Written m) (ready : ReadyFor me (worldIn m h)) where
   abbrev us : Peer
   us = peerIn me
 
@@ -61,9 +61,7 @@ module _ (me : List ℕ) (S : Started me) (m : Memory) (h : History) (len : Lent
     same-end =
         record {
           memory = λ z. record {
-            contacts = same-read z .shared .state .contacts;
-            records = same-read z .shared .state .records;
-            reply = same-read z .shared .state .reply;
+            lent = same-read z .shared .state .lent;
             conns = λ i. same-conn i z;
             buffers = λ i. same-read z .lines i .buffer;
             lookups = λ j. same-lookup j z;

@@ -1,6 +1,6 @@
 -- What the contracts of crate `host` say of a call is what `returns`, `leaves` and `writes` say. Assumes nothing.
 use Prim.Native.Nat.{ℕ, _+_, _≤_}
-use mathlib.Core.Path.{_≡_, sym, ap, _∙_, subst}
+use mathlib.Core.Path.{_≡_, refl, sym, ap, _∙_, subst}
 use mathlib.Core.Bool.{Bool, true, false, cond}
 use mathlib.Core.List.{List, [], _∷_, _++_}
 use native.Mathlib.Omega.{arith}
@@ -19,6 +19,8 @@ use Rattle.node.specs.declared.Received.{Received}
 use Rattle.flat.specs.Flat.{peerSize, connSize, peerIn, connIn}
 use Rattle.host_numbers.specs.Numbers.{viewNumbers}
 use Rattle.host_state.specs.State.{answerNumber, answerLength, answerView, sightNumber, sightSlot, receivedNumbers, nothingTaken}
+use Rattle.replies.specs.Lent as memory
+use Rattle.node.specs.Node.{linked}
 use Rattle.host.specs.Host.{lent, lentBoth}
 use Rattle.host_demands.specs.Calls.{Memory, withLookup, kept, takenBy, lengthBy, receivedBy}
 use Rattle.host_demands.specs.Hosted.{AsExported}
@@ -71,6 +73,19 @@ view-told me conn m out buffer g v e = go (ltb (length me) peerSize) (ltb (lengt
     go false true z = absurd (omega (arith, z))
     go false false z = told-view out buffer (g .taken) (g .sight) (g .answer) v z
 
+-- lent memory part by part, and whole
+lent-told : (me conn : List ℕ) (l o : memory.Lent) (t k y : List ℕ) → t ≡ lentBoth me conn (l .contacts) (o .contacts) → k ≡ lentBoth me conn (l .records) (o .records)
+    → y ≡ lentBoth me conn (l .reply) (o .reply) → memory.lent t k y ≡ lentBoth me conn l o
+unfolding lent
+lent-told me conn l o t k y et ek ey = (λ z. memory.lent (et z) (ek z) (ey z)) ∙ go (ltb (length me) peerSize) (ltb (length conn) connSize)
+  where
+    go : (p q : Bool)
+        → memory.lent (cond p (l .contacts) (cond q (l .contacts) (o .contacts))) (cond p (l .records) (cond q (l .records) (o .records))) (cond p (l .reply) (cond q (l .reply) (o .reply)))
+        ≡ cond p l (cond q l o)
+    go true q = refl
+    go false true = refl
+    go false false = refl
+
 pub as-exported : (me : List ℕ) (m : Memory) → AsExported me m
 unfolding lent
 as-exported me m =
@@ -78,9 +93,7 @@ as-exported me m =
       receive = λ i piece out r conn′ buffer′ t′ k′ y′ out′ c. (
         c .code,
         (λ z. record {
-          contacts = c .contacts z;
-          records = c .records z;
-          reply = c .reply z;
+          lent = lent-told me (m .conns i) (m .lent) (receivedBy me m i piece .left) t′ k′ y′ (c .contacts) (c .records) (c .reply) z;
           conns = setAt (m .conns) i (c .connection z);
           buffers = setAt (m .buffers) i (c .buffer z);
           lookups = m .lookups;
@@ -96,7 +109,7 @@ as-exported me m =
       view = λ i piece out r conn′ buffer′ t′ k′ y′ out′ c q.
           let n : ℕ = lengthBy me m i piece in
           let v = view-told me (m .conns i) (m .buffers i) out (receivedBy me m i piece .buffer) (receivedBy me m i piece .got)
-          (receive-view (peerIn me) (connIn (m .conns i)) (m .buffers i) piece (m .contacts) (m .records) (m .reply)) (sym (c .code) ∙ q) in (
+          (receive-view (peerIn me) (linked (connIn (m .conns i)) (m .buffers i)) piece (m .lent)) (sym (c .code) ∙ q) in (
             subst (λ (b : List ℕ). readingOf (take n b) ≡ Whole (fieldsOf (take n b))) (sym (c .buffer)) (v .0),
             (λ l. ap (λ (x : List ℕ). take 8 (drop 4 x)) (c .numbers) ∙ v .1 l ∙ ap (λ (x : List ℕ). viewNumbers (fieldsOf (take n x))) (sym (c .buffer))),
           );

@@ -9,14 +9,14 @@ use Rattle.refusal.specs.declared.Refusal.{Refusal}
 use Rattle.refusal.specs.declared.Refusal.the-variants.{OutOfForm}
 use Rattle.peer.specs.declared.Peer.{Peer}
 use Rattle.peer.specs.Peers.{badPeer}
-use Rattle.contact_calls.specs.declared.SeenOutcome.{SeenOutcome}
-use Rattle.contact_calls.specs.declared.SeenOutcome.the-variants as seen
-use Rattle.contact_calls.specs.declared.SettleOutcome.{SettleOutcome}
-use Rattle.contact_calls.specs.declared.SettleOutcome.the-variants as settle
-use Rattle.contact_calls.specs.declared.RemoveOutcome.{RemoveOutcome}
-use Rattle.contact_calls.specs.declared.DoubtOutcome.{DoubtOutcome}
-use Rattle.contact_calls.specs.declared.RemoveOutcome.the-variants as remove
-use Rattle.contact_calls.specs.declared.DoubtOutcome.the-variants as doubt
+use Rattle.sightings.specs.declared.Sighting.{Sighting}
+use Rattle.sightings.specs.declared.Sighting.the-variants as seen
+use Rattle.sightings.specs.declared.Settled.{Settled}
+use Rattle.sightings.specs.declared.Settled.the-variants as settle
+use Rattle.sightings.specs.declared.Removed.{Removed}
+use Rattle.sightings.specs.declared.Doubted.{Doubted}
+use Rattle.sightings.specs.declared.Removed.the-variants as remove
+use Rattle.sightings.specs.declared.Doubted.the-variants as doubt
 use Rattle.records.specs.declared.Answer as stored
 use Rattle.records.specs.declared.Answer.the-variants as put
 use Rattle.records.specs.declared.Found.{Found}
@@ -49,7 +49,7 @@ use Rattle.demands.specs.Box.{Box, Who, Ask}
 use Rattle.demands.specs.Demands.{NeverOutOfForm}
 use Rattle.demands.specs.Lookups.{startIn}
 use Rattle.demands.proofs.Never.{never-out-of-form}
-use Rattle.host_demands.specs.Calls.{Memory, History, Lent, lookupNext, lookupReplies, lookupFails, nextStep, replyStep, failureStep, returns, leavesAll, worldIn, historyOf}
+use Rattle.host_demands.specs.Calls.{Memory, History, Enough, lookupNext, lookupReplies, lookupFails, nextStep, replyStep, failureStep, returns, leavesAll, worldIn, historyOf}
 use Rattle.host_demands.specs.Hosted.{Started, ReadyFor, FollowsAll, after, NeverZero, Formed, StepsFormed}
 use Rattle.host_demands.proofs.Numbers.{number-zero}
 use Rattle.host_demands.proofs.Connections.{lent-enough, both-enough}
@@ -58,22 +58,22 @@ use Rattle.host_demands.proofs.Running.{all-calls}
 use Rattle.host_demands.proofs.Traced.{lookup-bytes-are-runs}
 
 -- ---- what 0 says
-seen-zero : (x : SeenOutcome) → seenNumber x ≡ 0 → x ≡ seen.Refused OutOfForm
+seen-zero : (x : Sighting) → seenNumber x ≡ 0 → x ≡ seen.Refused OutOfForm
 seen-zero (seen.Moved i) e = absurd (omega (arith, e))
 seen-zero (seen.Joined i) e = absurd (omega (arith, e))
 seen-zero (seen.Probe h) e = absurd (omega (arith, e))
 seen-zero (seen.Refused r) e = ap seen.Refused (number-zero r e)
 
-settle-zero : (x : SettleOutcome) → settleNumber x ≡ 0 → x ≡ settle.Refused OutOfForm
+settle-zero : (x : Settled) → settleNumber x ≡ 0 → x ≡ settle.Refused OutOfForm
 settle-zero settle.Kept e = absurd (omega (arith, e))
 settle-zero settle.Swapped e = absurd (omega (arith, e))
 settle-zero (settle.Refused r) e = ap settle.Refused (number-zero r e)
 
-remove-zero : (x : RemoveOutcome) → removeNumber x ≡ 0 → x ≡ remove.Refused OutOfForm
+remove-zero : (x : Removed) → removeNumber x ≡ 0 → x ≡ remove.Refused OutOfForm
 remove-zero remove.Gone e = absurd (omega (arith, e))
 remove-zero (remove.Refused r) e = ap remove.Refused (number-zero r e)
 
-doubt-zero : (x : DoubtOutcome) → doubtNumber x ≡ 0 → x ≡ doubt.Refused OutOfForm
+doubt-zero : (x : Doubted) → doubtNumber x ≡ 0 → x ≡ doubt.Refused OutOfForm
 doubt-zero doubt.Marked e = absurd (omega (arith, e))
 doubt-zero (doubt.Refused r) e = ap doubt.Refused (number-zero r e)
 
@@ -127,7 +127,7 @@ module _ (me : List ℕ) (S : Started me) where
   abbrev us : Peer
   us = peerIn me
 
-  never-zero : (m : Memory) (h : History) → Lent m → ReadyFor me (worldIn m h) → NeverZero me m
+  never-zero : (m : Memory) (h : History) → Enough m → ReadyFor me (worldIn m h) → NeverZero me m
   never-zero m h len r =
       let never : NeverOutOfForm us = never-out-of-form us (S .own) in
       let w : World Who Box Ask = worldIn m h in
@@ -138,8 +138,8 @@ module _ (me : List ℕ) (S : Started me) where
         ends = λ i e. never .end (w .lines i) (r .lines i) (end-zero _ (sym (both i 0 _) ∙ e));
         put = λ key value e. never .put a key value (r .good) (put-zero _ e);
         find = λ key e. never .find a key (r .good) (find-zero _ e);
-        seen = λ id client addresses e. never .seen a id (saysYes client) (r .good) (seen-zero _ (sym (enough 0 _) ∙ e));
-        settle = λ head id client addresses answered e. never .settle a head id (saysYes client) (saysYes answered) (r .good) (settle-zero _ (sym (enough 0 _) ∙ e));
+        seen = λ id client addresses e. never .seen a id (saysYes client) addresses (r .good) (seen-zero _ (sym (enough 0 _) ∙ e));
+        settle = λ head id client addresses answered e. never .settle a head id (saysYes client) addresses (saysYes answered) (r .good) (settle-zero _ (sym (enough 0 _) ∙ e));
         remove = λ id e. never .remove a id (r .good) (remove-zero _ (sym (enough 0 _) ∙ e));
         doubt = λ id e. never .doubt a id (r .good) (doubt-zero _ (sym (enough 0 _) ∙ e));
         nearest = λ key e. never .nearest a key (r .good) (told-zero _ (sym (enough 0 _) ∙ e));
@@ -156,7 +156,7 @@ module _ (me : List ℕ) (S : Started me) where
   formed m h cs len r f =
       let w : World Who Box Ask = after me (worldIn m h) m cs in
       let g : FollowsAll me m (worldIn m h) cs = all-calls me S m (worldIn m h) cs len r refl f in
-      never-zero (leavesAll me m cs) (historyOf w) (g .lent) (subst (ReadyFor me) (sym (g .stands)) (g .ready))
+      never-zero (leavesAll me m cs) (historyOf w) (g .enough) (subst (ReadyFor me) (sym (g .stands)) (g .ready))
 
   -- ---- a lookup's steps
   pub steps-formed : StepsFormed me
@@ -169,13 +169,13 @@ module _ (me : List ℕ) (S : Started me) where
       let l : lookupIn (n .lookups j) ≡ outcome step s (x .calls) .lookup = lookup-bytes-are-runs me S .runs m h cs len r f j x t .lookup in
       let never : NeverOutOfForm us = never-out-of-form us (S .own) in
       let next : returns me n (lookupNext j) ≡ stepNumber (step goNext (outcome step s (x .calls) .lookup) .answer) =
-      lent-enough flatSize (n .lookups j) 0 (stepNumber (nextStep me n j .answer)) (g .lent .lookups j) ∙ ap (λ (y : Lookup). stepNumber (step goNext y .answer)) l in
+      lent-enough flatSize (n .lookups j) 0 (stepNumber (nextStep me n j .answer)) (g .enough .lookups j) ∙ ap (λ (y : Lookup). stepNumber (step goNext y .answer)) l in
       let reply : (id body view : List ℕ)
       → returns me n (lookupReplies j id body view) ≡ stepNumber (step (goReply (ownId us) (us .place) id body (viewIn view)) (outcome step s (x .calls) .lookup) .answer) =
-      λ id body view. long-enough me S n h′ (g .lent) j 0 (stepNumber (replyStep me n j id body view .answer))
+      λ id body view. long-enough me S n h′ (g .enough) j 0 (stepNumber (replyStep me n j id body view .answer))
       ∙ ap (λ (y : Lookup). stepNumber (step (goReply (ownId us) (us .place) id body (viewIn view)) y .answer)) l in
       let failure : (id : List ℕ) → returns me n (lookupFails j id) ≡ stepNumber (step (goFail (ownId us) (us .place) id) (outcome step s (x .calls) .lookup) .answer) =
-      λ id. long-enough me S n h′ (g .lent) j 0 (stepNumber (failureStep me n j id .answer))
+      λ id. long-enough me S n h′ (g .enough) j 0 (stepNumber (failureStep me n j id .answer))
       ∙ ap (λ (y : Lookup). stepNumber (step (goFail (ownId us) (us .place) id) y .answer)) l in
       record {
         going = λ b a.
@@ -184,7 +184,7 @@ module _ (me : List ℕ) (S : Started me) where
             record {
               next = λ e. no goNext tt (sym next ∙ e);
               failure = λ id e. no (goFail (ownId us) (us .place) id) tt (sym (failure id) ∙ e);
-              reply = λ id body v q e. no (goReply (ownId us) (us .place) id body (viewIn (viewNumbers v))) (q ∙ ap reading.Whole (sym (view-back me S n h′ (g .lent) v))) (sym (reply id body (viewNumbers v)) ∙ e);
+              reply = λ id body v q e. no (goReply (ownId us) (us .place) id body (viewIn (viewNumbers v))) (q ∙ ap reading.Whole (sym (view-back me S n h′ (g .enough) v))) (sym (reply id body (viewNumbers v)) ∙ e);
             };
         empty = λ a.
             let z : (c : Call) → stepNumber (step c (outcome step s (x .calls) .lookup) .answer) ≡ 0 =

@@ -23,7 +23,7 @@ use Rattle.cutting.proofs.World.{Well, play, play-append, play-shut, play-nil, 
 use Rattle.connections.specs.declared.Conn.{Conn}
 use Rattle.node.specs.declared.Answer.{Answer}
 use Rattle.node.specs.declared.Answer.the-variants.{Reply, Heard, Refused, More}
-use Rattle.node.specs.Node.{Out}
+use Rattle.node.specs.Node.{linked, Out}
 use Rattle.flat.specs.Flat.{peerIn, connIn}
 use Rattle.host_state.specs.State.{answerNumber}
 use Rattle.demands.specs.Box.{Box, Who, Ask, isMore, happens, stopsAt, receiving, box}
@@ -32,7 +32,7 @@ use Rattle.demands.proofs.Leaving.{refused-leaves}
 use Rattle.demands.proofs.Receives.{receives as box-receives}
 use Rattle.demands.proofs.Sound.{sound}
 use Rattle.demands.proofs.Ready.{calls-ready}
-use Rattle.host_demands.specs.Calls.{Memory, History, Lent, receives, receivedBy, receiveCode, takenBy, receiveLeaves, handing, meantAll, worldIn, historyOf}
+use Rattle.host_demands.specs.Calls.{Memory, History, Enough, receives, receivedBy, receiveCode, takenBy, receiveLeaves, handing, meantAll, worldIn, historyOf}
 use Rattle.host_demands.specs.Hosted.{Started, ReadyFor, Follows, HandsOver}
 use Rattle.host_demands.proofs.Numbers.{number-small}
 use Rattle.host_demands.proofs.Connections.{both-enough}
@@ -51,7 +51,7 @@ module _ (me : List ℕ) (S : Started me) where
   abbrev played : World Who Box Ask → ℕ → List ℕ → World Who Box Ask
   played w i p = putBack w i (play (box us) i (here w i) p)
 
-  module _ (m : Memory) (h : History) (len : Lent m) (ready : ReadyFor me (worldIn m h)) (i : ℕ) (piece : List ℕ) where
+  module _ (m : Memory) (h : History) (len : Enough m) (ready : ReadyFor me (worldIn m h)) (i : ℕ) (piece : List ℕ) where
     abbrev world : World Who Box Ask
     world = worldIn m h
 
@@ -117,7 +117,7 @@ module _ (me : List ℕ) (S : Started me) where
           ap (λ (d : Did (Line Who) (Shared Box Ask)). isShut (d .line .framing))
           (sym (handed-play (box us) (sound us (S .own)) i now (take (got .got .taken) piece) well) ∙ one-call (box us) (sound us (S .own)) i now piece well going)
           ∙ ap (λ (c : Conn). isShut (c .framing))
-          (refused-leaves us .receive (connIn (m .conns i)) (m .buffers i) piece (m .contacts) (m .records) (m .reply) r e .shuts
+          (refused-leaves us .receive (linked (connIn (m .conns i)) (m .buffers i)) piece (m .lent) r e .shuts
           (gate-open us (S .own) (now .line) (now .shared .state) (ready .lines i) going (ready .good)))
 
       stops-open : goesOn (answerNumber (got .got .answer)) ≡ false → play (box us) i now (take (got .got .taken) piece) ≡ play (box us) i now piece
@@ -166,7 +166,7 @@ module _ (me : List ℕ) (S : Started me) where
     still-ready = calls-ready (box us) (sound us (S .own)) (hand i (take (takenBy me m i piece) piece) ∷ []) world ready tt
 
   -- ---- call by call
-  hands : (f i : ℕ) (m : Memory) (h : History) (piece : List ℕ) → Lent m → ReadyFor me (worldIn m h) → length piece < f
+  hands : (f i : ℕ) (m : Memory) (h : History) (piece : List ℕ) → Enough m → ReadyFor me (worldIn m h) → length piece < f
       → calls (box us) (worldIn m h) (meantAll me m (handing me f m i piece)) ≡ played (worldIn m h) i piece
   unfolding handing meantAll calls
   hands zero i m h piece len ready l = absurd (not-suc-le-zero l)
@@ -185,12 +185,12 @@ module _ (me : List ℕ) (S : Started me) where
       one = follows me S m h (receives i piece) len ready
 
       go : (b : Bool) → goesOn (receiveCode me m i piece) ≡ b
-          → ((m : Memory) (h : History) (piece : List ℕ) → Lent m → ReadyFor me (worldIn m h) → length piece < f
+          → ((m : Memory) (h : History) (piece : List ℕ) → Enough m → ReadyFor me (worldIn m h) → length piece < f
           → calls (box us) (worldIn m h) (meantAll me m (handing me f m i piece)) ≡ played (worldIn m h) i piece)
           → calls (box us) w (meantAll me m′ (cond b (handing me f m′ i (drop n piece)) [])) ≡ played (worldIn m h) i piece
       go true z ih =
           subst (λ (x : World Who Box Ask). calls (box us) x (meantAll me m′ (handing me f m′ i (drop n piece))) ≡ played x i (drop n piece)) (one .stands)
-          (ih m′ (historyOf w) (drop n piece) (one .lent) (subst (ReadyFor me) (sym (one .stands)) (still-ready m h len ready i piece)) (shorter m h len ready i piece f z l))
+          (ih m′ (historyOf w) (drop n piece) (one .enough) (subst (ReadyFor me) (sym (one .stands)) (still-ready m h len ready i piece)) (shorter m h len ready i piece f z l))
           ∙ ap (λ (x : World Who Box Ask). played x i (drop n piece)) (took m h len ready i piece) ∙ and-then m h len ready i piece n
       go false z ih = took m h len ready i piece ∙ stops m h len ready i piece z
 

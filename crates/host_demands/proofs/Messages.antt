@@ -8,8 +8,8 @@ use lib.ListN.{length, set, take, drop, drop-of-length-le}
 use lib.Seq.{sets, length-sets}
 use lib.Dec.{ltb}
 use Rattle.octets.proofs.Bools.{cond-ind, cond-no}
+use Rattle.limits.specs.Limits.{mostBody, mostKind}
 use Rattle.peer.specs.declared.Peer.{Peer}
-use Rattle.message.specs.Limits.{mostBody, mostKind}
 use Rattle.message.specs.Message.{wellMessage}
 use Rattle.message.specs.View.{fieldsOf, readingOf}
 use Rattle.message.specs.declared.Reading.{Reading}
@@ -21,6 +21,7 @@ use Rattle.stream.specs.Stream.{receiveOf as framedOf}
 use Rattle.replies.specs.declared.Answered.{Answered}
 use Rattle.replies.specs.declared.Answered.the-variants as told
 use Rattle.replies.specs.Verdicts.{Dealt}
+use Rattle.replies.specs.Lent.{Lent}
 use Rattle.answer.specs.Answers.{dealOf}
 use Rattle.connections.specs.declared.Conn.{Conn}
 use Rattle.connections.specs.Box.{withFraming}
@@ -30,7 +31,7 @@ use Rattle.node.specs.declared.Sight.{Sight}
 use Rattle.node.specs.declared.Sight.the-variants.{NotSeen}
 use Rattle.node.specs.declared.Answer.{Answer}
 use Rattle.node.specs.declared.Answer.the-variants.{Reply, Heard, Refused, More}
-use Rattle.node.specs.Node.{Dealing, Out, byAnswer, heardAs, heard, served, dealingOf, byEvent, unless, gateOf, takenOf, receiveOf}
+use Rattle.node.specs.Node.{Link, linked, Dealing, Out, byAnswer, heardAs, heard, served, dealingOf, byEvent, unless, gateOf, takenOf, receiveOf}
 use Rattle.demands.specs.Box.{bodyIn}
 
 -- a message that is heard: it is the body, which stands in m, and has the body's view, as the reader gives it. Nobody was seen by it, nor by a refusal
@@ -58,22 +59,23 @@ read-fits v m =
         → (b ≡ false → HeardFits (heardAs (length (take v m)) y) NotSeen (take v m) m) → HeardFits (heardAs (length (take v m)) (cond b x y)) NotSeen (take v m) m
     go = cond-ind (λ (r : Reading). HeardFits (heardAs (length (take v m)) r) NotSeen (take v m) m)
 
-served-fits : (me : Peer) (x : Answered) (d : Dealt) (c : Conn) (t body m : List ℕ) → HeardFits (byAnswer x d me c t .answer) (byAnswer x d me c t .sight) body m
-served-fits me (told.Refused r) d c t body m = refl
-served-fits me (told.Reply n) d c t body m = tt
+served-fits : (me : Peer) (x : Answered) (d : Dealt) (c : Conn) (l : Lent) (body m : List ℕ)
+    → HeardFits (byAnswer x (d .left) me c l .answer) (byAnswer x (d .left) me c l .sight) body m
+served-fits me (told.Refused r) d c l body m = refl
+served-fits me (told.Reply n) d c l body m = tt
 
-dealing-fits : (me : Peer) (c : Conn) (v : ℕ) (m t k y : List ℕ) → HeardFits (dealingOf me c (take v m) t k y .answer) (dealingOf me c (take v m) t k y .sight) (take v m) m
+dealing-fits : (me : Peer) (c : Conn) (v : ℕ) (m : List ℕ) (l : Lent) → HeardFits (dealingOf me c (take v m) l .answer) (dealingOf me c (take v m) l .sight) (take v m) m
 unfolding dealingOf heard served
-dealing-fits me c v m t k y =
-    let d = dealOf me (c .peer) (take v m) t k y in
+dealing-fits me c v m l =
+    let d = dealOf me (c .peer) (take v m) l in
     cond-ind (λ (x : Dealing). HeardFits (x .answer) (x .sight) (take v m) m) (c .asking) _ _ (λ e. read-fits v m)
-    (λ e. served-fits me (d .told) d c t (take v m) m)
+    (λ e. served-fits me (d .told) d c l (take v m) m)
 
-pub event-fits : (me : Peer) (w : stream.Answer) (c : Conn) (n : ℕ) (m t k y : List ℕ)
-    → HeardFits (byEvent w me c n m t k y .got .answer) (byEvent w me c n m t k y .got .sight) (bodyIn w (byEvent w me c n m t k y .buffer)) (byEvent w me c n m t k y .buffer)
-event-fits me (framed.Message v) c n m t k y = dealing-fits me c v m t k y
-event-fits me (framed.Refused r) c n m t k y = refl
-event-fits me framed.More c n m t k y = tt
+pub event-fits : (me : Peer) (w : stream.Answer) (link : Link) (n : ℕ) (l : Lent)
+    → let o = byEvent w me link n l in HeardFits (o .got .answer) (o .got .sight) (bodyIn w (o .buffer)) (o .buffer)
+event-fits me (framed.Message v) link n l = dealing-fits me (link .conn) v (link .buffer) l
+event-fits me (framed.Refused r) link n l = refl
+event-fits me framed.More link n l = tt
 
 -- ---- whatever is handed in
 abbrev pub ViewFits : Answer → List ℕ → Type 0
@@ -88,21 +90,24 @@ own-view (Heard n f) s body m h = (ap readingOf (h .0) ∙ h .3, h .1 ∙ ap fie
 own-view (Refused r) s body m h = tt
 own-view More s body m h = tt
 
-pub receive-view : (me : Peer) (c : Conn) (m bs t k y : List ℕ) → ViewFits (receiveOf me c m bs t k y .got .answer) (receiveOf me c m bs t k y .buffer)
+pub receive-view : (me : Peer) (link : Link) (bs : List ℕ) (l : Lent) → ViewFits (receiveOf me link bs l .got .answer) (receiveOf me link bs l .buffer)
 unfolding receiveOf takenOf
-receive-view me c m bs t k y = go (gateOf me c m t k y)
+receive-view me link bs l = go (gateOf me link l)
   where
     f : streams.Out
-    f = framedOf (c .framing) m bs
+    f = framedOf (link .conn .framing) (link .buffer) bs
+
+    next : Link
+    next = linked (withFraming (link .conn) (f .got .framing)) (f .buffer)
 
     o : Out
-    o = byEvent (f .got .answer) me (withFraming c (f .got .framing)) (f .got .taken) (f .buffer) t k y
+    o = byEvent (f .got .answer) me next (f .got .taken) l
 
-    go : (g : Gate) → ViewFits (unless g c m t k y o .got .answer) (unless g c m t k y o .buffer)
+    go : (g : Gate) → ViewFits (unless g link l o .got .answer) (unless g link l o .buffer)
     go (Closed r) = tt
     go Open =
         own-view (o .got .answer) (o .got .sight) (bodyIn (f .got .answer) (o .buffer)) (o .buffer)
-        (event-fits me (f .got .answer) (withFraming c (f .got .framing)) (f .got .taken) (f .buffer) t k y)
+        (event-fits me (f .got .answer) next (f .got .taken) l)
 
 -- ---- the numbers past the first two in out, whatever these are
 sets-past : (x : ℕ) (l : List ℕ) (i : ℕ) (r : List ℕ) → sets (x ∷ l) (suc i) r ≡ x ∷ sets l i r

@@ -10,15 +10,15 @@ use lib.ListN.{length, getD, take, drop, length-take, length-map, take-append-dr
 use lib.Seq.{sets, sets-eq, length-sets, take-all, length-take-le}
 use lib.Dec.{ltb}
 use borrow.Author.Tests.{lt-ltb, le-ltb, ltb-true, ltb-false, ne-eqb}
+use Rattle.octets.proofs.Stores.{sets-front, sets-out, sets-append, drop-sets}
 use Rattle.octets.proofs.Bools.{either, cond-ind, cond-yes, cond-no, not-yes, not-no}
-use Rattle.octets.proofs.Stores.{sets-out, sets-append, drop-sets}
+use Rattle.limits.specs.Limits.{leastReply}
 use Rattle.wire.specs.Wire.{fields, fieldsAt, fieldsIn, spans, firstOf, nowhere}
 use Rattle.wire.specs.Items.{cut}
 use Rattle.wire.specs.declared.Span.{Span}
 use Rattle.wire.specs.declared.Found.{Found}
 use Rattle.wire.specs.declared.Found.the-variants.{At, Nothing}
 use Rattle.wire.proofs.Scan.{walk-at, walk-inside}
-use Rattle.message.specs.Limits.{leastReply}
 use Rattle.message.specs.Message.{Message, messageOf, decode, encode, frame}
 use Rattle.message.specs.View.{fieldsOf, readingOf, idAt, addressesAt, connectionAt, closerAt, providersAt, meant, heldMeant, peerMeant}
 use Rattle.message.specs.Claims.{Cuttable, FieldsIn}
@@ -104,28 +104,6 @@ later-start a b h = cond-no (ltb a b) b a (le-ltb a b h)
 later-least : (a b : ℕ) → a ≤ laterOf a b
 unfolding laterOf
 later-least a b = cond-ind (λ (x : ℕ). a ≤ x) (ltb a b) b a (λ e. omega (arith, ltb-true a b e)) (λ e. omega arith)
-
--- for octets: stores from the start on, as many as there is room for
-sets-front : (out l : List ℕ) → sets out 0 l ≡ take (length out) l ++ drop (length l) out
-sets-front out l = ⊎-elim cut-off whole (either (ltb (length out) (length l)))
-  where
-    whole : ltb (length out) (length l) ≡ false → sets out 0 l ≡ take (length out) l ++ drop (length l) out
-    whole t =
-        let h : length l ≤ length out = ltb-false (length out) (length l) t in
-        let z : 0 + length l ≡ length l = omega arith in
-        sets-eq l out 0 (omega (arith, h)) ∙ rw (z, take-all (length out) l h)
-
-    cut-off : ltb (length out) (length l) ≡ true → sets out 0 l ≡ take (length out) l ++ drop (length l) out
-    cut-off t =
-        let n : ℕ = length out in
-        let h : length out < length l = ltb-true (length out) (length l) t in
-        let k : length (take n l) ≡ n = length-take-le n l (omega (arith, h)) in
-        let a : sets out 0 l ≡ sets (sets out 0 (take n l)) (0 + length (take n l)) (drop n l) = ap (λ (x : List ℕ). sets out 0 x) (sym (take-append-drop n l)) ∙ sets-append out 0 (take n l) (drop n l) in
-        let b = sets-out (sets out 0 (take n l)) (0 + length (take n l)) (drop n l) (omega (arith, k, length-sets out 0 (take n l))) in
-        let u : length out ≤ 0 + length (take n l) = omega (arith, k) in
-        let v : length out ≤ length l = omega (arith, h) in
-        let d : drop (0 + length (take n l)) out ≡ drop (length l) out = drop-of-length-le out u ∙ sym (drop-of-length-le out v) in
-        a ∙ b ∙ sets-eq (take n l) out 0 (omega (arith, k)) ∙ rw d
 
 same-rest : (p : Span) (k l : List Span) → p ∷ k ≡ p ∷ l → k ≡ l
 same-rest p k l e = cc

@@ -20,13 +20,14 @@ use Rattle.stream.specs.Stream as streams
 use Rattle.stream.specs.Stream.{isShut, receiveOf as framedOf}
 use Rattle.cutting.specs.World.{Did, Line, Shared, World, Mark, happened, Called, hand, call, here, putBack, setAt, answered, handed}
 use Rattle.cutting.proofs.World.{Well}
+use Rattle.replies.specs.Lent.{Lent}
 use Rattle.connections.specs.declared.Conn.{Conn}
 use Rattle.node.specs.declared.Gate.{Gate}
 use Rattle.node.specs.declared.Sight.{Sight}
 use Rattle.node.specs.declared.Sight.the-variants.{NotSeen}
 use Rattle.node.specs.declared.Answer.{Answer}
 use Rattle.node.specs.declared.Answer.the-variants.{Reply, Heard, Refused, More}
-use Rattle.node.specs.Node.{Out, byEvent, received, unless, takenOf, receiveOf}
+use Rattle.node.specs.Node.{linked, Out, byEvent, received, unless, takenOf, receiveOf}
 use Rattle.flat.specs.Flat.{connSize, peerIn, connIn}
 use Rattle.host_state.specs.State.{changesNothing, answerNumber, answerLength, answerView, sightNumber, sightSlot, receivedNumbers, receivedMemory, nothingTaken}
 use Rattle.host_numbers.specs.Numbers.{viewNumbers}
@@ -40,7 +41,7 @@ use Rattle.demands.proofs.Sound.{sound}
 use Rattle.demands.proofs.Never.{open-answer}
 use Rattle.demands.proofs.Agree.{noted-offers}
 use Rattle.host_demands.specs.Calls as seen
-use Rattle.host_demands.specs.Calls.{Memory, History, Lent, Seen, kept, noEvent, bytesOf, receivedBy, receiveCode, takenBy, receiveLeaves, lineIn, worldIn, Stands, entrySeen, seesOf, marksOf, receives}
+use Rattle.host_demands.specs.Calls.{Memory, History, Enough, Seen, kept, noEvent, bytesOf, receivedBy, receiveCode, takenBy, receiveLeaves, lineIn, worldIn, Stands, entrySeen, seesOf, marksOf, receives}
 use Rattle.host_demands.specs.Hosted.{Started, ReadyFor, Follows}
 use Rattle.host_demands.proofs.Messages.{HeardFits, event-fits, first-two}
 use Rattle.host_demands.proofs.Overwriting.{Touched, left, answer-touched}
@@ -49,27 +50,15 @@ use Rattle.cutting.proofs.Once.{one-call, one-fine, no-call}
 use Rattle.host_demands.proofs.Standing.{put-stands, one-more-seen}
 
 -- ---- what an answer does to what is shared
-module _ (i at : ℕ) (s : Sight) (body t k y : List ℕ) (os : List Offer) (a : Box) where
+module _ (i at : ℕ) (s : Sight) (body : List ℕ) (l : Lent) (os : List Offer) (a : Box) where
   abbrev after : Answer → Box
-  after x = noted i at x s body t k y os a
+  after x = noted i at x s body l os a
 
-  noted-contacts : (x : Answer) → t ≡ after x .contacts
-  noted-contacts (Reply n) = refl
-  noted-contacts (Heard n f) = refl
-  noted-contacts (Refused r) = refl
-  noted-contacts More = refl
-
-  noted-records : (x : Answer) → k ≡ after x .records
-  noted-records (Reply n) = refl
-  noted-records (Heard n f) = refl
-  noted-records (Refused r) = refl
-  noted-records More = refl
-
-  noted-reply : (x : Answer) → y ≡ after x .reply
-  noted-reply (Reply n) = refl
-  noted-reply (Heard n f) = refl
-  noted-reply (Refused r) = refl
-  noted-reply More = refl
+  noted-lent : (x : Answer) → l ≡ after x .lent
+  noted-lent (Reply n) = refl
+  noted-lent (Heard n f) = refl
+  noted-lent (Refused r) = refl
+  noted-lent More = refl
 
   noted-lookups : (x : Answer) → a .lookups ≡ after x .lookups
   noted-lookups (Reply n) = refl
@@ -86,7 +75,7 @@ module _ (i at : ℕ) (s : Sight) (body t k y : List ℕ) (os : List Offer) (a :
 
   -- what the program sees of it, n bytes having been taken
   abbrev seenAs : ℕ → ℕ → List ℕ → (List ℕ → List ℕ) → List Seen
-  seenAs r n m numbers = cond (noEvent r) [] (record { at = at; number = r; bytes = bytesOf r n y m; numbers = numbers } ∷ [])
+  seenAs r n m numbers = cond (noEvent r) [] (record { at = at; number = r; bytes = bytesOf r n (l .reply) m; numbers = numbers } ∷ [])
 
   abbrev numbersBy : ℕ → Answer → Sight → List ℕ → List ℕ
   numbersBy n x s out = drop 2 (sets out 0 ((n ∷ answerLength x ∷ sightNumber s ∷ sightSlot s ∷ []) ++ answerView x))
@@ -104,9 +93,9 @@ module _ (i at : ℕ) (s : Sight) (body t k y : List ℕ) (os : List Offer) (a :
   noted-log : (x : Answer) (m : List ℕ) (n : ℕ) → AnswerRaised x → HeardFits x s body m
       → map entrySeen (after x .log) ≡ map entrySeen (a .log) ++ seenAs (answerNumber x) (answerLength x) m (numbersBy n x s)
   noted-log (Reply k) m n h g =
-      one-more-seen (a .log) (box.event i at (box.replied (take k y) s))
+      one-more-seen (a .log) (box.event i at (box.replied (take k (l .reply)) s))
       ∙ (λ z. map entrySeen (a .log)
-      ++ (record { at = at; number = 65; bytes = take k y; numbers = λ out. first-two out 0 0 n k (sightNumber s ∷ sightSlot s ∷ []) z } ∷ []))
+      ++ (record { at = at; number = 65; bytes = take k (l .reply); numbers = λ out. first-two out 0 0 n k (sightNumber s ∷ sightSlot s ∷ []) z } ∷ []))
   noted-log (Heard k f) m n h g =
       one-more-seen (a .log) (box.event i at (box.heard body f))
       ∙ (λ z. map entrySeen (a .log)
@@ -133,7 +122,7 @@ order-more true i ms = sym (append-nil ms)
 order-more false i ms = refl
 
 -- ---- the call
-module _ (me : List ℕ) (S : Started me) (m : Memory) (h : History) (len : Lent m) (ready : ReadyFor me (worldIn m h)) (i : ℕ) (piece : List ℕ) where
+module _ (me : List ℕ) (S : Started me) (m : Memory) (h : History) (len : Enough m) (ready : ReadyFor me (worldIn m h)) (i : ℕ) (piece : List ℕ) where
   abbrev us : Peer
   us = peerIn me
 
@@ -156,9 +145,7 @@ module _ (me : List ℕ) (S : Started me) (m : Memory) (h : History) (len : Lent
   abbrev plain : Out → Memory
   plain o =
       record {
-        contacts = o .contacts;
-        records = o .records;
-        reply = o .reply;
+        lent = o .left;
         conns = setAt (m .conns) i (receivedMemory (m .conns i) (o .got));
         buffers = setAt (m .buffers) i (o .buffer);
         lookups = m .lookups;
@@ -172,9 +159,7 @@ module _ (me : List ℕ) (S : Started me) (m : Memory) (h : History) (len : Lent
   left-plain : receiveLeaves me m i piece ≡ plain got
   left-plain =
       λ z. record {
-        contacts = enough (m .contacts) (got .contacts) z;
-        records = enough (m .records) (got .records) z;
-        reply = enough (m .reply) (got .reply) z;
+        lent = enough (m .lent) (got .left) z;
         conns = setAt (m .conns) i (enough (m .conns i) (receivedMemory (m .conns i) (got .got)) z);
         buffers = setAt (m .buffers) i (enough (m .buffers i) (got .buffer) z);
         lookups = m .lookups;
@@ -193,7 +178,7 @@ module _ (me : List ℕ) (S : Started me) (m : Memory) (h : History) (len : Lent
       (record {
         at = m .taken i + o .got .taken;
         number = r;
-        bytes = bytesOf r (answerLength (o .got .answer)) (o .reply) (o .buffer);
+        bytes = bytesOf r (answerLength (o .got .answer)) (o .left .reply) (o .buffer);
         numbers = λ out. drop 2 (receivedNumbers out (o .got));
       } ∷ [])
 
@@ -203,7 +188,7 @@ module _ (me : List ℕ) (S : Started me) (m : Memory) (h : History) (len : Lent
       (record {
         at = taken-is z;
         number = code-is z;
-        bytes = bytesOf (code-is z) (enough 0 (answerLength (got .got .answer)) z) (left-plain z .reply) (buffer-is z);
+        bytes = bytesOf (code-is z) (enough 0 (answerLength (got .got .answer)) z) (left-plain z .lent .reply) (buffer-is z);
         numbers = λ out. drop 2 (enough (nothingTaken out) (receivedNumbers out (got .got)) z);
       } ∷ [])
     where
@@ -213,9 +198,9 @@ module _ (me : List ℕ) (S : Started me) (m : Memory) (h : History) (len : Lent
       taken-is : receiveLeaves me m i piece .taken i ≡ m .taken i + got .got .taken
       taken-is = cond-yes (eqb i i) _ _ (eq-eqb i i refl) ∙ ap (λ (n : ℕ). m .taken i + n) (enough 0 (got .got .taken))
 
-  lent-after : Lent (receiveLeaves me m i piece)
-  lent-after =
-      subst Lent (sym left-plain)
+  enough-after : Enough (receiveLeaves me m i piece)
+  enough-after =
+      subst Enough (sym left-plain)
       (record {
         conns = λ j. cond-ind (λ (x : List ℕ). connSize ≤ length x) (eqb j i) _ _ (λ e. receive-length (m .conns i) (len .conns i) (got .got)) (λ e. len .conns j);
         lookups = len .lookups;
@@ -243,11 +228,11 @@ module _ (me : List ℕ) (S : Started me) (m : Memory) (h : History) (len : Lent
     fits : HeardFits (got .got .answer) (got .got .sight) (bodyIn (framedOf (line .framing) (line .buffer) piece .got .answer) (got .buffer)) (got .buffer)
     fits =
         let f : streams.Out = framedOf (line .framing) (line .buffer) piece in
-        let e : got ≡ byEvent (f .got .answer) us (connOf (line .who) (f .got .framing)) (f .got .taken) (f .buffer) (m .contacts) (m .records) (m .reply) =
-        let-through us line piece (m .contacts) (m .records) (m .reply) (gate-open us own line state (ready .lines i) going (ready .good))
-        ∙ runs-as us line piece (m .contacts) (m .records) (m .reply) f refl in
+        let e : got ≡ byEvent (f .got .answer) us (linked (connOf (line .who) (f .got .framing)) (f .buffer)) (f .got .taken) (m .lent) =
+        let-through us line piece (m .lent) (gate-open us own line state (ready .lines i) going (ready .good))
+        ∙ runs-as us line piece (m .lent) f refl in
         subst (λ (x : Out). HeardFits (x .got .answer) (x .got .sight) (bodyIn (f .got .answer) (x .buffer)) (x .buffer)) (sym e)
-        (event-fits us (f .got .answer) (connOf (line .who) (f .got .framing)) (f .got .taken) (f .buffer) (m .contacts) (m .records) (m .reply))
+        (event-fits us (f .got .answer) (linked (connOf (line .who) (f .got .framing)) (f .buffer)) (f .got .taken) (m .lent))
 
     abbrev now : Did (Line Who) (Shared Box Ask)
     now = answered (box.box us) i (world .shared) does
@@ -263,7 +248,7 @@ module _ (me : List ℕ) (S : Started me) (m : Memory) (h : History) (len : Lent
     offers-now =
         let e : stream.Answer = framedOf (line .framing) (line .buffer) piece .got .answer in
         ap (λ (w : World Who Box Ask). w .shared .state .offers) call-is
-        ∙ noted-offers i (line .taken + got .got .taken) (got .got .sight) (bodyIn e (got .buffer)) (got .contacts) (got .records) (got .reply)
+        ∙ noted-offers i (line .taken + got .got .taken) (got .got .sight) (bodyIn e (got .buffer)) (got .left)
         (offersIn (line .who) e (got .buffer)) state (got .got .answer)
 
     stands-now : Stands (plain got) (putBack world i now)
@@ -274,19 +259,17 @@ module _ (me : List ℕ) (S : Started me) (m : Memory) (h : History) (len : Lent
         let os : List Offer = offersIn (line .who) e (got .buffer) in
         let x : Answer = got .got .answer in
         let s : Sight = got .got .sight in
-        put-stands m h i (got .contacts) (got .records) (got .reply) (receivedMemory (m .conns i) (got .got)) (got .buffer)
+        put-stands m h i (got .left) (receivedMemory (m .conns i) (got .got)) (got .buffer)
         (kept m i (answerNumber x) (take (answerLength x) (got .buffer))) at now
         (ap (λ (c : Conn). record { who = whoIn c; framing = c .framing; buffer = got .buffer; taken = at }) conn-after)
-        (noted-contacts i at s body (got .contacts) (got .records) (got .reply) os state x)
-        (noted-records i at s body (got .contacts) (got .records) (got .reply) os state x)
-        (noted-reply i at s body (got .contacts) (got .records) (got .reply) os state x)
-        (noted-lookups i at s body (got .contacts) (got .records) (got .reply) os state x)
-        (noted-inbox i at s body (got .contacts) (got .records) (got .reply) os state x (got .buffer) raised fits)
+        (noted-lent i at s body (got .left) os state x)
+        (noted-lookups i at s body (got .left) os state x)
+        (noted-inbox i at s body (got .left) os state x (got .buffer) raised fits)
 
     log-now : map entrySeen (now .shared .state .log) ≡ map entrySeen (h .log) ++ seesOf me m (receives i piece)
     log-now =
         let e : stream.Answer = framedOf (line .framing) (line .buffer) piece .got .answer in
-        noted-log i (line .taken + got .got .taken) (got .got .sight) (bodyIn e (got .buffer)) (got .contacts) (got .records) (got .reply)
+        noted-log i (line .taken + got .got .taken) (got .got .sight) (bodyIn e (got .buffer)) (got .left)
         (offersIn (line .who) e (got .buffer)) state (got .got .answer) (got .buffer) (got .got .taken) raised fits
         ∙ ap (λ (x : List Seen). map entrySeen (h .log) ++ x) (sym sees-plain)
 
@@ -298,7 +281,7 @@ module _ (me : List ℕ) (S : Started me) (m : Memory) (h : History) (len : Lent
     follows-open : Follows me m world (receives i piece)
     follows-open =
         record {
-          lent = lent-after;
+          enough = enough-after;
           stands = subst (λ (n : Memory). Stands n (call (box.box us) world (hand i (take (takenBy me m i piece) piece)))) (sym left-plain)
               (subst (Stands (plain got)) (sym call-is) stands-now);
           log = ap (λ (w : World Who Box Ask). map entrySeen (w .shared .state .log)) call-is ∙ log-now;
@@ -309,13 +292,13 @@ module _ (me : List ℕ) (S : Started me) (m : Memory) (h : History) (len : Lent
   module _ (shut : isShut (line .framing) ≡ true) where
     abbrev pub nothing : Out
     nothing =
-        record { got = received (connIn (m .conns i)) 0 (Refused no.Shut) NotSeen; buffer = m .buffers i; contacts = m .contacts; records = m .records; reply = m .reply }
+        record { got = received (connIn (m .conns i)) 0 (Refused no.Shut) NotSeen; buffer = m .buffers i; left = m .lent }
 
     pub got-nothing : got ≡ nothing
     unfolding receiveOf
     got-nothing =
-        ap (λ (g : Gate). unless g (connIn (m .conns i)) (m .buffers i) (m .contacts) (m .records) (m .reply)
-        (takenOf us (connIn (m .conns i)) (m .buffers i) piece (m .contacts) (m .records) (m .reply)))
+        ap (λ (g : Gate). unless g (linked (connIn (m .conns i)) (m .buffers i)) (m .lent)
+        (takenOf us (linked (connIn (m .conns i)) (m .buffers i)) piece (m .lent)))
         (gate-shut us line state (ready .lines i) shut (ready .good))
 
     same-world : call (box.box us) world (hand i (take (takenBy me m i piece) piece)) ≡ putBack world i (here world i)
@@ -327,8 +310,8 @@ module _ (me : List ℕ) (S : Started me) (m : Memory) (h : History) (len : Lent
 
     stands-still : Stands (plain nothing) (putBack world i (here world i))
     unfolding changesNothing
-    stands-still = put-stands m h i (m .contacts) (m .records) (m .reply) (m .conns i) (m .buffers i) (m .inbox) (m .taken i + 0) (here world i)
-        (ap (lineIn (m .conns i) (m .buffers i)) (omega arith)) refl refl refl refl refl
+    stands-still = put-stands m h i (m .lent) (m .conns i) (m .buffers i) (m .inbox) (m .taken i + 0) (here world i)
+        (ap (lineIn (m .conns i) (m .buffers i)) (omega arith)) refl refl refl
 
     sees-none : seesOf me m (receives i piece) ≡ []
     sees-none = sees-plain ∙ ap seesBy got-nothing
@@ -339,7 +322,7 @@ module _ (me : List ℕ) (S : Started me) (m : Memory) (h : History) (len : Lent
     follows-shut : Follows me m world (receives i piece)
     follows-shut =
         record {
-          lent = lent-after;
+          enough = enough-after;
           stands = subst (λ (n : Memory). Stands n (call (box.box us) world (hand i (take (takenBy me m i piece) piece)))) (sym (left-plain ∙ ap plain got-nothing))
               (subst (Stands (plain nothing)) (sym same-world) stands-still);
           log = ap (λ (w : World Who Box Ask). map entrySeen (w .shared .state .log)) same-world ∙ sym (append-nil (map entrySeen (h .log)))

@@ -19,7 +19,8 @@ use Rattle.lookup.specs.declared.Answer.the-variants as steps
 use Rattle.lookup.specs.Lookup.{noLookup}
 use Rattle.node.specs.declared.Answer.{Answer}
 use Rattle.node.specs.declared.Answer.the-variants.{Reply, Heard, Refused, More}
-use Rattle.node.specs.Node.{Out}
+use Rattle.replies.specs.Lent.{withContacts, withRecords}
+use Rattle.node.specs.Node.{linked, Out}
 use Rattle.node_promises.specs.Promises.{Unchanged}
 use Rattle.flat.specs.Flat.{peerSize, connSize, peerIn, connIn, saysYes}
 use Rattle.flat_lookup.specs.FlatLookup.{flatSize, lookupIn, lookupBytes}
@@ -61,45 +62,43 @@ module _ (me : List ℕ) (m : Memory) where
     abbrev o : Out
     o = receivedBy me m i piece
 
-    unchanged : answerNumber (o .got .answer) < 64 → Unchanged (m .contacts) (m .records) (m .reply) o
+    unchanged : answerNumber (o .got .answer) < 64 → Unchanged (m .lent) o
     unchanged h = go (o .got .answer) refl h
       where
-        go : (x : Answer) → o .got .answer ≡ x → answerNumber x < 64 → Unchanged (m .contacts) (m .records) (m .reply) o
+        go : (x : Answer) → o .got .answer ≡ x → answerNumber x < 64 → Unchanged (m .lent) o
         go (Reply n) e l = absurd (omega (arith, l))
         go (Heard n f) e l = absurd (omega (arith, l))
-        go (Refused r) e l = leaving .receive (connIn (m .conns i)) (m .buffers i) piece (m .contacts) (m .records) (m .reply) r e .unchanged
+        go (Refused r) e l = leaving .receive (linked (connIn (m .conns i)) (m .buffers i)) piece (m .lent) r e .unchanged
         go More e l = absurd (omega (arith, l))
 
     receive-keeps : returns me m (host.receives i piece) < 64 → Keeps me m (host.receives i piece)
     receive-keeps h =
         record {
-          contacts = both-kept me (m .conns i) (m .contacts) (o .contacts) (answerNumber (o .got .answer)) h (λ l. unchanged l .contacts);
-          records = both-kept me (m .conns i) (m .records) (o .records) (answerNumber (o .got .answer)) h (λ l. unchanged l .records);
-          reply = both-kept me (m .conns i) (m .reply) (o .reply) (answerNumber (o .got .answer)) h (λ l. unchanged l .reply);
+          lent = both-kept me (m .conns i) (m .lent) (o .left) (answerNumber (o .got .answer)) h (λ l. unchanged l .left);
           lookups = λ j e. refl;
         }
 
   -- ---- records and contacts
-  put-kept : (key value : List ℕ) → putNumber (putAnswer (m .records) key value) < 64 → putAfter (m .records) key value ≡ m .records
-  put-kept key value h = go (putAnswer (m .records) key value) refl h
+  put-kept : (key value : List ℕ) → putNumber (putAnswer (m .lent .records) key value) < 64 → putAfter (m .lent .records) key value ≡ m .lent .records
+  put-kept key value h = go (putAnswer (m .lent .records) key value) refl h
     where
-      go : (x : stored.Answer) → putAnswer (m .records) key value ≡ x → putNumber x < 64 → putAfter (m .records) key value ≡ m .records
+      go : (x : stored.Answer) → putAnswer (m .lent .records) key value ≡ x → putNumber x < 64 → putAfter (m .lent .records) key value ≡ m .lent .records
       go put.Taken e l = absurd (omega (arith, l))
-      go (put.Refused r) e l = leaving .put (m .records) key value r e
+      go (put.Refused r) e l = leaving .put (m .lent .records) key value r e
 
-  seen-kept : (id : List ℕ) (client : Bool) (addresses : List ℕ) → seenNumber (seenOf us (m .contacts) id client) < 64
-      → seenAfter us (m .contacts) id client addresses ≡ m .contacts
-  seen-kept id client addresses = leaving .calls .sees us (m .contacts) id client addresses
+  seen-kept : (id : List ℕ) (client : Bool) (addresses : List ℕ) → seenNumber (seenOf us (m .lent .contacts) id client addresses) < 64
+      → seenAfter us (m .lent .contacts) id client addresses ≡ m .lent .contacts
+  seen-kept id client addresses = leaving .calls .sees us (m .lent .contacts) id client addresses
 
-  settle-kept : (head id : List ℕ) (client : Bool) (addresses : List ℕ) (answered : Bool) → settleNumber (settleOf us (m .contacts) head id client answered) < 64
-      → settleAfter us (m .contacts) head id client addresses answered ≡ m .contacts
-  settle-kept head id client addresses answered = leaving .calls .settles us (m .contacts) head id client addresses answered
+  settle-kept : (head id : List ℕ) (client : Bool) (addresses : List ℕ) (answered : Bool) → settleNumber (settleOf us (m .lent .contacts) head id client addresses answered) < 64
+      → settleAfter us (m .lent .contacts) head id client addresses answered ≡ m .lent .contacts
+  settle-kept head id client addresses answered = leaving .calls .settles us (m .lent .contacts) head id client addresses answered
 
-  remove-kept : (id : List ℕ) → removeNumber (removeOf us (m .contacts) id) < 64 → removeAfter us (m .contacts) id ≡ m .contacts
-  remove-kept id = leaving .calls .removes us (m .contacts) id
+  remove-kept : (id : List ℕ) → removeNumber (removeOf us (m .lent .contacts) id) < 64 → removeAfter us (m .lent .contacts) id ≡ m .lent .contacts
+  remove-kept id = leaving .calls .removes us (m .lent .contacts) id
 
-  doubt-kept : (id : List ℕ) → doubtNumber (doubtOf us (m .contacts) id) < 64 → doubtAfter us (m .contacts) id ≡ m .contacts
-  doubt-kept id = leaving .calls .doubts us (m .contacts) id
+  doubt-kept : (id : List ℕ) → doubtNumber (doubtOf us (m .lent .contacts) id) < 64 → doubtAfter us (m .lent .contacts) id ≡ m .lent .contacts
+  doubt-kept id = leaving .calls .doubts us (m .lent .contacts) id
 
   -- ---- lookups
   step-kept : (x : List ℕ) (s : Step) → stepNumber (s .answer) < 64 → stepMemory x s ≡ x
@@ -132,7 +131,7 @@ module _ (me : List ℕ) (m : Memory) where
   emptied key limit h = go (startStep me m key limit .answer) refl h
     where
       go : (a : lookup.Answer) → startStep me m key limit .answer ≡ a → stepNumber a < 64 → startStep me m key limit .lookup ≡ noLookup
-      go (steps.Refused r) e l = leaving .empties (m .contacts) key limit r e
+      go (steps.Refused r) e l = leaving .empties (m .lent .contacts) key limit r e
       go (steps.Complete n) e l = absurd (omega (arith, l))
       go (steps.CutShort n) e l = absurd (omega (arith, l))
       go steps.Wait e l = absurd (omega (arith, l))
@@ -144,60 +143,48 @@ unfolding tooShort lookupStart
 refused-start me m j key limit room long h =
     let enough : tooShort me (m .lookups j) ≡ false = or-fails _ _ (le-ltb (length me) peerSize room) (le-ltb (length (m .lookups j)) flatSize long) in
     ap lookupIn (cond-yes (eqb j j) _ _ (eq-eqb j j refl) ∙ cond-no (tooShort me (m .lookups j)) _ _ enough)
-    ∙ start-reads (m .lookups j) (m .contacts) (ownId (peerIn me)) (peerIn me .place) key limit long
+    ∙ start-reads (m .lookups j) (m .lent .contacts) (ownId (peerIn me)) (peerIn me .place) key limit long
     ∙ emptied me m key limit (subst (λ (n : ℕ). n < 64) (cond-no (tooShort me (m .lookups j)) _ _ enough) h)
 
 pub refused-keeps : (me : List ℕ) → RefusedKeeps me
-refused-keeps me m (host.opens i id server asking addresses buffer) h = record { contacts = refl; records = refl; reply = refl; lookups = λ j e. refl }
+refused-keeps me m (host.opens i id server asking addresses buffer) h = record { lent = refl; lookups = λ j e. refl }
 refused-keeps me m (host.receives i piece) h = receive-keeps me m i piece h
-refused-keeps me m (host.ends i) h = record { contacts = refl; records = refl; reply = refl; lookups = λ j e. refl }
-refused-keeps me m (host.put key value) h = record { contacts = refl; records = put-kept me m key value h; reply = refl; lookups = λ j e. refl }
-refused-keeps me m (host.find key) h = record { contacts = refl; records = refl; reply = refl; lookups = λ j e. refl }
+refused-keeps me m (host.ends i) h = record { lent = refl; lookups = λ j e. refl }
+refused-keeps me m (host.put key value) h = record { lent = ap (withRecords (m .lent)) (put-kept me m key value h); lookups = λ j e. refl }
+refused-keeps me m (host.find key) h = record { lent = refl; lookups = λ j e. refl }
 refused-keeps me m (host.seen id client addresses) h =
     record {
-      contacts = lent-kept peerSize me (m .contacts) _ _ h (seen-kept me m id (saysYes client) addresses);
-      records = refl;
-      reply = refl;
+      lent = ap (withContacts (m .lent)) (lent-kept peerSize me (m .lent .contacts) _ _ h (seen-kept me m id (saysYes client) addresses));
       lookups = λ j e. refl;
     }
 refused-keeps me m (host.settle head id client addresses answered) h =
     record {
-      contacts = lent-kept peerSize me (m .contacts) _ _ h (settle-kept me m head id (saysYes client) addresses (saysYes answered));
-      records = refl;
-      reply = refl;
+      lent = ap (withContacts (m .lent)) (lent-kept peerSize me (m .lent .contacts) _ _ h (settle-kept me m head id (saysYes client) addresses (saysYes answered)));
       lookups = λ j e. refl;
     }
 refused-keeps me m (host.remove id) h =
-    record { contacts = lent-kept peerSize me (m .contacts) _ _ h (remove-kept me m id); records = refl; reply = refl; lookups = λ j e. refl }
+    record { lent = ap (withContacts (m .lent)) (lent-kept peerSize me (m .lent .contacts) _ _ h (remove-kept me m id)); lookups = λ j e. refl }
 refused-keeps me m (host.doubt id) h =
-    record { contacts = lent-kept peerSize me (m .contacts) _ _ h (doubt-kept me m id); records = refl; reply = refl; lookups = λ j e. refl }
-refused-keeps me m (host.nearest key) h = record { contacts = refl; records = refl; reply = refl; lookups = λ j e. refl }
-refused-keeps me m (host.lookupStarts j key limit) h = record { contacts = refl; records = refl; reply = refl; lookups = λ k e. other-lookup me m j _ key limit k (λ q. e key limit q) }
+    record { lent = ap (withContacts (m .lent)) (lent-kept peerSize me (m .lent .contacts) _ _ h (doubt-kept me m id)); lookups = λ j e. refl }
+refused-keeps me m (host.nearest key) h = record { lent = refl; lookups = λ j e. refl }
+refused-keeps me m (host.lookupStarts j key limit) h = record { lent = refl; lookups = λ k e. other-lookup me m j _ key limit k (λ q. e key limit q) }
 refused-keeps me m (host.lookupNext j) h =
     record {
-      contacts = refl;
-      records = refl;
-      reply = refl;
+      lent = refl;
       lookups = λ k e. put-back me m j _ (lent-kept flatSize (m .lookups j) (m .lookups j) _ _ h (step-kept me m (m .lookups j) (nextStep me m j))) k;
     }
 refused-keeps me m (host.lookupReplies j id body view) h =
     record {
-      contacts = refl;
-      records = refl;
-      reply = refl;
+      lent = refl;
       lookups = λ k e. put-back me m j _ (if-short (tooShort me (m .lookups j)) (m .lookups j) _ _ h (step-kept me m (m .lookups j) (replyStep me m j id body view))) k;
     }
 refused-keeps me m (host.lookupHears i j id) h =
     record {
-      contacts = refl;
-      records = refl;
-      reply = refl;
+      lent = refl;
       lookups = λ k e. put-back me m j _ (if-short (tooShort me (m .lookups j)) (m .lookups j) _ _ h (step-kept me m (m .lookups j) (heardStep me m i j id))) k;
     }
 refused-keeps me m (host.lookupFails j id) h =
     record {
-      contacts = refl;
-      records = refl;
-      reply = refl;
+      lent = refl;
       lookups = λ k e. put-back me m j _ (if-short (tooShort me (m .lookups j)) (m .lookups j) _ _ h (step-kept me m (m .lookups j) (failureStep me m j id))) k;
     }

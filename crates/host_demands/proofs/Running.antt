@@ -8,7 +8,7 @@ use Rattle.demands.specs.Box.{Box, Who, Turn, Ask, Fits, box}
 use Rattle.demands.proofs.Sound.{sound}
 use Rattle.demands.proofs.Ready.{calls-ready}
 use Rattle.host_demands.specs.Calls as host
-use Rattle.host_demands.specs.Calls.{Memory, History, Lent, Seen, Export, leaves, meant, seesOf, marksOf, leavesAll, meantAll, seesAll, marksAll, worldIn, historyOf, Stands, entrySeen}
+use Rattle.host_demands.specs.Calls.{Memory, History, Enough, Seen, Export, leaves, meant, seesOf, marksOf, leavesAll, meantAll, seesAll, marksAll, worldIn, historyOf, Stands, entrySeen}
 use Rattle.host_demands.specs.Hosted.{Started, ReadyFor, Follows, OneCall, FollowsAll, AllCalls}
 use Rattle.host_demands.proofs.Receiving.{receive-follows}
 use Rattle.host_demands.proofs.Turning.{open-follows, end-follows}
@@ -16,7 +16,7 @@ use Rattle.host_demands.proofs.Asking.{put-follows, find-follows, seen-
 
 module _ (me : List ℕ) (S : Started me) where
   -- ---- one call
-  pub follows : (m : Memory) (h : History) (c : Export) → Lent m → ReadyFor me (worldIn m h) → Follows me m (worldIn m h) c
+  pub follows : (m : Memory) (h : History) (c : Export) → Enough m → ReadyFor me (worldIn m h) → Follows me m (worldIn m h) c
   follows m h (host.opens i id server asking addresses buffer) l r = open-follows me S m h l r i id server asking addresses buffer
   follows m h (host.receives i piece) l r = receive-follows me S m h l r i piece
   follows m h (host.ends i) l r = end-follows me S m h l r i
@@ -60,16 +60,16 @@ module _ (me : List ℕ) (S : Started me) where
   unfolding meantAll
   later-fit m c cs f = fits-rest (meant me m c) (meantAll me (leaves me m c) cs) f
 
-  all-calls-go : (cs : List Export) (m : Memory) (w : World Who Box Ask) → Lent m → ReadyFor me w → Stands m w → AllFit Fits (meantAll me m cs) → FollowsAll me m w cs
+  all-calls-go : (cs : List Export) (m : Memory) (w : World Who Box Ask) → Enough m → ReadyFor me w → Stands m w → AllFit Fits (meantAll me m cs) → FollowsAll me m w cs
   unfolding leavesAll meantAll seesAll marksAll calls
   all-calls-go [] m w l r e f =
-      record { lent = l; ready = r; stands = e; log = sym (append-nil (map entrySeen (w .shared .state .log))); order = sym (append-nil (w .shared .order)) }
+      record { enough = l; ready = r; stands = e; log = sym (append-nil (map entrySeen (w .shared .state .log))); order = sym (append-nil (w .shared .order)) }
   all-calls-go (c ∷ cs) m w l r e f =
       let one : Follows me m w c = one-call m w c l r e in
       let later : FollowsAll me (leaves me m c) (call (box (peerIn me)) w (meant me m c)) cs =
-      all-calls-go cs (leaves me m c) (call (box (peerIn me)) w (meant me m c)) (one .lent) (ready-after m w c cs r f) (one .stands) (later-fit m c cs f) in
+      all-calls-go cs (leaves me m c) (call (box (peerIn me)) w (meant me m c)) (one .enough) (ready-after m w c cs r f) (one .stands) (later-fit m c cs f) in
       record {
-        lent = later .lent;
+        enough = later .enough;
         ready = later .ready;
         stands = later .stands;
         log = later .log ∙ ap (λ (x : List Seen). x ++ seesAll me (leaves me m c) cs) (one .log)

@@ -9,13 +9,13 @@ use lib.ListN.{length}
 use lib.Dec.{eqb, ltb, leb}
 use borrow.Author.Tests.{eq-eqb, ne-eqb, le-leb, lt-leb, ltb-false}
 use Rattle.octets.proofs.Bools.{cond-ind, cond-yes, cond-no, or-l, or-r, or-off, or-fails, all-head, all-rest}
+use Rattle.limits.specs.Limits.{mostBody, leastReply}
 use Rattle.refusal.specs.declared.Refusal.{Refusal}
 use Rattle.refusal.specs.declared.Refusal.the-variants as no
 use Rattle.refusal.specs.Refusal.{numberOf}
 use Rattle.peer.specs.declared.Peer.{Peer}
 use Rattle.contacts.specs.Form.{inForm as contactsForm}
 use Rattle.records.specs.Store.{inForm as recordsForm}
-use Rattle.message.specs.Limits.{mostBody, leastReply}
 use Rattle.stream.specs.declared.Held.the-variants.{Nothing, One, Two}
 use Rattle.stream.specs.declared.Framing.{Framing}
 use Rattle.stream.specs.declared.Framing.the-variants.{Shut, Prefix, Body}
@@ -36,7 +36,8 @@ use Rattle.node.specs.declared.Answer.{Answer}
 use Rattle.node.specs.declared.Answer.the-variants.{Reply, Heard, Refused, More}
 use Rattle.node.specs.declared.Gate.{Gate}
 use Rattle.node.specs.declared.Gate.the-variants.{Open, Closed}
-use Rattle.node.specs.Node.{Out, byEvent, unless, gateOf, takenOf, receiveOf}
+use Rattle.replies.specs.Lent.{Lent}
+use Rattle.node.specs.Node.{linked, Out, byEvent, unless, gateOf, takenOf, receiveOf}
 use Rattle.node_promises.specs.Promises as promises
 use Rattle.node_promises.specs.Promises.{Refuses}
 use Rattle.flat.specs.Flat.{peerSize, connSize, peerIn, connIn, saysYes, withFraming}
@@ -77,15 +78,15 @@ true-not : (b : Bool) → not b ≡ false → b ≡ true
 true-not true e = refl
 true-not false e = sym e
 
-module _ (me : Peer) (c : Conn) (m bs t k y : List ℕ) where
-  passes : gateOf me c m t k y ≡ Open → Passes me c m
+module _ (me : Peer) (c : Conn) (m bs : List ℕ) (l : Lent) where
+  passes : gateOf me (linked c m) l ≡ Open → Passes me c m
   unfolding gateOf
   passes =
-      cond-ind P (not (contactsForm t (me .place))) _ _ (λ h. shut-gate no.OutOfForm)
-      (λ h. cond-ind P (not (recordsForm k)) _ _ (λ h. shut-gate no.OutOfForm)
+      cond-ind P (not (contactsForm (l .contacts) (me .place))) _ _ (λ h. shut-gate no.OutOfForm)
+      (λ h. cond-ind P (not (recordsForm (l .records))) _ _ (λ h. shut-gate no.OutOfForm)
       (λ h. cond-ind P (not (connForm me c)) _ _ (λ h. shut-gate no.OutOfForm)
       (λ f. cond-ind P (ltb (length m) mostBody) _ _ (λ h. shut-gate no.SmallBuffer)
-      (λ r. cond-ind P (ltb (length y) leastReply) _ _ (λ h. shut-gate no.SmallBuffer)
+      (λ r. cond-ind P (ltb (length (l .reply)) leastReply) _ _ (λ h. shut-gate no.SmallBuffer)
       (λ h. cond-ind P (isShut (c .framing)) _ _ (λ h. shut-gate no.Shut)
       (λ g. cond-ind P (not (ownFits me)) _ _ (λ h. shut-gate no.BadPeer)
       (λ h e. record { form = true-not _ f; room = ltb-false (length m) mostBody r; going = g })))))))
@@ -97,15 +98,15 @@ module _ (me : Peer) (c : Conn) (m bs t k y : List ℕ) where
   unfolding connForm
   framing-form p = all-head _ _ (all-rest _ _ (all-rest _ _ (sym (or-off _ _ (p .going)) ∙ p .form)))
 
-  past-gate : gateOf me c m t k y ≡ Open → AnswerRaised (receiveOf me c m bs t k y .got .answer)
+  past-gate : gateOf me (linked c m) l ≡ Open → AnswerRaised (receiveOf me (linked c m) bs l .got .answer)
   unfolding receiveOf takenOf
   past-gate e =
       let p = passes e in
       let o : streams.Out = runOf (c .framing) m bs in
-      subst (λ (g : Gate). AnswerRaised (unless g c m t k y (takenOf me c m bs t k y) .got .answer)) (sym e)
-      (subst (λ (o : streams.Out). AnswerRaised (byEvent (o .got .answer) me (conns.withFraming c (o .got .framing)) (o .got .taken) (o .buffer) t k y .got .answer))
+      subst (λ (g : Gate). AnswerRaised (unless g (linked c m) l (takenOf me (linked c m) bs l) .got .answer)) (sym e)
+      (subst (λ (o : streams.Out). AnswerRaised (byEvent (o .got .answer) me (linked (conns.withFraming c (o .got .framing)) (o .buffer)) (o .got .taken) l .got .answer))
       (sym (call-runs (c .framing) m bs (framing-form p) (p .room) (p .going)))
-      (event-raised me (o .got .answer) (conns.withFraming c (o .got .framing)) (o .got .taken) (o .buffer) t k y (run-raised bs (c .framing) m)))
+      (event-raised me (o .got .answer) (linked (conns.withFraming c (o .got .framing)) (o .buffer)) (o .got .taken) l (run-raised bs (c .framing) m)))
 
 -- ---- memory too short: 0, and nothing changes
 both-early : {A : Type 0} (me conn : List ℕ) (x y : A) (n : ℕ) → Early (lentBoth me conn 0 n) → (Early n → y ≡ x) → lentBoth me conn x y ≡ x
@@ -148,11 +149,11 @@ module _ (me : List ℕ) (m : Memory) (i : ℕ) where
     abbrev n : ℕ
     n = answerNumber (o .got .answer)
 
-    refuses : (r : Refusal) → o .got .answer ≡ Refused r → Refuses us (connIn conn) (m .buffers i) piece (m .contacts) (m .records) (m .reply) r
-    refuses r = refused-leaves us .receive (connIn conn) (m .buffers i) piece (m .contacts) (m .records) (m .reply) r
+    refuses : (r : Refusal) → o .got .answer ≡ Refused r → Refuses us (linked (connIn conn) (m .buffers i)) piece (m .lent) r
+    refuses r = refused-leaves us .receive (linked (connIn conn) (m .buffers i)) piece (m .lent) r
 
     abbrev gate : Gate
-    gate = gateOf us (connIn conn) (m .buffers i) (m .contacts) (m .records) (m .reply)
+    gate = gateOf us (linked (connIn conn) (m .buffers i)) (m .lent)
 
     record Left : Type 0 where
       taken : o .got .taken ≡ 0
@@ -171,7 +172,7 @@ module _ (me : List ℕ) (m : Memory) (i : ℕ) where
               buffer = c .buffer;
             }
         stays r e h Open q =
-            let a : Raised r = subst AnswerRaised e (past-gate us (connIn conn) (m .buffers i) piece (m .contacts) (m .records) (m .reply) q) in
+            let a : Raised r = subst AnswerRaised e (past-gate us (connIn conn) (m .buffers i) piece (m .lent) q) in
             ⊎-elim {A = numberOf r ≤ 2} {B = numberOf r ≡ 12} (λ l. absurd (omega (arith, l, a .0))) (λ l. absurd (omega (arith, l, a .1))) h
 
         go : (x : Answer) → o .got .answer ≡ x → Early (answerNumber x) → Left

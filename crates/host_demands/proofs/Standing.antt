@@ -6,19 +6,17 @@ use mathlib.Core.List.{List, [], _∷_, _++_, map}
 use lib.Dec.{eqb}
 use Rattle.lookup.specs.Value.{Lookup}
 use Rattle.cutting.specs.World.{Did, Line, Shared, setAt, putBack}
+use Rattle.replies.specs.Lent.{Lent}
 use Rattle.flat_lookup.specs.FlatLookup.{lookupIn}
 use Rattle.demands.specs.Box.{Box, Who, Ask, Entry}
 use Rattle.host_demands.specs.Calls.{Memory, History, lineIn, worldIn, Stands, entrySeen}
 
 -- a call on connection i: its line is what its bytes stand for, and what is shared is what memory holds
-pub put-stands : (m : Memory) (h : History) (i : ℕ) (t k y conn buffer : List ℕ) (inbox : ℕ → List ℕ) (n : ℕ) (d : Did (Line Who) (Shared Box Ask))
-    → lineIn conn buffer n ≡ d .line → t ≡ d .shared .state .contacts → k ≡ d .shared .state .records → y ≡ d .shared .state .reply
-    → (λ (j : ℕ). lookupIn (m .lookups j)) ≡ d .shared .state .lookups → inbox ≡ d .shared .state .inbox
+pub put-stands : (m : Memory) (h : History) (i : ℕ) (l : Lent) (conn buffer : List ℕ) (inbox : ℕ → List ℕ) (n : ℕ) (d : Did (Line Who) (Shared Box Ask))
+    → lineIn conn buffer n ≡ d .line → l ≡ d .shared .state .lent → (λ (j : ℕ). lookupIn (m .lookups j)) ≡ d .shared .state .lookups → inbox ≡ d .shared .state .inbox
     → Stands
     (record {
-      contacts = t;
-      records = k;
-      reply = y;
+      lent = l;
       conns = setAt (m .conns) i conn;
       buffers = setAt (m .buffers) i buffer;
       lookups = m .lookups;
@@ -26,14 +24,12 @@ pub put-stands : (m : Memory) (h : History) (i : ℕ) (t k y conn buffer : List 
       taken = setAt (m .taken) i n;
     })
     (putBack (worldIn m h) i d)
-put-stands m h i t k y conn buffer inbox n d el et ek ey eo ei =
+put-stands m h i l conn buffer inbox n d el em eo ei =
     λ z. record {
       lines = λ j. line j (eqb j i) z;
       shared = record {
         state = record {
-          contacts = et z;
-          records = ek z;
-          reply = ey z;
+          lent = em z;
           lookups = eo z;
           inbox = ei z;
           log = d .shared .state .log;

@@ -11,7 +11,7 @@ use Rattle.cutting.specs.Plain.{ReadOut, Left, plainly, unread}
 use Rattle.flat.specs.Flat.{peerIn}
 use Rattle.demands.specs.Box.{Box, Who, Ask, Fits, box}
 use Rattle.demands.proofs.Theorems.{second, third}
-use Rattle.host_demands.specs.Calls.{Memory, Lent, Export, leavesAll, meantAll, worldIn, historyOf, entrySeen}
+use Rattle.host_demands.specs.Calls.{Memory, Enough, Export, leavesAll, meantAll, worldIn, historyOf, entrySeen}
 use Rattle.host_demands.specs.Hosted.{Started, nothingYet, ReadyFor, FollowsAll, ContactsHashed, after, plainOf, Plainly, HostedDemands}
 use Rattle.host_demands.proofs.Beginning.{begun, begins}
 use Rattle.host_demands.proofs.Running.{one-call, all-calls}
@@ -30,13 +30,13 @@ module _ (me : List ℕ) (S : Started me) where
   us = peerIn me
 
   -- the world at the end of the calls is what the memory then stands for
-  follow : (m : Memory) (cs : List Export) → Lent m → ReadyFor me (worldIn m nothingYet) → AllFit Fits (meantAll me m cs) → FollowsAll me m (worldIn m nothingYet) cs
+  follow : (m : Memory) (cs : List Export) → Enough m → ReadyFor me (worldIn m nothingYet) → AllFit Fits (meantAll me m cs) → FollowsAll me m (worldIn m nothingYet) cs
   follow m cs len r f = all-calls me S m (worldIn m nothingYet) cs len r refl f
 
   hashed : ContactsHashed me
   hashed m cs c f =
       let b = begins me m c in
-      subst Hashed (sym (ap (λ (w : World Who Box Ask). w .shared .state .contacts) (follow m cs (b .0) (b .2) f .stands)))
+      subst Hashed (sym (ap (λ (w : World Who Box Ask). w .shared .state .lent .contacts) (follow m cs (b .0) (b .2) f .stands)))
       (second us (S .own) .hashed (worldIn m nothingYet) (begun m c) (meantAll me m cs) f)
 
   plain : Plainly me
@@ -51,9 +51,7 @@ module _ (me : List ℕ) (S : Started me) where
       let s : worldIn (leavesAll me m cs) (historyOf w) .shared .state ≡ plainOf me m cs .shared =
       ap (λ (x : World Who Box Ask). x .shared .state) (g .stands) ∙ e in
       record {
-        contacts = ap (λ (x : Box). x .contacts) s;
-        records = ap (λ (x : Box). x .records) s;
-        reply = ap (λ (x : Box). x .reply) s;
+        lent = ap (λ (x : Box). x .lent) s;
         lookups = λ j. ap (λ (x : Box). x .lookups j) s;
         sees = sym (g .log) ∙ ap (λ (x : Box). map entrySeen (x .log)) e;
         half = λ i. subst (Left (plainOf me m cs .lines i)) (sym (ap (λ (x : World Who Box Ask). x .lines i) (g .stands)))

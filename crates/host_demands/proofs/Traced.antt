@@ -15,7 +15,7 @@ use Rattle.demands.specs.Box.{Box, Who, Entry, called, stepGave, Turn, Ask, Fit
 use Rattle.demands.specs.Lookups.{Trace, Part, starts, goes, neither, traceWith, partOf, traced, startIn, IsRun}
 use Rattle.demands.proofs.Traced.{is-run, There, with-there, start-there, lookups-are-runs}
 use Rattle.host_demands.specs.Calls as host
-use Rattle.host_demands.specs.Calls.{Memory, Export, Lent, History, Seen, leaves, meant, seesOf, leavesAll, meantAll, worldIn, Stands, entrySeen}
+use Rattle.host_demands.specs.Calls.{Memory, Export, Enough, History, Seen, leaves, meant, seesOf, leavesAll, meantAll, worldIn, Stands, entrySeen}
 use Rattle.host_demands.specs.Hosted.{Started, ReadyFor, Follows}
 use Rattle.host_demands.specs.Lookups.{tracedIn, stepSeen, LookupBytesAreRuns}
 use Rattle.host_demands.proofs.Running.{one-call, all-calls, ready-after, later-fit}
@@ -55,21 +55,21 @@ got l k ss e =
 
 module _ (me : List ℕ) (S : Started me) (j : ℕ) where
   -- a call on memory that stands for a world
-  with-same : (m : Memory) (w : World Who Box Ask) (c : Export) (x : Option (Trace Entry)) → Lent m → ReadyFor me w → Stands m w
-      → traceWith (m .contacts) (seesOf me m c) (partOf (peerIn me) j (m .inbox) (meant me m c)) (seenIf x)
-      ≡ seenIf (traceWith (w .shared .state .contacts)
+  with-same : (m : Memory) (w : World Who Box Ask) (c : Export) (x : Option (Trace Entry)) → Enough m → ReadyFor me w → Stands m w
+      → traceWith (m .lent .contacts) (seesOf me m c) (partOf (peerIn me) j (m .inbox) (meant me m c)) (seenIf x)
+      ≡ seenIf (traceWith (w .shared .state .lent .contacts)
       (drop (length (w .shared .state .log)) (call (box (peerIn me)) w (meant me m c) .shared .state .log))
       (partOf (peerIn me) j (w .shared .state .inbox) (meant me m c)) x)
   with-same m w c x l r e =
       let d : Call Turn Ask = meant me m c in
       let log : List Entry = call (box (peerIn me)) w d .shared .state .log in
       let es : List Entry = drop (length (w .shared .state .log)) log in
-      ap (λ (ss : List Seen). traceWith (m .contacts) ss (partOf (peerIn me) j (m .inbox) d) (seenIf x))
+      ap (λ (ss : List Seen). traceWith (m .lent .contacts) ss (partOf (peerIn me) j (m .inbox) d) (seenIf x))
       (got (w .shared .state .log) log (seesOf me m c) (one-call me S m w c l r e .log))
-      ∙ seen-with (m .contacts) es (partOf (peerIn me) j (m .inbox) d) x
-      ∙ ap (λ (v : World Who Box Ask). seenIf (traceWith (v .shared .state .contacts) es (partOf (peerIn me) j (v .shared .state .inbox) d) x)) e
+      ∙ seen-with (m .lent .contacts) es (partOf (peerIn me) j (m .inbox) d) x
+      ∙ ap (λ (v : World Who Box Ask). seenIf (traceWith (v .shared .state .lent .contacts) es (partOf (peerIn me) j (v .shared .state .inbox) d) x)) e
 
-  traces-same : (cs : List Export) (m : Memory) (w : World Who Box Ask) (x : Option (Trace Entry)) → Lent m → ReadyFor me w → Stands m w → AllFit Fits (meantAll me m cs)
+  traces-same : (cs : List Export) (m : Memory) (w : World Who Box Ask) (x : Option (Trace Entry)) → Enough m → ReadyFor me w → Stands m w → AllFit Fits (meantAll me m cs)
       → tracedIn me j m (seenIf x) cs ≡ seenIf (traced (peerIn me) j w x (meantAll me m cs))
   unfolding tracedIn traced meantAll
   traces-same [] m w x l r e f = refl
@@ -77,9 +77,9 @@ module _ (me : List ℕ) (S : Started me) (j : ℕ) where
       let one : Follows me m w c = one-call me S m w c l r e in
       let v : World Who Box Ask = call (box (peerIn me)) w (meant me m c) in
       let y : Option (Trace Entry) =
-      traceWith (w .shared .state .contacts) (drop (length (w .shared .state .log)) (v .shared .state .log)) (partOf (peerIn me) j (w .shared .state .inbox) (meant me m c)) x in
+      traceWith (w .shared .state .lent .contacts) (drop (length (w .shared .state .log)) (v .shared .state .log)) (partOf (peerIn me) j (w .shared .state .inbox) (meant me m c)) x in
       ap (λ (o : Option (Trace Seen)). tracedIn me j (leaves me m c) o cs) (with-same m w c x l r e)
-      ∙ traces-same cs (leaves me m c) v y (one .lent) (ready-after me S m w c cs r f) (one .stands) (later-fit me S m c cs f)
+      ∙ traces-same cs (leaves me m c) v y (one .enough) (ready-after me S m w c cs r f) (one .stands) (later-fit me S m c cs f)
 
   -- a run of the world's is one of the program's
   seen-run : (l : Lookup) (x : Trace Entry) → IsRun (peerIn me) (λ g. called (stepGave g)) x l → IsRun (peerIn me) stepSeen (seenTrace x) l

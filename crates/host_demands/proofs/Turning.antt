@@ -21,13 +21,13 @@ use Rattle.demands.specs.Box as box
 use Rattle.demands.specs.Box.{Box, Who, whoIn, Ask}
 use Rattle.demands.proofs.Connections.{conn-form}
 use Rattle.demands.proofs.Sound.{turns-fine}
-use Rattle.host_demands.specs.Calls.{Memory, History, Lent, Seen, toldAt, onlyNumber, withConn, worldIn, entrySeen, Export, opens, ends}
+use Rattle.host_demands.specs.Calls.{Memory, History, Enough, Seen, toldAt, onlyNumber, withConn, worldIn, entrySeen, Export, opens, ends}
 use Rattle.host_demands.specs.Hosted.{Started, ReadyFor, Follows}
 use Rattle.host_demands.proofs.Overwriting.{Touched, ending-touched}
 use Rattle.host_demands.proofs.Connections.{both-enough, open-reads, end-reads, end-length}
 use Rattle.host_demands.proofs.Standing.{put-stands, one-more-seen}
 
-module _ (me : List ℕ) (S : Started me) (m : Memory) (h : History) (len : Lent m) (ready : ReadyFor me (worldIn m h)) (i : ℕ) where
+module _ (me : List ℕ) (S : Started me) (m : Memory) (h : History) (len : Enough m) (ready : ReadyFor me (worldIn m h)) (i : ℕ) where
   abbrev us : Peer
   us = peerIn me
 
@@ -40,8 +40,8 @@ module _ (me : List ℕ) (S : Started me) (m : Memory) (h : History) (len : Lent
   enough : {A : Type 0} (x y : A) → lentBoth me conn x y ≡ y
   enough x y = both-enough me conn x y (S .room) (len .conns i)
 
-  conn-lent : (x buffer : List ℕ) (n : ℕ) → connSize ≤ length x → Lent (withConn m i x buffer n)
-  conn-lent x buffer n l =
+  conn-enough : (x buffer : List ℕ) (n : ℕ) → connSize ≤ length x → Enough (withConn m i x buffer n)
+  conn-enough x buffer n l =
       record { conns = λ j. cond-ind (λ (y : List ℕ). connSize ≤ length y) (eqb j i) x (m .conns j) (λ e. l) (λ e. len .conns j); lookups = len .lookups }
 
   one-seen : (e : box.Entry) (s : Seen) → entrySeen e ≡ s → map entrySeen (h .log ++ (e ∷ [])) ≡ map entrySeen (h .log) ++ (s ∷ [])
@@ -69,10 +69,10 @@ module _ (me : List ℕ) (S : Started me) (m : Memory) (h : History) (len : Lent
     unfolding call
     open-follows =
         record {
-          lent = conn-lent (openMemory me conn id server asking addresses) buffer 0 opened-length;
-          stands = put-stands m h i (m .contacts) (m .records) (m .reply) (openMemory me conn id server asking addresses) buffer (m .inbox) 0
+          enough = conn-enough (openMemory me conn id server asking addresses) buffer 0 opened-length;
+          stands = put-stands m h i (m .lent) (openMemory me conn id server asking addresses) buffer (m .inbox) 0
               (acted (box.box us) i (box.opens id (saysYes server) (saysYes asking) addresses buffer) (here world i))
-              (ap (λ (c : Conn). record { who = whoIn c; framing = c .framing; buffer = buffer; taken = 0 }) opened-conn) refl refl refl refl refl;
+              (ap (λ (c : Conn). record { who = whoIn c; framing = c .framing; buffer = buffer; taken = 0 }) opened-conn) refl refl refl;
           log = one-seen (box.opened i (opened .told)) _ (ap onlyNumber (sym (enough 0 (toldCode (opened .told)))));
           order = refl;
         }
@@ -94,9 +94,9 @@ module _ (me : List ℕ) (S : Started me) (m : Memory) (h : History) (len : Lent
   unfolding call
   end-follows =
       record {
-        lent = conn-lent (endMemory me conn) (m .buffers i) (m .taken i) ended-length;
-        stands = put-stands m h i (m .contacts) (m .records) (m .reply) (endMemory me conn) (m .buffers i) (m .inbox) (m .taken i) (acted (box.box us) i box.ends (here world i))
-            (ap (λ (c : Conn). record { who = whoIn c; framing = c .framing; buffer = m .buffers i; taken = m .taken i }) ended-conn) refl refl refl refl refl;
+        enough = conn-enough (endMemory me conn) (m .buffers i) (m .taken i) ended-length;
+        stands = put-stands m h i (m .lent) (endMemory me conn) (m .buffers i) (m .inbox) (m .taken i) (acted (box.box us) i box.ends (here world i))
+            (ap (λ (c : Conn). record { who = whoIn c; framing = c .framing; buffer = m .buffers i; taken = m .taken i }) ended-conn) refl refl refl;
         log = one-seen (box.event i (m .taken i) (box.ended (ended .answer))) _ (ap (λ (n : ℕ). toldAt (m .taken i) n (λ out. out)) (sym (enough 0 (endingCode (ended .answer)))));
         order = refl;
       }

@@ -24,7 +24,7 @@ use Rattle.host.specs.Host.{openMemory}
 use Rattle.demands.specs.Box as box
 use Rattle.demands.specs.Box.{Box, Who, Turn, Ask, Fits}
 use Rattle.host_demands.specs.Calls as host
-use Rattle.host_demands.specs.Calls.{Memory, History, Lent, Export, takenBy, leaves, meant, leavesAll, meantAll, worldIn, historyOf, Stands, startStep, nextStep, replyStep, heardStep, failureStep}
+use Rattle.host_demands.specs.Calls.{Memory, History, Enough, Export, takenBy, leaves, meant, leavesAll, meantAll, worldIn, historyOf, Stands, startStep, nextStep, replyStep, heardStep, failureStep}
 use Rattle.host_demands.specs.Hosted.{Started, ReadyFor, Follows}
 use Rattle.host_demands.proofs.Overwriting.{Apart, Plain, Touched, touched-length, touched-apart, touched-plain, opened-plain, open-apart}
 use Rattle.host_demands.proofs.Lookups.{Wrote, step-wrote, start-wrote}
@@ -63,7 +63,7 @@ module _ (me : List ℕ) (S : Started me) where
   origin-apart (acts box.ends ∷ gs) b d h g a = origin-apart gs b d h g a
 
   -- ---- one call
-  module _ (m : Memory) (h : History) (len : Lent m) (ready : ReadyFor me (worldIn m h)) where
+  module _ (m : Memory) (h : History) (len : Enough m) (ready : ReadyFor me (worldIn m h)) where
     -- ---- connection i, after a call on connection k that leaves b there
     module _ (i k : ℕ) (b : List ℕ) (t : Touched (m .conns k) b) where
       touched-here : eqb i k ≡ true → Touched (m .conns i) b
@@ -166,7 +166,7 @@ module _ (me : List ℕ) (S : Started me) where
       lookups-wrote (host.lookupStarts k key limit) j =
           lookup-here j k _
           (subst (Wrote (at k)) (sym (long-enough me S m h len k (m .lookups k) (startedMemory (m .lookups k) (startStep me m key limit))))
-          (start-wrote (at k) (m .lookups k) (m .contacts) (ownId us) (us .place) key limit (long k) (len .lookups k) (wrote k)))
+          (start-wrote (at k) (m .lookups k) (m .lent .contacts) (ownId us) (us .place) key limit (long k) (len .lookups k) (wrote k)))
       lookups-wrote (host.lookupNext k) j =
           lookup-here j k _
           (subst (Wrote (at k)) (sym (lent-enough flatSize (m .lookups k) (m .lookups k) (stepMemory (m .lookups k) (nextStep me m k)) (len .lookups k)))
@@ -190,7 +190,7 @@ module _ (me : List ℕ) (S : Started me) where
     pub plain : (i : ℕ) → Plain (leavesAll me m cs .conns i)
     pub wrote : (j : ℕ) → Wrote (at j) (leavesAll me m cs .lookups j)
 
-  pub all-left : (at : ℕ → List ℕ) → ((j : ℕ) → flatSize ≤ length (at j)) → (cs : List Export) (m : Memory) (w : World Who Box Ask) → Lent m → ReadyFor me w → Stands m w
+  pub all-left : (at : ℕ → List ℕ) → ((j : ℕ) → flatSize ≤ length (at j)) → (cs : List Export) (m : Memory) (w : World Who Box Ask) → Enough m → ReadyFor me w → Stands m w
       → AllFit Fits (meantAll me m cs) → ((i : ℕ) → Plain (m .conns i)) → ((j : ℕ) → Wrote (at j) (m .lookups j)) → Left at m cs
   unfolding leavesAll meantAll given origin
   all-left at long [] m w l r e f p q = record { apart = λ i g. refl; plain = p; wrote = q }
@@ -198,7 +198,7 @@ module _ (me : List ℕ) (S : Started me) where
       let r′ : ReadyFor me (worldIn m (historyOf w)) = subst (ReadyFor me) (sym e) r in
       let one : Follows me m w c = one-call me S m w c l r e in
       let later : Left at (leaves me m c) cs =
-      all-left at long cs (leaves me m c) (call (box.box us) w (meant me m c)) (one .lent) (ready-after me S m w c cs r f) (one .stands) (later-fit me S m c cs f)
+      all-left at long cs (leaves me m c) (call (box.box us) w (meant me m c)) (one .enough) (ready-after me S m w c cs r f) (one .stands) (later-fit me S m c cs f)
       (λ i. step-plain m (historyOf w) l r′ c i (p i)) (lookups-wrote m (historyOf w) l r′ at long q c) in
       record {
         apart = λ i g. later .apart i g ∙ step-apart m (historyOf w) l r′ c i (meantAll me (leaves me m c) cs) g;

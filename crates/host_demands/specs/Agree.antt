@@ -11,7 +11,7 @@ use Rattle.cutting.specs.World.{AllFit}
 use Rattle.demands.specs.Box.{Fits}
 use Rattle.demands.specs.Agree.{Brings}
 use Rattle.host_demands.specs.Calls as host
-use Rattle.host_demands.specs.Calls.{Memory, Export, Lent, returns, leaves, leavesAll, meantAll, lineIn, worldIn}
+use Rattle.host_demands.specs.Calls.{Memory, Export, Enough, returns, leaves, leavesAll, meantAll, lineIn, worldIn}
 use Rattle.host_demands.specs.Hosted.{Started, nothingYet, ReadyFor, Cleared, Finds}
 
 module _ (me : List ℕ) where
@@ -36,9 +36,9 @@ pub record Program : Type 0 where
   pub me : List ℕ
   pub started : Started me
   pub memory : Memory
-  pub lent : Lent memory
+  pub enough : Enough memory
   pub ready : ReadyFor me (worldIn memory nothingYet)
-  pub empty : NoRecords (memory .records)
+  pub empty : NoRecords (memory .lent .records)
   pub calls : List Export
   pub fit : AllFit Fits (meantAll me memory calls)
   pub never : Never11 me memory calls
@@ -57,13 +57,13 @@ pub record SameOffers (p q : Program) : Type 0 where
 
 pub record ProgramsAgree : Type 0 where
   -- "they hold the same keys with identical values"
-  pub two : (p q : Program) → SameOffers p q → HoldSame (end p .records) (end q .records)
+  pub two : (p q : Program) → SameOffers p q → HoldSame (end p .lent .records) (end q .lent .records)
   -- so starterbell_find returns the same, and a value that it and the replies to GET_VALUE give in one program, they give in the other
   pub find : (p q : Program) → SameOffers p q → (key : List ℕ) → returns (p .me) (end p) (host.find key) ≡ returns (q .me) (end q) (host.find key)
   pub found : (p q : Program) → SameOffers p q → (key v : List ℕ) → Finds (p .me) (end p) key v → Finds (q .me) (end q) key v
   -- any number of programs
-  pub all : (p : ℕ → Program) → ((i : ℕ) → SameOffers (p 0) (p i)) → (i j : ℕ) → HoldSame (end (p i) .records) (end (p j) .records)
+  pub all : (p : ℕ → Program) → ((i : ℕ) → SameOffers (p 0) (p i)) → (i j : ℕ) → HoldSame (end (p i) .lent .records) (end (p j) .lent .records)
   -- what each holds: the highest-ranking of what it was offered that 8 and 9 don't refuse
-  pub highest : (p : Program) (key : List ℕ) → Highest isRecipe key (WasOffered p key) (got (end p .records) key)
+  pub highest : (p : Program) (key : List ℕ) → Highest isRecipe key (WasOffered p key) (got (end p .lent .records) key)
   -- and memory once cleared has no records
-  pub begin : (m : Memory) → Cleared m → NoRecords (m .records)
+  pub begin : (m : Memory) → Cleared m → NoRecords (m .lent .records)

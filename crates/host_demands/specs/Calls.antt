@@ -14,6 +14,8 @@ use Rattle.message.specs.View.{fieldsOf}
 use Rattle.lookup.specs.Value.{Step}
 use Rattle.lookup.specs.Lookup.{nextOf}
 use Rattle.cutting.specs.World.{Line, World, Mark, happened, asked, Call, hand, does, asks, setAt}
+use Rattle.replies.specs.Lent as lents
+use Rattle.replies.specs.Lent.{Lent}
 use Rattle.node.specs.declared.Sight.{Sight}
 use Rattle.node.specs.declared.Sight.the-variants.{NotSeen}
 use Rattle.node.specs.Node.{Out}
@@ -34,9 +36,7 @@ use Rattle.demands.specs.Box.{Box, Who, whoIn, Entry, Outcome, Result, Turn, As
 -- Of each connection it also keeps the message that it gave last, and how many of its bytes were taken since it was opened: it adds up the first numbers that
 -- receives write to out
 pub record Memory : Type 0 where
-  pub contacts : List ℕ
-  pub records : List ℕ
-  pub reply : List ℕ
+  pub lent : Lent
   pub conns : ℕ → List ℕ
   pub buffers : ℕ → List ℕ
   pub lookups : ℕ → List ℕ
@@ -63,43 +63,24 @@ pub data Export : Type 0 where
   lookupFails : (j : ℕ) → (id : List ℕ) → Export
 
 -- connections have 640 bytes each, lookups 25,256, or more
-pub record Lent (m : Memory) : Type 0 where
+pub record Enough (m : Memory) : Type 0 where
   pub conns : (i : ℕ) → connSize ≤ length (m .conns i)
   pub lookups : (j : ℕ) → flatSize ≤ length (m .lookups j)
 
 -- ---- what changes, and that all else stays
+abbrev pub withLent : Memory → Lent → Memory
+withLent m l = record { lent = l; conns = m .conns; buffers = m .buffers; lookups = m .lookups; inbox = m .inbox; taken = m .taken }
+
 abbrev pub withContacts : Memory → List ℕ → Memory
-withContacts m t =
-    record {
-      contacts = t;
-      records = m .records;
-      reply = m .reply;
-      conns = m .conns;
-      buffers = m .buffers;
-      lookups = m .lookups;
-      inbox = m .inbox;
-      taken = m .taken;
-    }
+withContacts m t = withLent m (lents.withContacts (m .lent) t)
 
 abbrev pub withRecords : Memory → List ℕ → Memory
-withRecords m k =
-    record {
-      contacts = m .contacts;
-      records = k;
-      reply = m .reply;
-      conns = m .conns;
-      buffers = m .buffers;
-      lookups = m .lookups;
-      inbox = m .inbox;
-      taken = m .taken;
-    }
+withRecords m k = withLent m (lents.withRecords (m .lent) k)
 
 abbrev pub withConn : Memory → ℕ → List ℕ → List ℕ → ℕ → Memory
 withConn m i conn buffer taken =
     record {
-      contacts = m .contacts;
-      records = m .records;
-      reply = m .reply;
+      lent = m .lent;
       conns = setAt (m .conns) i conn;
       buffers = setAt (m .buffers) i buffer;
       lookups = m .lookups;
@@ -109,16 +90,7 @@ withConn m i conn buffer taken =
 
 abbrev pub withLookup : Memory → ℕ → List ℕ → Memory
 withLookup m j l =
-    record {
-      contacts = m .contacts;
-      records = m .records;
-      reply = m .reply;
-      conns = m .conns;
-      buffers = m .buffers;
-      lookups = setAt (m .lookups) j l;
-      inbox = m .inbox;
-      taken = m .taken;
-    }
+    record { lent = m .lent; conns = m .conns; buffers = m .buffers; lookups = setAt (m .lookups) j l; inbox = m .inbox; taken = m .taken }
 
 -- what a program sees of a call: the number that it returns, the bytes of a reply or of a message that it gives, and what it makes of the numbers in out.
 -- Of a receive these are the ones past the first two, the bytes taken, which hang on the cut, and the length. An event on a connection, as a receive or an end
@@ -156,7 +128,7 @@ noEvent r = eqb r 64 || eqb r 2
 module _ (me : List ℕ) where
   -- ---- receiving
   abbrev pub receivedBy : Memory → ℕ → List ℕ → Out
-  receivedBy m i piece = host.receiveFor me (m .conns i) (m .buffers i) piece (m .contacts) (m .records) (m .reply)
+  receivedBy m i piece = host.receiveFor me (m .conns i) (m .buffers i) piece (m .lent)
 
   -- the number returned, the first number in out (the bytes taken), and the second (the length of a reply or a message)
   abbrev pub receiveCode : Memory → ℕ → List ℕ → ℕ
@@ -173,9 +145,7 @@ module _ (me : List ℕ) where
       let o = receivedBy m i piece in
       let conn = m .conns i in
       record {
-        contacts = host.lentBoth me conn (m .contacts) (o .contacts);
-        records = host.lentBoth me conn (m .records) (o .records);
-        reply = host.lentBoth me conn (m .reply) (o .reply);
+        lent = host.lentBoth me conn (m .lent) (o .left);
         conns = setAt (m .conns) i (host.lentBoth me conn conn (receivedMemory conn (o .got)));
         buffers = setAt (m .buffers) i (host.lentBoth me conn (m .buffers i) (o .buffer));
         lookups = m .lookups;
@@ -185,7 +155,7 @@ module _ (me : List ℕ) where
 
   -- ---- lookups
   abbrev pub startStep : Memory → List ℕ → ℕ → Step
-  startStep m key limit = lookupStart (peerIn me) (m .contacts) key limit
+  startStep m key limit = lookupStart (peerIn me) (m .lent .contacts) key limit
 
   abbrev pub nextStep : Memory → ℕ → Step
   nextStep m j = nextOf (lookupIn (m .lookups j))
@@ -204,13 +174,13 @@ module _ (me : List ℕ) where
   returns m (opens i id server asking addresses buffer) = host.openCode me (m .conns i) id server asking addresses
   returns m (receives i piece) = receiveCode m i piece
   returns m (ends i) = host.endCode me (m .conns i)
-  returns m (put key value) = putNumber (putAnswer (m .records) key value)
-  returns m (find key) = findNumber (findOf (m .records) key)
-  returns m (seen id client addresses) = host.seenCode me (m .contacts) id client
-  returns m (settle head id client addresses answered) = host.settleCode me (m .contacts) head id client answered
-  returns m (remove id) = host.removeCode me (m .contacts) id
-  returns m (doubt id) = host.doubtCode me (m .contacts) id
-  returns m (nearest key) = host.nearestCode me (m .contacts) key
+  returns m (put key value) = putNumber (putAnswer (m .lent .records) key value)
+  returns m (find key) = findNumber (findOf (m .lent .records) key)
+  returns m (seen id client addresses) = host.seenCode me (m .lent .contacts) id client addresses
+  returns m (settle head id client addresses answered) = host.settleCode me (m .lent .contacts) head id client addresses answered
+  returns m (remove id) = host.removeCode me (m .lent .contacts) id
+  returns m (doubt id) = host.doubtCode me (m .lent .contacts) id
+  returns m (nearest key) = host.nearestCode me (m .lent .contacts) key
   returns m (lookupStarts j key limit) = cond (host.tooShort me (m .lookups j)) 0 (stepNumber (startStep m key limit .answer))
   returns m (lookupNext j) = host.lent flatSize (m .lookups j) 0 (stepNumber (nextStep m j .answer))
   returns m (lookupReplies j id body view) = cond (host.tooShort me (m .lookups j)) 0 (stepNumber (replyStep m j id body view .answer))
@@ -222,12 +192,12 @@ module _ (me : List ℕ) where
   leaves m (opens i id server asking addresses buffer) = withConn m i (host.openMemory me (m .conns i) id server asking addresses) buffer 0
   leaves m (receives i piece) = receiveLeaves m i piece
   leaves m (ends i) = withConn m i (host.endMemory me (m .conns i)) (m .buffers i) (m .taken i)
-  leaves m (put key value) = withRecords m (putAfter (m .records) key value)
+  leaves m (put key value) = withRecords m (putAfter (m .lent .records) key value)
   leaves m (find key) = m
-  leaves m (seen id client addresses) = withContacts m (host.seenContacts me (m .contacts) id client addresses)
-  leaves m (settle head id client addresses answered) = withContacts m (host.settleContacts me (m .contacts) head id client addresses answered)
-  leaves m (remove id) = withContacts m (host.removeContacts me (m .contacts) id)
-  leaves m (doubt id) = withContacts m (host.doubtContacts me (m .contacts) id)
+  leaves m (seen id client addresses) = withContacts m (host.seenContacts me (m .lent .contacts) id client addresses)
+  leaves m (settle head id client addresses answered) = withContacts m (host.settleContacts me (m .lent .contacts) head id client addresses answered)
+  leaves m (remove id) = withContacts m (host.removeContacts me (m .lent .contacts) id)
+  leaves m (doubt id) = withContacts m (host.doubtContacts me (m .lent .contacts) id)
   leaves m (nearest key) = m
   leaves m (lookupStarts j key limit) =
       withLookup m j (cond (host.tooShort me (m .lookups j)) (m .lookups j) (startedMemory (m .lookups j) (startStep m key limit)))
@@ -245,12 +215,12 @@ module _ (me : List ℕ) where
   writes m (receives i piece) out = host.lentBoth me (m .conns i) (nothingTaken out) (receivedNumbers out (receivedBy m i piece .got))
   writes m (ends i) out = out
   writes m (put key value) out = out
-  writes m (find key) out = findNumbers out (findOf (m .records) key)
-  writes m (seen id client addresses) out = host.seenOut me (m .contacts) id client out
+  writes m (find key) out = findNumbers out (findOf (m .lent .records) key)
+  writes m (seen id client addresses) out = host.seenOut me (m .lent .contacts) id client addresses out
   writes m (settle head id client addresses answered) out = out
   writes m (remove id) out = out
   writes m (doubt id) out = out
-  writes m (nearest key) out = host.nearestOut me (m .contacts) key out
+  writes m (nearest key) out = host.nearestOut me (m .lent .contacts) key out
   writes m (lookupStarts j key limit) out = cond (host.tooShort me (m .lookups j)) out (stepNumbers out (startStep m key limit))
   writes m (lookupNext j) out = host.lent flatSize (m .lookups j) out (stepNumbers out (nextStep m j))
   writes m (lookupReplies j id body view) out = cond (host.tooShort me (m .lookups j)) out (stepNumbers out (replyStep m j id body view))
@@ -270,7 +240,7 @@ module _ (me : List ℕ) where
       (record {
         at = n .taken i;
         number = r;
-        bytes = bytesOf r (lengthBy m i piece) (n .reply) (n .buffers i);
+        bytes = bytesOf r (lengthBy m i piece) (n .lent .reply) (n .buffers i);
         numbers = λ out. drop 2 (writes m (receives i piece) out);
       } ∷ [])
   seesOf m (ends i) = toldAt (m .taken i) (returns m (ends i)) (writes m (ends i)) ∷ []
@@ -357,9 +327,7 @@ worldIn m h =
       lines = λ i. lineIn (m .conns i) (m .buffers i) (m .taken i);
       shared = record {
         state = record {
-          contacts = m .contacts;
-          records = m .records;
-          reply = m .reply;
+          lent = m .lent;
           lookups = λ j. lookupIn (m .lookups j);
           inbox = m .inbox;
           log = h .log;

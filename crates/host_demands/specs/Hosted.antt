@@ -9,10 +9,10 @@ use mathlib.Core.Option.{none, some}
 use lib.ListN.{length, getD, take, drop}
 use lib.Seq.{sets}
 use Rattle.octets.specs.Octets.{Bytes, part}
+use Rattle.limits.specs.Limits.{mostBody, leastReply}
 use Rattle.sightings_kept.specs.Promises.{Hashed}
 use Rattle.recipe.specs.Recipe.{outranks}
 use Rattle.records_history.specs.History.{cleared}
-use Rattle.message.specs.Limits.{mostBody, leastReply}
 use Rattle.message.specs.Message.{Record, Message, messageOf, decode, encode, frame}
 use Rattle.message.specs.View.{fieldsOf, readingOf}
 use Rattle.message.specs.declared.Fields.{Fields}
@@ -26,7 +26,8 @@ use Rattle.cutting.specs.World.{World, Sys, hand, call, calls, given, Ready, Al
 use Rattle.cutting.specs.Plain.{Wire, plainly, unread, Left}
 use Rattle.flat.specs.Flat.{peerSize, connSize, peerIn, connIn, withFraming}
 use Rattle.flat_lookup.specs.FlatLookup.{flatSize, lookupIn, lookupBytes}
-use Rattle.replies.specs.Replies.{putValue, getValue}
+use Rattle.replies.specs.Lent.{lent}
+use Rattle.message.specs.Kinds.{putValue, getValue}
 use Rattle.connections.specs.Box.{startOf}
 use Rattle.host_numbers.specs.Numbers.{viewNumbers}
 use Rattle.host.specs.Host as exports
@@ -34,7 +35,7 @@ use Rattle.host.specs.Host.{startCode, startMemory, Receives, Nexts, Replies, F
 use Rattle.demands.specs.Box.{Box, Who, bodyIn, Turn, Ask, Fits, box, Own, Allowed, Good}
 use Rattle.demands.specs.Lookups.{Trace, startIn}
 use Rattle.host_demands.specs.Calls as host
-use Rattle.host_demands.specs.Calls.{Memory, Export, Lent, History, Seen, withLookup, kept, receivedBy, takenBy, lengthBy, returns, leaves, writes, meant, seesOf, marksOf, leavesAll, meantAll, seesAll, marksAll, handsOver, worldIn, Stands, entrySeen}
+use Rattle.host_demands.specs.Calls.{Memory, Export, Enough, History, Seen, withLookup, kept, receivedBy, takenBy, lengthBy, returns, leaves, writes, meant, seesOf, marksOf, leavesAll, meantAll, seesAll, marksAll, handsOver, worldIn, Stands, entrySeen}
 use Rattle.host_demands.specs.Lookups.{tracedIn, LookupBytesAreRuns}
 use Rattle.host_demands.specs.Messages.{MessagesCross}
 
@@ -62,21 +63,21 @@ pub record Cleared (m : Memory) : Type 0 where
   pub recordBytes : ℕ
   pub connBytes : ℕ → ℕ
   pub lookupSizes : ℕ → ℕ
-  pub contacts : m .contacts ≡ cleared contactBytes
-  pub records : m .records ≡ cleared recordBytes
+  pub contacts : m .lent .contacts ≡ cleared contactBytes
+  pub records : m .lent .records ≡ cleared recordBytes
   pub conns : (i : ℕ) → m .conns i ≡ cleared (connBytes i)
   pub lookups : (j : ℕ) → m .lookups j ≡ cleared (lookupSizes j)
   pub connRoom : (i : ℕ) → connSize ≤ connBytes i
   pub lookupRoom : (j : ℕ) → flatSize ≤ lookupSizes j
   pub buffers : (i : ℕ) → mostBody ≤ length (m .buffers i)
-  pub reply : leastReply ≤ length (m .reply)
+  pub reply : leastReply ≤ length (m .lent .reply)
 
 abbrev pub nothingYet : History
 nothingYet = record { log = []; offers = []; order = [] }
 
 -- is what all theorems below ask for
 abbrev pub Begins : Type 0
-Begins = (me : List ℕ) (m : Memory) → Cleared m → Lent m × Written m × ReadyFor me (worldIn m nothingYet)
+Begins = (me : List ℕ) (m : Memory) → Cleared m → Enough m × Written m × ReadyFor me (worldIn m nothingYet)
 
 -- ==== what a refused call leaves of a connection
 -- 0, 1, 2 and 12 "consume and change nothing"; the other refusals
@@ -104,12 +105,10 @@ module _ (me : List ℕ) where
   -- ==== `returns`, `leaves` and `writes` are what the contracts of crate `host` say: of the calls whose contract is a record
   pub record AsExported (m : Memory) : Type 0 where
     pub receive : (i : ℕ) (piece out : List ℕ) (r : ℕ) (conn′ buffer′ t′ k′ y′ out′ : List ℕ)
-        → Receives me (m .conns i) (m .buffers i) piece (m .contacts) (m .records) (m .reply) out r conn′ buffer′ t′ k′ y′ out′
+        → Receives me (m .conns i) (m .buffers i) piece (m .lent .contacts) (m .lent .records) (m .lent .reply) out r conn′ buffer′ t′ k′ y′ out′
         → (r ≡ returns me m (host.receives i piece))
         × (record {
-          contacts = t′;
-          records = k′;
-          reply = y′;
+          lent = lent t′ k′ y′;
           conns = setAt (m .conns) i conn′;
           buffers = setAt (m .buffers) i buffer′;
           lookups = m .lookups;
@@ -121,11 +120,11 @@ module _ (me : List ℕ) where
         × (2 ≤ length out → (getD out′ 0 0 ≡ takenBy me m i piece) × (getD out′ 1 0 ≡ lengthBy me m i piece))
     -- and after 66 the message reads, and the eight numbers past the first four in out are its view
     pub view : (i : ℕ) (piece out : List ℕ) (r : ℕ) (conn′ buffer′ t′ k′ y′ out′ : List ℕ)
-        → Receives me (m .conns i) (m .buffers i) piece (m .contacts) (m .records) (m .reply) out r conn′ buffer′ t′ k′ y′ out′
+        → Receives me (m .conns i) (m .buffers i) piece (m .lent .contacts) (m .lent .records) (m .lent .reply) out r conn′ buffer′ t′ k′ y′ out′
         → r ≡ 66
         → let body = take (lengthBy me m i piece) buffer′ in
         (readingOf body ≡ reading.Whole (fieldsOf body)) × (12 ≤ length out → take 8 (drop 4 out′) ≡ viewNumbers (fieldsOf body))
-    pub start : (j : ℕ) (key : List ℕ) (limit : ℕ) (out : List ℕ) (r : ℕ) (l′ out′ : List ℕ) → exports.Begins me (m .lookups j) (m .contacts) key limit out r l′ out′
+    pub start : (j : ℕ) (key : List ℕ) (limit : ℕ) (out : List ℕ) (r : ℕ) (l′ out′ : List ℕ) → exports.Begins me (m .lookups j) (m .lent .contacts) key limit out r l′ out′
         → (r ≡ returns me m (host.lookupStarts j key limit)) × (withLookup m j l′ ≡ leaves me m (host.lookupStarts j key limit)) × (out′ ≡ writes me m (host.lookupStarts j key limit) out)
     pub next : (j : ℕ) (out : List ℕ) (r : ℕ) (l′ out′ : List ℕ) → Nexts (m .lookups j) out r l′ out′
         → (r ≡ returns me m (host.lookupNext j)) × (withLookup m j l′ ≡ leaves me m (host.lookupNext j)) × (out′ ≡ writes me m (host.lookupNext j) out)
@@ -137,40 +136,38 @@ module _ (me : List ℕ) where
   -- ==== one call, on memory that stands for a world that is ready: what it leaves stands for the world after the same call, and what the program sees of
   -- it is what the log and the order of that world get
   pub record Follows (m : Memory) (w : World Who Box Ask) (c : Export) : Type 0 where
-    pub lent : Lent (leaves me m c)
+    pub enough : Enough (leaves me m c)
     pub stands : Stands (leaves me m c) (call (box (peerIn me)) w (meant me m c))
     pub log : map entrySeen (call (box (peerIn me)) w (meant me m c) .shared .state .log) ≡ map entrySeen (w .shared .state .log) ++ seesOf me m c
     pub order : call (box (peerIn me)) w (meant me m c) .shared .order ≡ w .shared .order ++ marksOf me m c
 
   abbrev pub OneCall : Type 0
-  OneCall = (m : Memory) (w : World Who Box Ask) (c : Export) → Lent m → ReadyFor me w → Stands m w → Follows m w c
+  OneCall = (m : Memory) (w : World Who Box Ask) (c : Export) → Enough m → ReadyFor me w → Stands m w → Follows m w c
 
   -- ==== and so over any list of calls: the demands speak of what a program calls
   abbrev pub after : World Who Box Ask → Memory → List Export → World Who Box Ask
   after w m cs = calls (box (peerIn me)) w (meantAll me m cs)
 
   pub record FollowsAll (m : Memory) (w : World Who Box Ask) (cs : List Export) : Type 0 where
-    pub lent : Lent (leavesAll me m cs)
+    pub enough : Enough (leavesAll me m cs)
     pub ready : ReadyFor me (after w m cs)
     pub stands : Stands (leavesAll me m cs) (after w m cs)
     pub log : map entrySeen (after w m cs .shared .state .log) ≡ map entrySeen (w .shared .state .log) ++ seesAll me m cs
     pub order : after w m cs .shared .order ≡ w .shared .order ++ marksAll me m cs
 
   abbrev pub AllCalls : Type 0
-  AllCalls = (m : Memory) (w : World Who Box Ask) (cs : List Export) → Lent m → ReadyFor me w → Stands m w → AllFit Fits (meantAll me m cs) → FollowsAll m w cs
+  AllCalls = (m : Memory) (w : World Who Box Ask) (cs : List Export) → Enough m → ReadyFor me w → Stands m w → AllFit Fits (meantAll me m cs) → FollowsAll m w cs
 
   -- a program that hands over a piece until it is used up does what `hand` does in the demands' world
   abbrev pub HandsOver : Type 0
   HandsOver =
-      (m : Memory) (w : World Who Box Ask) (i : ℕ) (piece : List ℕ) → Lent m → ReadyFor me w → Stands m w
+      (m : Memory) (w : World Who Box Ask) (i : ℕ) (piece : List ℕ) → Enough m → ReadyFor me w → Stands m w
       → after w m (handsOver me m i piece) ≡ call (box (peerIn me)) w (hand i piece)
 
   -- ==== demand 1
   -- "A refused call changes no contact, record, lookup or reply byte": of any memory. Only a start writes its own lookup all the same
   pub record Keeps (m : Memory) (c : Export) : Type 0 where
-    pub contacts : leaves me m c .contacts ≡ m .contacts
-    pub records : leaves me m c .records ≡ m .records
-    pub reply : leaves me m c .reply ≡ m .reply
+    pub lent : leaves me m c .lent ≡ m .lent
     pub lookups : (j : ℕ) → ((key : List ℕ) (limit : ℕ) → c ≡ host.lookupStarts j key limit → ⊥) → leaves me m c .lookups j ≡ m .lookups j
 
   abbrev pub RefusedKeeps : Type 0
@@ -214,7 +211,7 @@ module _ (me : List ℕ) where
     pub start : (j : ℕ) (key : List ℕ) (limit : ℕ) → returns me m (host.lookupStarts j key limit) ≡ 0 → ⊥
 
   abbrev pub Formed : Type 0
-  Formed = (m : Memory) (h : History) (cs : List Export) → Lent m → ReadyFor me (worldIn m h) → AllFit Fits (meantAll me m cs) → NeverZero (leavesAll me m cs)
+  Formed = (m : Memory) (h : History) (cs : List Export) → Enough m → ReadyFor me (worldIn m h) → AllFit Fits (meantAll me m cs) → NeverZero (leavesAll me m cs)
 
   -- nor do next, a failure, and a reply with the reader's view, on a lookup whose last start wasn't refused. `lookupHears i j id` is such a reply, if
   -- connection i gave a message (66): that reads
@@ -236,12 +233,12 @@ module _ (me : List ℕ) where
 
   abbrev pub StepsFormed : Type 0
   StepsFormed =
-      (m : Memory) (h : History) (cs : List Export) → Lent m → ReadyFor me (worldIn m h) → AllFit Fits (meantAll me m cs) → (j : ℕ) (x : Trace Seen)
+      (m : Memory) (h : History) (cs : List Export) → Enough m → ReadyFor me (worldIn m h) → AllFit Fits (meantAll me m cs) → (j : ℕ) (x : Trace Seen)
       → tracedIn me j m none cs ≡ some x → LookupsFormed m cs j x
 
   -- ==== demand 2: in memory once cleared each contact lies at SHA-256 of its id
   abbrev pub ContactsHashed : Type 0
-  ContactsHashed = (m : Memory) (cs : List Export) → Cleared m → AllFit Fits (meantAll me m cs) → Hashed (leavesAll me m cs .contacts)
+  ContactsHashed = (m : Memory) (cs : List Export) → Cleared m → AllFit Fits (meantAll me m cs) → Hashed (leavesAll me m cs .lent .contacts)
 
   -- ==== demand 3
   -- "Cutting changes nothing", for two programs that call: the same memory, the same bytes, opens and ends on each connection, and the same order of events
@@ -257,7 +254,7 @@ module _ (me : List ℕ) where
 
   abbrev pub CutAnywhere : Type 0
   CutAnywhere =
-      (m : Memory) (h : History) (cs ds : List Export) → Lent m → Written m → ReadyFor me (worldIn m h)
+      (m : Memory) (h : History) (cs ds : List Export) → Enough m → Written m → ReadyFor me (worldIn m h)
       → AllFit Fits (meantAll me m cs) → AllFit Fits (meantAll me m ds) → Alike m cs ds → SameEnd m cs ds
 
   -- "Each message then gets the reply bytes, or the refusal at the byte position, that demand 2's plain reading gives when it takes messages whole"
@@ -265,9 +262,7 @@ module _ (me : List ℕ) where
   plainOf m cs = plainly (box (peerIn me)) (unread (worldIn m nothingYet) (meantAll me m cs)) (marksAll me m cs)
 
   pub record ReadPlainly (m : Memory) (cs : List Export) : Type 0 where
-    pub contacts : leavesAll me m cs .contacts ≡ plainOf m cs .shared .contacts
-    pub records : leavesAll me m cs .records ≡ plainOf m cs .shared .records
-    pub reply : leavesAll me m cs .reply ≡ plainOf m cs .shared .reply
+    pub lent : leavesAll me m cs .lent ≡ plainOf m cs .shared .lent
     pub lookups : (j : ℕ) → lookupIn (leavesAll me m cs .lookups j) ≡ plainOf m cs .shared .lookups j
     pub sees : seesAll me m cs ≡ map entrySeen (plainOf m cs .shared .log)
     -- "and half-read bytes end the same", and nothing that could be read is left
@@ -314,7 +309,7 @@ module _ (me : List ℕ) where
   pub record Serves (m : Memory) (i : ℕ) (piece key value : List ℕ) : Type 0 where
     pub reply : returns me m (host.receives i piece) ≡ 65
     pub says : Message
-    pub bytes : take (lengthBy me m i piece) (leaves me m (host.receives i piece) .reply) ≡ frame (encode says)
+    pub bytes : take (lengthBy me m i piece) (leaves me m (host.receives i piece) .lent .reply) ≡ frame (encode says)
     pub back : decode (encode says) ≡ some says
     pub held : says .held ≡ some (record { key = key; value = value })
 
@@ -322,14 +317,14 @@ module _ (me : List ℕ) where
   pub record Finds (m : Memory) (key value : List ℕ) : Type 0 where
     pub find : returns me m (host.find key) ≡ 64
     pub there : (out : List ℕ) → 2 ≤ length out
-        → let at = writes me m (host.find key) out in part (m .records) (getD at 0 0) (getD at 1 0) ≡ value
+        → let at = writes me m (host.find key) out in part (m .lent .records) (getD at 0 0) (getD at 1 0) ≡ value
     pub asked : (i : ℕ) (piece : List ℕ) → Asks m i piece key → Serves m i piece key value
 
   -- "A record once accepted, typed or sent, stays the one found under its key until a higher-ranking one is accepted": at any moment of a run, over any calls
   -- after it
   abbrev pub Stays : Type 0
   Stays =
-      (m : Memory) (h : History) → Lent m → ReadyFor me (worldIn m h) → (before : List Export) → AllFit Fits (meantAll me m before)
+      (m : Memory) (h : History) → Enough m → ReadyFor me (worldIn m h) → (before : List Export) → AllFit Fits (meantAll me m before)
       → (c : Export) (key v : List ℕ) → Accepts (leavesAll me m before) key v c
       → let now = leaves me (leavesAll me m before) c in
       (later : List Export) → AllFit Fits (meantAll me now later) → Unbeaten key v now later → Finds (leavesAll me now later) key v
@@ -337,7 +332,7 @@ module _ (me : List ℕ) where
   -- and so does one that is found when a run begins
   abbrev pub Lasts : Type 0
   Lasts =
-      (m : Memory) (h : History) → Lent m → ReadyFor me (worldIn m h) → (cs : List Export) → AllFit Fits (meantAll me m cs) → (key v : List ℕ)
+      (m : Memory) (h : History) → Enough m → ReadyFor me (worldIn m h) → (cs : List Export) → AllFit Fits (meantAll me m cs) → (key v : List ℕ)
       → Finds m key v → Unbeaten key v m cs → Finds (leavesAll me m cs) key v
 
   -- ==== all of it

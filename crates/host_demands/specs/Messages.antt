@@ -7,9 +7,9 @@ use mathlib.Core.List.{List, [], _∷_, _++_}
 use mathlib.Core.Option.{Option, none, some}
 use lib.ListN.{length, getD, take, drop}
 use Rattle.octets.specs.Octets.{part}
+use Rattle.limits.specs.Limits.{mostBody, leastReply, mostKind}
 use Rattle.wire.specs.declared.Span.{Span}
 use Rattle.wire.specs.declared.Found.{Found}
-use Rattle.message.specs.Limits.{mostBody, mostKind, leastReply}
 use Rattle.message.specs.Message.{Peer, Record, Message, decode, encode}
 use Rattle.message.specs.View.{readingOf}
 use Rattle.message.specs.Claims.{Cuttable}

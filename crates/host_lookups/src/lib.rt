@@ -5,6 +5,7 @@ use message::Fields;
 use peer::Peer;
 ghost use mathlib.Core.Path.{_≡_};
 ghost use Prim.Native.Nat.{_≤_};
+ghost use Rattle.limits.specs.Limits.{mostId};
 ghost use Rattle.flat_lookup.specs.FlatLookup.{lookupIn};
 ghost use Rattle.lookup_in_place.specs.InPlace.{outcomeOf, stepIn, stepMemory, nextIn, startMemory};
 ghost use Rattle.host_lookups.specs.Lookups.{lookupStart, lookupReply, lookupFailure};
@@ -12,7 +13,7 @@ ghost use Rattle.host_lookups.specs.Inner.{ownSize};
 
 // How many bytes the box's id has; none where no start gives it.
 fn own_size(me: Peer) -> usize
-    ensures { λ r. ⌜ (r ≡ ownSize me) × (r ≤ 64) ⌝ }
+    ensures { λ r. ⌜ (r ≡ ownSize me) × (r ≤ mostId) ⌝ }
 {
     if connections::own_fits(me) {
         return me.size as usize;

@@ -72,18 +72,18 @@ answerFraming conn f (answer.Heard n m) = withFraming conn f
 answerFraming conn f (answer.Refused r) = refusedFraming conn f r
 answerFraming conn f answer.More = withFraming conn f
 
--- 1 moved, 2 joined, 3 the bucket is full, 4 no slot; and the slot, or that of the bucket's head
+-- 1 moved, 2 joined, 3 the bucket is full, 4 no slot, for which alone a message's sighting is refused; and the slot, or that of the bucket's head
 abbrev pub sightingNumber : Sighting → ℕ
 sightingNumber (sighting.Moved i) = 1
 sightingNumber (sighting.Joined i) = 2
-sightingNumber (sighting.Full h) = 3
-sightingNumber sighting.NoSlot = 4
+sightingNumber (sighting.Probe h) = 3
+sightingNumber (sighting.Refused r) = 4
 
 abbrev pub sightingSlot : Sighting → ℕ
 sightingSlot (sighting.Moved i) = i
 sightingSlot (sighting.Joined i) = i
-sightingSlot (sighting.Full h) = h
-sightingSlot sighting.NoSlot = 0
+sightingSlot (sighting.Probe h) = h
+sightingSlot (sighting.Refused r) = 0
 
 -- 0 for no sighting
 abbrev pub sightNumber : Sight → ℕ

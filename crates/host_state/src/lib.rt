@@ -75,8 +75,8 @@ fn sighting_number(s: Sighting) -> usize
     match s {
         Sighting::Moved(_) => 1,
         Sighting::Joined(_) => 2,
-        Sighting::Full(_) => 3,
-        Sighting::NoSlot => 4,
+        Sighting::Probe(_) => 3,
+        Sighting::Refused(_) => 4,
     }
 }
 
@@ -86,8 +86,8 @@ fn sighting_slot(s: Sighting) -> usize
     match s {
         Sighting::Moved(i) => i,
         Sighting::Joined(i) => i,
-        Sighting::Full(h) => h,
-        Sighting::NoSlot => 0,
+        Sighting::Probe(h) => h,
+        Sighting::Refused(_) => 0,
     }
 }
 

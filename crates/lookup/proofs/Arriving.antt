@@ -9,6 +9,7 @@ use lib.ListN.{length}
 use borrow.Author.Tests.{leb-true, not-false}
 use Rattle.octets.specs.Octets.{same}
 use Rattle.octets.proofs.Bools.{and-l}
+use Rattle.peer.proofs.Meaning.{fits-least}
 use Rattle.sha256.specs.Sha256.{sha256}
 use Rattle.lookup_candidates.specs.Candidates.{arrivalOf, idFits, fresh, nobody}
 use Rattle.lookup.specs.Lookup.{meet, hear}
@@ -28,7 +29,7 @@ module _ (ours id : List ℕ) (l : Lookup) where
   unfolding arrivalOf hear
   heard-of =
       comes (not (idFits id)) (same (sha256 id) ours) (fresh id)
-      (λ e. leb-true 1 (length id) (and-l (leb 1 (length id)) _ (not-false (idFits id) e)))
+      (λ e. fits-least id (not-false (idFits id) e))
 
   module _ (c : Candidate) (ec : c ≡ arrivalOf ours id) where
     pub hear-nobody : c .len < 1 → l ≡ hear ours id l

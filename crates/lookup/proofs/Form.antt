@@ -8,13 +8,14 @@ use lib.Dec.{leb}
 use lib.ListN.{length, getD, take, drop}
 use borrow.Author.Tests.{le-leb, lt-leb, leb-true}
 use Rattle.octets.proofs.Bools.{all-on, all-off, all-head, all-rest, both-no, both-yes}
+use Rattle.limits.specs.Limits.{mostKey}
 use Rattle.place.specs.Place.{nearerTo}
-use Rattle.lookup.specs.Lookup.{room, keyMost, limitMost, candidatesOf, follow, nearestFirst, inForm}
+use Rattle.lookup.specs.Lookup.{room, limitMost, candidatesOf, follow, nearestFirst, inForm}
 use Rattle.lookup_candidates.specs.Candidates.{wellMade}
 use Rattle.lookup_candidates.specs.declared.Candidate.{Candidate}
 use Rattle.lookup_candidates.proofs.Candidates.{all-last}
 use Rattle.lookup.specs.Value.{Lookup}
-use Rattle.lookup.proofs.Lists.{one-on, at-end}
+use Rattle.octets.proofs.Finding.{one-on, at-end}
 
 -- ---- the candidates, nearest first
 module _ (t : List ℕ) (n : ℕ) (xs : List Candidate) where
@@ -57,43 +58,43 @@ module _ (l : Lookup) where
   form-size-low h = sym (all-off (leb 1 (l .size)) _ (lt-leb 1 (l .size) h))
 
   module _ (a : 1 ≤ l .size) where
-    pub form-size-high : keyMost < l .size → false ≡ inForm l
+    pub form-size-high : mostKey < l .size → false ≡ inForm l
     unfolding inForm
-    form-size-high h = sym (all-on (leb 1 (l .size)) _ (le-leb 1 (l .size) a) ∙ all-off (leb (l .size) keyMost) _ (lt-leb (l .size) keyMost h))
+    form-size-high h = sym (all-on (leb 1 (l .size)) _ (le-leb 1 (l .size) a) ∙ all-off (leb (l .size) mostKey) _ (lt-leb (l .size) mostKey h))
 
-    module _ (b : l .size ≤ keyMost) where
+    module _ (b : l .size ≤ mostKey) where
       pub form-limit-low : l .limit < 1 → false ≡ inForm l
       unfolding inForm
       form-limit-low h =
-          sym (all-on (leb 1 (l .size)) _ (le-leb 1 (l .size) a) ∙ all-on (leb (l .size) keyMost) _ (le-leb (l .size) keyMost b)
+          sym (all-on (leb 1 (l .size)) _ (le-leb 1 (l .size) a) ∙ all-on (leb (l .size) mostKey) _ (le-leb (l .size) mostKey b)
           ∙ all-off (leb 1 (l .limit)) _ (lt-leb 1 (l .limit) h))
 
       module _ (c : 1 ≤ l .limit) where
         pub form-limit-high : limitMost < l .limit → false ≡ inForm l
         unfolding inForm
         form-limit-high h =
-            sym (all-on (leb 1 (l .size)) _ (le-leb 1 (l .size) a) ∙ all-on (leb (l .size) keyMost) _ (le-leb (l .size) keyMost b)
+            sym (all-on (leb 1 (l .size)) _ (le-leb 1 (l .size) a) ∙ all-on (leb (l .size) mostKey) _ (le-leb (l .size) mostKey b)
             ∙ all-on (leb 1 (l .limit)) _ (le-leb 1 (l .limit) c) ∙ all-off (leb (l .limit) limitMost) _ (lt-leb (l .limit) limitMost h))
 
         module _ (d : l .limit ≤ limitMost) where
           pub form-count : room < l .count → false ≡ inForm l
           unfolding inForm
           form-count h =
-              sym (all-on (leb 1 (l .size)) _ (le-leb 1 (l .size) a) ∙ all-on (leb (l .size) keyMost) _ (le-leb (l .size) keyMost b)
+              sym (all-on (leb 1 (l .size)) _ (le-leb 1 (l .size) a) ∙ all-on (leb (l .size) mostKey) _ (le-leb (l .size) mostKey b)
               ∙ all-on (leb 1 (l .limit)) _ (le-leb 1 (l .limit) c) ∙ all-on (leb (l .limit) limitMost) _ (le-leb (l .limit) limitMost d)
               ∙ all-off (leb (l .count) room) _ (lt-leb (l .count) room h))
 
           pub form-rest : l .count ≤ room → nearestFirst (l .target) (candidatesOf l) ≡ inForm l
           unfolding inForm
           form-rest h =
-              sym (all-on (leb 1 (l .size)) _ (le-leb 1 (l .size) a) ∙ all-on (leb (l .size) keyMost) _ (le-leb (l .size) keyMost b)
+              sym (all-on (leb 1 (l .size)) _ (le-leb 1 (l .size) a) ∙ all-on (leb (l .size) mostKey) _ (le-leb (l .size) mostKey b)
               ∙ all-on (leb 1 (l .limit)) _ (le-leb 1 (l .limit) c) ∙ all-on (leb (l .limit) limitMost) _ (le-leb (l .limit) limitMost d)
               ∙ all-on (leb (l .count) room) _ (le-leb (l .count) room h) ∙ all-last (nearestFirst (l .target) (candidatesOf l)))
 
 -- what form says
 pub record Formed (l : Lookup) : Type 0 where
   pub sizeLow : 1 ≤ l .size
-  pub sizeHigh : l .size ≤ keyMost
+  pub sizeHigh : l .size ≤ mostKey
   pub limitLow : 1 ≤ l .limit
   pub limitHigh : l .limit ≤ limitMost
   pub fits : l .count ≤ room
@@ -103,13 +104,13 @@ pub formed : (l : Lookup) → inForm l ≡ true → Formed l
 unfolding inForm
 formed l h =
     let h1 = all-rest (leb 1 (l .size)) _ h in
-    let h2 = all-rest (leb (l .size) keyMost) _ h1 in
+    let h2 = all-rest (leb (l .size) mostKey) _ h1 in
     let h3 = all-rest (leb 1 (l .limit)) _ h2 in
     let h4 = all-rest (leb (l .limit) limitMost) _ h3 in
     let h5 = all-rest (leb (l .count) room) _ h4 in
     record {
       sizeLow = leb-true 1 (l .size) (all-head (leb 1 (l .size)) _ h);
-      sizeHigh = leb-true (l .size) keyMost (all-head (leb (l .size) keyMost) _ h1);
+      sizeHigh = leb-true (l .size) mostKey (all-head (leb (l .size) mostKey) _ h1);
       limitLow = leb-true 1 (l .limit) (all-head (leb 1 (l .limit)) _ h2);
       limitHigh = leb-true (l .limit) limitMost (all-head (leb (l .limit) limitMost) _ h3);
       fits = leb-true (l .count) room (all-head (leb (l .count) room) _ h4);

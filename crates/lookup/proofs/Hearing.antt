@@ -11,6 +11,7 @@ use lib.Seq.{sets, sets-eq, drop-cons, getD-take}
 use borrow.Author.Tests.{eq-eqb, ne-eqb, ltb-true}
 use Rattle.octets.specs.Octets.{part, same}
 use Rattle.octets.proofs.Bools.{cond-yes, cond-no, cond-ind}
+use Rattle.limits.specs.Limits.{mostHeard}
 use Rattle.place.specs.Place.{nearerTo}
 use Rattle.sha256.specs.Sha256.{sha256}
 use Rattle.refusal.specs.declared.Refusal.{Refusal}
@@ -20,14 +21,14 @@ use Rattle.wire.specs.Wire.{fields, spans, nowhere}
 use Rattle.wire.specs.Items.{cut}
 use Rattle.wire.specs.declared.Span.{Span}
 use Rattle.wire.proofs.Reach.{AllInside}
-use Rattle.message.specs.Limits.{mostHeard}
 use Rattle.message.specs.View.{idAt, closerAt, heardAt, starts, ends, idsOf}
 use Rattle.message.specs.declared.Ids.{Ids}
 use Rattle.message.specs.declared.Fields.{Fields}
 use Rattle.message.proofs.Meaning.{Cuttable, inside, id-inside}
 use Rattle.message.proofs.Views.{heard-meant}
 use Rattle.parts.specs.Parts.{isView}
-use Rattle.lookup.specs.Lookup.{room, candidatesOf, turnAway, put, mark, refuses, settled, whomOf, reported, known, enter, meet, hear, hearAll, findNode, heardIds, heardFrom, replyOf}
+use Rattle.message.specs.Kinds.{findNode}
+use Rattle.lookup.specs.Lookup.{room, candidatesOf, turnAway, put, mark, refuses, settled, whomOf, reported, known, enter, meet, hear, hearAll, heardIds, heardFrom, replyOf}
 use Rattle.lookup_candidates.specs.Candidates.{idFits, fresh}
 use Rattle.lookup_candidates.specs.declared.Candidate.{Candidate}
 use Rattle.lookup.specs.Value.{Lookup, Step}

@@ -1,4 +1,3 @@
-pub mod Lists
 pub mod Scans
 pub mod Form
 pub mod Steps

@@ -7,12 +7,12 @@ use native.Mathlib.Omega.{arith}
 use lib.ListN.{length, take, drop, length-drop, length-append}
 use lib.Seq.{length-take-le, take-take}
 use Rattle.place.specs.Place.{nearerTo}
-use Rattle.lookup.specs.Lists.{firstIn}
+use Rattle.octets.specs.Search.{firstIn}
 use Rattle.lookup.specs.Inner.{beyond, rankOf}
 use Rattle.lookup.specs.Lookup.{candidatesOf, withCandidates, put, enter}
 use Rattle.lookup_candidates.specs.declared.Candidate.{Candidate}
 use Rattle.lookup.specs.Value.{Lookup}
-use Rattle.lookup.proofs.Lists.{first-le}
+use Rattle.octets.proofs.Finding.{first-le}
 
 -- ---- one more, at its rank
 pub enter-at : (t : List ℕ) (c : Candidate) (cs : List Candidate)

@@ -8,13 +8,15 @@ use lib.Dec.{leb}
 use lib.ListN.{length, take, length-take}
 use borrow.Author.Tests.{le-leb, lt-leb, leb-true, not-false}
 use Rattle.octets.proofs.Bools.{cond-yes, cond-no, cond-ind, and-on, and-off, and-r}
+use Rattle.limits.specs.Limits.{mostNear}
 use Rattle.place.specs.Place.{isPlace}
 use Rattle.refusal.specs.declared.Refusal.the-variants.{OutOfForm, BreaksRules, BadPeer, BadConcurrency}
 use Rattle.contacts.specs.Table.{slotsOf}
 use Rattle.contacts.specs.Form.{inForm as inFormTable}
-use Rattle.contacts.specs.Near.{nearestCount, sorted, nearestSlots, nearestOf}
+use Rattle.contacts.specs.Near.{sorted, nearestSlots, nearestOf}
 use Rattle.contacts.specs.declared.Closest.{Closest}
-use Rattle.lookup.specs.Lookup.{refuses, settled, noLookup, begun, keyFits, limitFits, startOf}
+use Rattle.message.specs.Kinds.{keyFits}
+use Rattle.lookup.specs.Lookup.{refuses, settled, noLookup, begun, limitFits, startOf}
 use Rattle.lookup_candidates.specs.Candidates.{idFits}
 use Rattle.lookup.specs.Value.{Lookup, Step}
 
@@ -32,8 +34,8 @@ range-most n m b e h = leb-true n m (and-r (leb 1 n) (leb n m) (sym e ∙ not-fa
 pub nearest-few : (t x : List ℕ) → length (nearestSlots t x) ≤ 20
 unfolding nearestSlots
 nearest-few t x =
-    cond-ind (λ (l : List ℕ). length l ≤ 20) (isPlace x) (take nearestCount (sorted t x (slotsOf t))) []
-    (λ e. omega (arith, length-take nearestCount (sorted t x (slotsOf t)))) (λ e. omega arith)
+    cond-ind (λ (l : List ℕ). length l ≤ 20) (isPlace x) (take mostNear (sorted t x (slotsOf t))) []
+    (λ e. omega (arith, length-take mostNear (sorted t x (slotsOf t)))) (λ e. omega arith)
 
 module _ (t x : List ℕ) (near : Closest) (e : near ≡ nearestOf t x) where
   pub near-count : near .n ≡ length (nearestSlots t x)

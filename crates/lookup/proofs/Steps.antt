@@ -10,13 +10,15 @@ use lib.Seq.{length-take-le}
 use borrow.Author.Tests.{lt-ltb, le-ltb, le-leb, lt-leb, not-false, leb-false}
 use Rattle.octets.specs.Octets.{same}
 use Rattle.octets.proofs.Bools.{cond-yes, cond-no, cond-ind, or-l, or-off, or-r}
+use Rattle.place.specs.Place.{placeOf}
+use Rattle.peer.specs.Peers.{badPeer}
 use Rattle.sha256.specs.Sha256.{sha256}
 use Rattle.refusal.specs.declared.Refusal.{Refusal}
 use Rattle.refusal.specs.declared.Refusal.the-variants.{OutOfForm, BadPeer, NotInFlight, LookupOver}
 use Rattle.lookup_marks.specs.Marks.{flying, failed, twentyOf, isOver, idleOf, flightsOf, sentOf, ranksOf}
 use Rattle.lookup_marks.specs.declared.Ranks.{Ranks}
 use Rattle.lookup.specs.Inner.{rankOf}
-use Rattle.lookup.specs.Lookup.{room, candidatesOf, marksOf, inForm, withCandidates, turnAway, put, mark, gives, refuses, ends, settled, nextOf, badPeer, flyerOf, whomOf, reported, failureOf, known, enter, meet}
+use Rattle.lookup.specs.Lookup.{room, candidatesOf, marksOf, inForm, withCandidates, turnAway, put, mark, gives, refuses, ends, settled, nextOf, badStep, flyerOf, whomOf, reported, failureOf, known, enter, meet}
 use Rattle.lookup_candidates.specs.Candidates.{markOf, idFits}
 use Rattle.lookup_candidates.specs.declared.Candidate.{Candidate}
 use Rattle.lookup.specs.Value.{Lookup, Step}
@@ -24,7 +26,7 @@ use Rattle.lookup.specs.declared.Answer.{Answer}
 use Rattle.lookup.specs.declared.Answer.the-variants.{Complete, CutShort, Wait, Ask, Going}
 use Rattle.lookup.specs.declared.Whom.{Whom}
 use Rattle.lookup.specs.declared.Whom.the-variants.{Nobody, At}
-use Rattle.lookup.proofs.Lists.{map-take}
+use Rattle.octets.proofs.Lists.{map-take}
 use Rattle.lookup.proofs.Form.{formed}
 use Rattle.lookup.proofs.Scans.{put-enter}
 
@@ -127,22 +129,22 @@ module _ (l : Lookup) (b : Bool) (eb : b ≡ inForm l) (r : Step) where
 
 -- ---- ids and peers
 module _ (own ours id : List ℕ) (a : Bool) (ea : a ≡ idFits own) where
-  pub bad-own : not a ≡ true → badPeer own ours id ≡ true
-  unfolding badPeer
+  pub bad-own : not a ≡ true → badStep own ours id ≡ true
+  unfolding badStep badPeer placeOf
   bad-own h = or-l (not (idFits own)) _ (ap not (sym ea) ∙ h)
 
   module _ (h : not a ≡ false) (b : Bool) (eb : b ≡ idFits id) where
-    pub bad-id : not b ≡ true → badPeer own ours id ≡ true
-    unfolding badPeer
+    pub bad-id : not b ≡ true → badStep own ours id ≡ true
+    unfolding badStep badPeer placeOf
     bad-id g = or-r (not (idFits own)) _ (or-l (not (idFits id)) _ (ap not (sym eb) ∙ g))
 
     module _ (g : not b ≡ false) (p : List ℕ) (s : Bool) (ep : p ≡ sha256 id) (es : s ≡ same p ours) where
-      pub bad-place : s ≡ true → badPeer own ours id ≡ true
-      unfolding badPeer
+      pub bad-place : s ≡ true → badStep own ours id ≡ true
+      unfolding badStep badPeer placeOf
       bad-place t = or-r (not (idFits own)) _ (or-r (not (idFits id)) _ (sym (es ∙ ap (λ (x : List ℕ). same x ours) ep) ∙ t))
 
-      pub good-peer : s ≡ false → badPeer own ours id ≡ false
-      unfolding badPeer
+      pub good-peer : s ≡ false → badStep own ours id ≡ false
+      unfolding badStep badPeer placeOf
       good-peer t =
           or-off (not (idFits own)) _ (ap not (sym ea) ∙ h) ∙ or-off (not (idFits id)) _ (ap not (sym eb) ∙ g)
           ∙ sym (es ∙ ap (λ (x : List ℕ). same x ours) ep) ∙ t
@@ -157,18 +159,18 @@ module _ (l : Lookup) (own ours id : List ℕ) (b : Bool) (eb : b ≡ inForm l) 
     formedness : not (inForm l) ≡ false
     formedness = ap not (sym eb) ∙ h
 
-    pub whom-bad : badPeer own ours id ≡ true → Nobody BadPeer ≡ whomOf l own ours id
+    pub whom-bad : badStep own ours id ≡ true → Nobody BadPeer ≡ whomOf l own ours id
     unfolding whomOf
-    whom-bad t = sym (cond-no (not (inForm l)) (Nobody OutOfForm) _ formedness ∙ cond-yes (badPeer own ours id) (Nobody BadPeer) _ t)
+    whom-bad t = sym (cond-no (not (inForm l)) (Nobody OutOfForm) _ formedness ∙ cond-yes (badStep own ours id) (Nobody BadPeer) _ t)
 
-    module _ (t : badPeer own ours id ≡ false) (ms : List ℕ) (em : ms ≡ marksOf l) (o : Bool) (eo : o ≡ isOver ms) where
+    module _ (t : badStep own ours id ≡ false) (ms : List ℕ) (em : ms ≡ marksOf l) (o : Bool) (eo : o ≡ isOver ms) where
       ended : o ≡ isOver (marksOf l)
       ended = eo ∙ ap isOver em
 
       pub whom-over : o ≡ true → Nobody LookupOver ≡ whomOf l own ours id
       unfolding whomOf
       whom-over w =
-          sym (cond-no (not (inForm l)) (Nobody OutOfForm) _ formedness ∙ cond-no (badPeer own ours id) (Nobody BadPeer) _ t
+          sym (cond-no (not (inForm l)) (Nobody OutOfForm) _ formedness ∙ cond-no (badStep own ours id) (Nobody BadPeer) _ t
           ∙ cond-yes (isOver (marksOf l)) (Nobody LookupOver) _ (sym ended ∙ w))
 
       module _ (w : o ≡ false) (p : List ℕ) (ep : p ≡ sha256 id) (i : ℕ) (ei : i ≡ flyerOf p (candidatesOf l)) where
@@ -178,7 +180,7 @@ module _ (l : Lookup) (own ours id : List ℕ) (b : Bool) (eb : b ≡ inForm l) 
         pub whom-none : l .count ≤ i → Nobody NotInFlight ≡ whomOf l own ours id
         unfolding whomOf
         whom-none z =
-            sym (cond-no (not (inForm l)) (Nobody OutOfForm) _ formedness ∙ cond-no (badPeer own ours id) (Nobody BadPeer) _ t
+            sym (cond-no (not (inForm l)) (Nobody OutOfForm) _ formedness ∙ cond-no (badStep own ours id) (Nobody BadPeer) _ t
             ∙ cond-no (isOver (marksOf l)) (Nobody LookupOver) _ (sym ended ∙ w)
             ∙ cond-yes (leb (l .count) (flyerOf (sha256 id) (candidatesOf l))) (Nobody NotInFlight) _ (ap (leb (l .count)) (sym flyer) ∙ le-leb (l .count) i z))
 
@@ -186,7 +188,7 @@ module _ (l : Lookup) (own ours id : List ℕ) (b : Bool) (eb : b ≡ inForm l) 
         unfolding whomOf
         whom-at z =
             ap At flyer
-            ∙ sym (cond-no (not (inForm l)) (Nobody OutOfForm) _ formedness ∙ cond-no (badPeer own ours id) (Nobody BadPeer) _ t
+            ∙ sym (cond-no (not (inForm l)) (Nobody OutOfForm) _ formedness ∙ cond-no (badStep own ours id) (Nobody BadPeer) _ t
             ∙ cond-no (isOver (marksOf l)) (Nobody LookupOver) _ (sym ended ∙ w)
             ∙ cond-no (leb (l .count) (flyerOf (sha256 id) (candidatesOf l))) (Nobody NotInFlight) (At (flyerOf (sha256 id) (candidatesOf l))) (ap (leb (l .count)) (sym flyer) ∙ lt-leb (l .count) i z))
 
@@ -199,7 +201,7 @@ within : (l : Lookup) (own ours id : List ℕ) → Within l (whomOf l own ours i
 unfolding whomOf
 within l own ours id =
     cond-ind (Within l) (not (inForm l)) _ _ (λ e. tt)
-    (λ f. cond-ind (Within l) (badPeer own ours id) _ _ (λ e. tt)
+    (λ f. cond-ind (Within l) (badStep own ours id) _ _ (λ e. tt)
     (λ b. cond-ind (Within l) (isOver (marksOf l)) _ _ (λ e. tt)
     (λ o. cond-ind (Within l) (leb (l .count) (flyerOf (sha256 id) (candidatesOf l))) _ _ (λ e. tt)
     (λ e. (leb-false (l .count) (flyerOf (sha256 id) (candidatesOf l)) e, formed l (not-false (inForm l) f) .fits)))))

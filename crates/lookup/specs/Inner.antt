@@ -3,7 +3,7 @@ use Prim.Native.Nat.{ℕ}
 use mathlib.Core.Bool.{Bool, not}
 use mathlib.Core.List.{List}
 use Rattle.place.specs.Place.{nearerTo}
-use Rattle.lookup.specs.Lists.{firstIn}
+use Rattle.octets.specs.Search.{firstIn}
 use Rattle.lookup_candidates.specs.declared.Candidate.{Candidate}
 
 -- not nearer to the target t than the place p

@@ -1,4 +1,3 @@
-pub mod Lists
 pub mod Value
 pub mod Lookup
 pub mod Inner

@@ -4,8 +4,10 @@ use mathlib.Core.Bool.{Bool, true, false, cond, not, _&&_, _||_}
 use mathlib.Core.List.{List, [], _∷_, _++_, map}
 use lib.ListN.{length, take, drop, replicate}
 use lib.Dec.{leb, ltb, eqb}
+use Rattle.message.specs.Kinds.{findNode, keyFits}
 use Rattle.octets.specs.Octets.{same}
-use Rattle.octets.specs.Search.{allOf}
+use Rattle.octets.specs.Search.{allOf, firstIn, anyIn}
+use Rattle.limits.specs.Limits.{mostKey, mostHeard}
 use Rattle.place.specs.Place.{nearerTo}
 use Rattle.sha256.specs.Sha256.{sha256}
 use Rattle.refusal.specs.declared.Refusal.{Refusal}
@@ -17,32 +19,24 @@ use Rattle.contacts.specs.Near.{nearestSlots}
 use Rattle.message.specs.Message.{Peer, messageOf}
 use Rattle.message.specs.declared.Fields.{Fields}
 use Rattle.parts.specs.Parts.{isView}
-use Rattle.lookup.specs.Lists.{firstIn, anyIn}
+use Rattle.peer.specs.Peers.{badPeer}
 use Rattle.lookup_candidates.specs.declared.Candidate.{Candidate}
 use Rattle.lookup.specs.Value.{Lookup, Step}
 use Rattle.lookup.specs.declared.Answer.{Answer}
 use Rattle.lookup.specs.declared.Answer.the-variants.{Refused, Complete, CutShort, Wait, Ask, Going}
 use Rattle.lookup.specs.declared.Whom.{Whom}
 use Rattle.lookup.specs.declared.Whom.the-variants.{Nobody, At}
-pub use Rattle.lookup_candidates.specs.Candidates.{idMost, markOf, idFits, liesAt, padded, fresh, nobody, contactAt}
-unfoldable pub use Rattle.lookup_candidates.specs.Candidates.{wellMade, flies}
+pub use Rattle.lookup_candidates.specs.Candidates.{markOf, liesAt, padded, fresh, nobody, contactAt}
+unfoldable pub use Rattle.lookup_candidates.specs.Candidates.{idFits, wellMade, flies}
 
 -- ---- limits
 -- "Room for 256."
 abbrev pub room : ℕ
 room = 256
 
--- a key has 1 to 128 bytes
-abbrev pub keyMost : ℕ
-keyMost = 128
-
 -- "a limit of 1 to 10"
 abbrev pub limitMost : ℕ
 limitMost = 10
-
--- "the first 21 closerPeers entries"
-abbrev pub heardMost : ℕ
-heardMost = 21
 
 -- ---- the candidates, nearest first, and their marks
 abbrev pub candidatesOf : Lookup → List Candidate
@@ -66,7 +60,7 @@ unfoldable pub inForm : Lookup → Bool
 inForm l =
     allOf
     (leb 1 (l .size)
-    ∷ leb (l .size) keyMost
+    ∷ leb (l .size) mostKey
     ∷ leb 1 (l .limit)
     ∷ leb (l .limit) limitMost
     ∷ leb (l .count) room
@@ -146,9 +140,9 @@ nextOf l =
     (gives l Wait))))
 
 -- ---- reply and failure: who it is about
--- "peer id not 1 to 64 bytes, or of our place"; a box whose own id is no peer id refuses the same way
-unfoldable pub badPeer : List ℕ → List ℕ → List ℕ → Bool
-badPeer own ours id = not (idFits own) || (not (idFits id) || same (sha256 id) ours)
+-- refusal 12, of who is reported about; a box whose own id is no peer id refuses the same way
+unfoldable pub badStep : List ℕ → List ℕ → List ℕ → Bool
+badStep own ours id = not (idFits own) || badPeer ours id
 
 -- its rank, or the number of candidates where there is none
 abbrev pub flyerOf : List ℕ → List Candidate → ℕ
@@ -158,7 +152,7 @@ flyerOf p cs = firstIn (flies p) cs
 unfoldable pub whomOf : Lookup → List ℕ → List ℕ → List ℕ → Whom
 whomOf l own ours id =
     cond (not (inForm l)) (Nobody OutOfForm)
-    (cond (badPeer own ours id) (Nobody BadPeer)
+    (cond (badStep own ours id) (Nobody BadPeer)
     (cond (isOver (marksOf l)) (Nobody LookupOver)
     (cond (leb (l .count) (flyerOf (sha256 id) (candidatesOf l))) (Nobody NotInFlight)
     (At (flyerOf (sha256 id) (candidatesOf l))))))
@@ -199,13 +193,9 @@ hearAll ours [] l = l
 hearAll ours (id ∷ ids) l = hearAll ours ids (hear ours id l)
 
 -- ---- reply
--- FIND_NODE
-abbrev pub findNode : ℕ
-findNode = 4
-
 -- the ids of "the first 21 closerPeers entries"
 unfoldable pub heardIds : List ℕ → List (List ℕ)
-heardIds body = map (λ (p : Peer). p .id) (take heardMost (messageOf body .closer))
+heardIds body = map (λ (p : Peer). p .id) (take mostHeard (messageOf body .closer))
 
 -- "A FIND_NODE reply marks its sender answered, then takes the first 21 closerPeers entries .. Any other type .. marks the peer failed for good."
 unfoldable pub heardFrom : List ℕ → List ℕ → ℕ → Lookup → ℕ → Lookup
@@ -221,7 +211,7 @@ abbrev pub noLookup : Lookup
 noLookup =
     record {
       candidates = replicate room nobody;
-      key = replicate keyMost 0;
+      key = replicate mostKey 0;
       target = replicate 32 0;
       count = 0;
       size = 0;
@@ -238,16 +228,13 @@ abbrev pub begun : List ℕ → List ℕ → ℕ → Lookup
 begun t key limit =
     record {
       candidates = firstOnes t (sha256 key) ++ replicate (room - length (firstOnes t (sha256 key))) nobody;
-      key = padded keyMost key;
+      key = padded mostKey key;
       target = sha256 key;
       count = length (firstOnes t (sha256 key));
       size = length key;
       limit = limit;
       turned = false;
     }
-
-abbrev pub keyFits : List ℕ → Bool
-keyFits key = leb 1 (length key) && leb (length key) keyMost
 
 abbrev pub limitFits : ℕ → Bool
 limitFits n = leb 1 n && leb n limitMost

@@ -3,15 +3,10 @@
 pub use lookup_candidates::Candidate;
 use refusal::Refusal;
 
-// Room for candidates, and the limits of a key and of the requests in flight.
+// Room for candidates, and the limit of the requests in flight.
 pub const ROOM: usize = 256;
 
-pub const KEY_MOST: usize = 128;
-
 pub const LIMIT_MOST: usize = 10;
-
-// The type of the messages that a lookup asks with and hears.
-pub const FIND_NODE: u64 = 4;
 
 // What a step answers. A peer to ask is named by its rank; over comes with the number of requests sent.
 pub enum Answer {

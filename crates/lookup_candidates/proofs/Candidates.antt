@@ -8,8 +8,10 @@ use lib.ListN.{length, replicate}
 use borrow.Author.Tests.{le-leb, lt-leb, leb-true, not-false, eq-eqb, ne-eqb}
 use Rattle.octets.specs.Search.{allOf}
 use Rattle.octets.proofs.Bools.{and-on, and-off, all-on, all-off, cond-yes, cond-no, and-r}
+use Rattle.limits.specs.Limits.{mostId}
+use Rattle.peer.proofs.Meaning.{fits-most}
 use Rattle.lookup_marks.specs.Marks.{failed, idle, flying}
-use Rattle.lookup_candidates.specs.Candidates.{idMost, wellMade, idFits, flies, fresh, arrivalOf, nobody, padded, contactAt}
+use Rattle.lookup_candidates.specs.Candidates.{wellMade, idFits, flies, fresh, arrivalOf, nobody, padded, contactAt}
 use Rattle.lookup_candidates.specs.declared.Candidate.{Candidate}
 use lib.Seq.{sets}
 use Rattle.octets.specs.Octets.{same}
@@ -32,20 +34,13 @@ module _ (c : Candidate) where
   unfolding wellMade
   made-empty h g = sym (all-on (leb (c .mark) failed) _ (le-leb (c .mark) failed h) ∙ all-off (leb 1 (c .len)) _ (lt-leb 1 (c .len) g))
 
-  pub made-len : c .mark ≤ failed → 1 ≤ c .len → leb (c .len) idMost ≡ wellMade c
+  pub made-len : c .mark ≤ failed → 1 ≤ c .len → leb (c .len) mostId ≡ wellMade c
   unfolding wellMade
   made-len h g =
-      sym (all-on (leb (c .mark) failed) _ (le-leb (c .mark) failed h) ∙ all-on (leb 1 (c .len)) _ (le-leb 1 (c .len) g) ∙ all-last (leb (c .len) idMost))
-
-module _ (id : List ℕ) where
-  pub fits-none : length id < 1 → false ≡ idFits id
-  fits-none h = sym (and-off (leb 1 (length id)) _ (lt-leb 1 (length id) h))
-
-  pub fits-most : 1 ≤ length id → leb (length id) idMost ≡ idFits id
-  fits-most h = sym (and-on (leb 1 (length id)) _ (le-leb 1 (length id) h))
+      sym (all-on (leb (c .mark) failed) _ (le-leb (c .mark) failed h) ∙ all-on (leb 1 (c .len)) _ (le-leb 1 (c .len) g) ∙ all-last (leb (c .len) mostId))
 
 pub fits-len : (id : List ℕ) (b : Bool) → b ≡ idFits id → not b ≡ false → length id ≤ 64
-fits-len id b e h = leb-true (length id) idMost (and-r (leb 1 (length id)) (leb (length id) idMost) (sym e ∙ not-false b h))
+fits-len id b e h = fits-most id (sym e ∙ not-false b h)
 
 pub flies-no : (p : List ℕ) (c : Candidate) → (c .mark ≡ flying → ⊥) → false ≡ flies p c
 unfolding flies
@@ -55,7 +50,7 @@ pub flies-same : (p : List ℕ) (c : Candidate) (b : Bool) → c .mark ≡ flyin
 unfolding flies
 flies-same p c b h e = e ∙ sym (and-on (eqb (c .mark) flying) (same (c .place) p) (eq-eqb (c .mark) flying h))
 
-pub fresh-is : (id kept p : List ℕ) (n : ℕ) → kept ≡ sets (replicate idMost 0) 0 id → p ≡ sha256 id → n ≡ length id
+pub fresh-is : (id kept p : List ℕ) (n : ℕ) → kept ≡ sets (replicate mostId 0) 0 id → p ≡ sha256 id → n ≡ length id
     → record { id = kept; place = p; mark = idle; len = n } ≡ fresh id
 fresh-is id kept p n ek ep en = rw (ek, ep, en)
 
@@ -78,6 +73,6 @@ module _ (ours id : List ℕ) (r : Candidate) (a : Bool) (ea : a ≡ idFits id) 
     arrival-new t = ec ∙ sym (cond-no (not (idFits id)) nobody _ (ap not (sym ea) ∙ h) ∙ cond-no (same (sha256 id) ours) nobody (fresh id) (sym ourselves ∙ t))
 
 -- ---- a contact
-pub contact-is : (t : List ℕ) (i : ℕ) (e kept p : List ℕ) (n : ℕ) (q : List ℕ) → e ≡ entryId (slot t i) → kept ≡ padded idMost e → q ≡ place (slot t i) → p ≡ padded 32 q → n ≡ length e
+pub contact-is : (t : List ℕ) (i : ℕ) (e kept p : List ℕ) (n : ℕ) (q : List ℕ) → e ≡ entryId (slot t i) → kept ≡ padded mostId e → q ≡ place (slot t i) → p ≡ padded 32 q → n ≡ length e
     → record { id = kept; place = p; mark = idle; len = n } ≡ contactAt t i
 contact-is t i e kept p n q ee ek eq ep en = rw (ek, ep, en, ee, eq)

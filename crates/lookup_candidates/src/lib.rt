@@ -1,38 +1,27 @@
 // Candidates of a lookup, by value: how one comes in. Every public function takes any numbers and any bytes.
+pub use peer::id_fits;
 ghost use mathlib.Core.Path.{_≡_};
 ghost use Prim.Native.Nat.{_≤_};
 ghost use lib.ListN.{length};
-ghost use Rattle.lookup_candidates.specs.Candidates.{arrivalOf, idFits, fresh, nobody, contactAt};
-
-// The most bytes of a peer id.
-pub const ID_MOST: usize = 64;
+ghost use Rattle.limits.specs.Limits.{mostId};
+ghost use Rattle.lookup_candidates.specs.Candidates.{arrivalOf, fresh, nobody, contactAt};
 
 // A peer that was heard of: its mark is one of lookup_marks.
 pub struct Candidate {
-    pub id: [u8; 64],
-    pub place: [u8; 32],
+    pub id: [u8; limits::MOST_ID],
+    pub place: [u8; limits::PLACE],
     pub mark: u8,
     pub len: u8,
 }
 
-// Whether a peer id has 1 to 64 bytes.
-pub fn id_fits(id: &[u8]) -> bool
-    ensures { λ r. ⌜ r ≡ idFits (now (id .entry)) ⌝ }
-{
-    if id.len() < 1 {
-        return false;
-    }
-    id.len() <= ID_MOST
-}
-
 // A candidate as it comes in: idle.
 fn newcomer(id: &[u8]) -> Candidate
-    requires { ⌜ length (now id) ≤ 64 ⌝ }
+    requires { ⌜ length (now id) ≤ mostId ⌝ }
     ensures { λ r. ⌜ r ≡ fresh (now (id .entry)) ⌝ }
 {
     let place = sha256::hash(id);
     let len = id.len() as u8;
-    let mut kept = [0u8; 64];
+    let mut kept = [0u8; limits::MOST_ID];
     octets::copy(&mut kept, 0, id);
     Candidate {
         id: kept,
@@ -46,7 +35,7 @@ fn newcomer(id: &[u8]) -> Candidate
 pub fn no_candidate() -> Candidate
     ensures { λ r. ⌜ r ≡ nobody ⌝ }
 {
-    let id = [0u8; 64];
+    let id = [0u8; limits::MOST_ID];
     let place = [0u8; 32];
     Candidate {
         id,
@@ -77,7 +66,7 @@ pub fn contact(table: &[u8], i: usize) -> Candidate
 {
     let id = contacts::id_of(table, i);
     let len = id.len() as u8;
-    let mut kept = [0u8; 64];
+    let mut kept = [0u8; limits::MOST_ID];
     octets::copy(&mut kept, 0, id);
     let mut place = [0u8; 32];
     octets::copy(&mut place, 0, contacts::place_of(table, i));

@@ -11,12 +11,13 @@ use Rattle.octets.specs.Octets.{part}
 use Rattle.octets.proofs.Bools.{or-l, or-off}
 use Rattle.octets.proofs.Parts.{part-length}
 use Rattle.octets.proofs.Stores.{getD-sets-before, take-sets, drop-sets}
-use Rattle.lookup.specs.Lists.{anyIn}
-use Rattle.lookup.proofs.Lists.{one-on, at-end}
-use Rattle.lookup.specs.Lookup.{room, keyMost, padded, withCandidates, turnAway}
+use Rattle.octets.specs.Search.{anyIn}
+use Rattle.octets.proofs.Finding.{one-on, at-end}
+use Rattle.lookup.specs.Lookup.{room, padded, withCandidates, turnAway}
+use Rattle.limits.specs.Limits.{placeSize, mostKey}
 use Rattle.lookup_candidates.specs.declared.Candidate.{Candidate}
 use Rattle.lookup.specs.Value.{Lookup}
-use Rattle.flat_lookup.specs.FlatLookup.{placeSize, keyAt, targetAt, candidateSize, candidatesAt, flatSize, byteAt, bytesAt, candidateIn, candidatesIn, lookupIn, candidateBytes}
+use Rattle.flat_lookup.specs.FlatLookup.{keyAt, targetAt, candidateSize, candidatesAt, flatSize, byteAt, bytesAt, candidateIn, candidatesIn, lookupIn, candidateBytes}
 use Rattle.flat_lookup.specs.Promises.{SizedCandidate}
 use Rattle.flat_lookup.proofs.Writing.{candidate-length}
 use Rattle.flat_lookup.proofs.Theorems.{candidate-further, candidates-further, candidate-back}
@@ -223,7 +224,7 @@ module _ (m : List ℕ) (n r : ℕ) (c : Candidate) (l : flatSize ≤ length m) 
 -- ---- the numbers
 -- a lookup whose parts are read one by one
 parts-are : (m : List ℕ) (cs : List Candidate) (k t : List ℕ) (n size limit : ℕ) (b : Bool)
-    → candidatesIn room (drop candidatesAt m) ≡ cs → bytesAt keyMost m keyAt ≡ k → bytesAt placeSize m targetAt ≡ t → byteAt m 0 + byteAt m 1 * 256 ≡ n
+    → candidatesIn room (drop candidatesAt m) ≡ cs → bytesAt mostKey m keyAt ≡ k → bytesAt placeSize m targetAt ≡ t → byteAt m 0 + byteAt m 1 * 256 ≡ n
     → byteAt m 2 ≡ size → byteAt m 3 ≡ limit → ltb 0 (byteAt m 4) ≡ b
     → lookupIn m ≡ record { candidates = cs; key = k; target = t; count = n; size = size; limit = limit; turned = b }
 parts-are m cs k t n size limit b ec ek et en es el eb = rw (ec, ek, et, en, es, el, eb)
@@ -242,7 +243,7 @@ counted m n l h =
     let number : byteAt m₂ 0 + byteAt m₂ 1 * 256 ≡ n = omega arith in
     record {
       holds =
-          parts-are m₂ _ _ _ n _ _ _ (ap (candidatesIn room) (past candidatesAt (omega arith))) (ap (padded keyMost) (past keyAt (omega arith))) (ap (padded placeSize) (past targetAt (omega arith))) number
+          parts-are m₂ _ _ _ n _ _ _ (ap (candidatesIn room) (past candidatesAt (omega arith))) (ap (padded mostKey) (past keyAt (omega arith))) (ap (padded placeSize) (past targetAt (omega arith))) number
           (sym (getD-drop 2 m₂ 0 0) ∙ later 0 ∙ getD-drop 2 m 0 0)
           (sym (getD-drop 2 m₂ 1 0) ∙ later 1 ∙ getD-drop 2 m 1 0)
           (ap (ltb 0) (sym (getD-drop 2 m₂ 2 0) ∙ later 2 ∙ getD-drop 2 m 2 0));
@@ -261,7 +262,7 @@ turned m l =
     sym (getD-take 4 m₁ j 0 h) ∙ ap (λ (z : List ℕ). getD z j 0) (take-set-le 4 m 4 1 (omega arith)) ∙ getD-take 4 m j 0 h in
     record {
       holds =
-          parts-are m₁ _ _ _ _ _ _ true (ap (candidatesIn room) (past candidatesAt (omega arith))) (ap (padded keyMost) (past keyAt (omega arith))) (ap (padded placeSize) (past targetAt (omega arith)))
+          parts-are m₁ _ _ _ _ _ _ true (ap (candidatesIn room) (past candidatesAt (omega arith))) (ap (padded mostKey) (past keyAt (omega arith))) (ap (padded placeSize) (past targetAt (omega arith)))
           (ap₂ (λ (x y : ℕ). x + y * 256) (early 0 (omega arith)) (early 1 (omega arith))) (early 2 (omega arith)) (early 3 (omega arith))
           (ap (ltb 0) (getD-set-same m 4 1 0 (omega arith)));
       long = length-set m 4 1;

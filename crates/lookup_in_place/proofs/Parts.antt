@@ -10,15 +10,16 @@ use lib.Seq.{getD-drop, drop-drop, length-take-le}
 use Rattle.octets.specs.Octets.{part, same}
 use Rattle.octets.proofs.Bools.{both-yes}
 use Rattle.octets.proofs.Parts.{part-is}
+use Rattle.limits.specs.Limits.{mostId, placeSize, mostKey}
 use Rattle.place.specs.Place.{nearerTo}
 use Rattle.lookup_marks.specs.Marks.{flying, failed}
 use Rattle.lookup_candidates.specs.Candidates.{markOf, wellMade, flies}
 use Rattle.lookup_candidates.proofs.Candidates.{made-mark, made-empty, made-len, flies-no, flies-same}
-use Rattle.lookup.proofs.Lists.{Mapping, map-one}
-use Rattle.lookup.specs.Lookup.{room, idMost, keyMost, padded, nobody}
+use Rattle.octets.proofs.Finding.{Mapping, map-one}
+use Rattle.lookup.specs.Lookup.{room, padded, nobody}
 use Rattle.lookup_candidates.specs.declared.Candidate.{Candidate}
 use Rattle.lookup.specs.Value.{Lookup}
-use Rattle.flat_lookup.specs.FlatLookup.{placeSize, placeAt, keyAt, targetAt, candidateSize, candidatesAt, flatSize, byteAt, bytesAt, candidatesIn, lookupIn, candidateAt}
+use Rattle.flat_lookup.specs.FlatLookup.{placeAt, keyAt, targetAt, candidateSize, candidatesAt, flatSize, byteAt, bytesAt, candidatesIn, lookupIn, candidateAt}
 use Rattle.flat_lookup.proofs.Padding.{padded-front}
 use Rattle.flat_lookup.proofs.Reading.{candidates-length, candidate-is}
 use Rattle.flat_lookup.proofs.Theorems.{bytes-further}
@@ -72,8 +73,8 @@ module _ (c : Candidate) (k : ℕ) (ek : k ≡ c .mark) where
   pub made-empty-of : (n : ℕ) → k ≤ failed → n ≡ c .len → n < 1 → false ≡ wellMade c
   made-empty-of n h e g = made-empty c (omega arith) (omega arith)
 
-  pub made-len-of : (n : ℕ) → k ≤ failed → n ≡ c .len → 1 ≤ n → leb n idMost ≡ wellMade c
-  made-len-of n h e g = ap (λ (x : ℕ). leb x idMost) e ∙ made-len c (omega arith) (omega arith)
+  pub made-len-of : (n : ℕ) → k ≤ failed → n ≡ c .len → 1 ≤ n → leb n mostId ≡ wellMade c
+  made-len-of n h e g = ap (λ (x : ℕ). leb x mostId) e ∙ made-len c (omega arith) (omega arith)
 
 pub flies-not : (p : List ℕ) (c : Candidate) (k : ℕ) → k ≡ c .mark → (k ≡ flying → ⊥) → false ≡ flies p c
 flies-not p c k e h = flies-no p c (λ g. h (e ∙ g))
@@ -92,7 +93,7 @@ unfoldable pub headed : List ℕ → List Candidate → Lookup
 headed s cs =
     record {
       candidates = cs;
-      key = bytesAt keyMost s keyAt;
+      key = bytesAt mostKey s keyAt;
       target = bytesAt placeSize s targetAt;
       count = byteAt s 0 + byteAt s 1 * 256;
       size = byteAt s 2;
@@ -108,7 +109,7 @@ lookup-split m l =
     let n : length s ≡ candidatesAt = length-take-le candidatesAt m (omega arith) in
     let e : m ≡ s ++ t = sym (take-append-drop candidatesAt m) in
     let byte : (i : ℕ) → i < candidatesAt → byteAt m i ≡ byteAt s i = λ i h. ap (λ (x : List ℕ). byteAt x i) e ∙ List·getD-append s t 0 i (omega arith) in
-    let ek : bytesAt keyMost m keyAt ≡ bytesAt keyMost s keyAt = ap (λ (x : List ℕ). bytesAt keyMost x keyAt) e ∙ bytes-further keyMost s t keyAt (omega arith) in
+    let ek : bytesAt mostKey m keyAt ≡ bytesAt mostKey s keyAt = ap (λ (x : List ℕ). bytesAt mostKey x keyAt) e ∙ bytes-further mostKey s t keyAt (omega arith) in
     let et : bytesAt placeSize m targetAt ≡ bytesAt placeSize s targetAt = ap (λ (x : List ℕ). bytesAt placeSize x targetAt) e ∙ bytes-further placeSize s t targetAt (omega arith) in
     together (candidatesIn room t) _ _ ek et (byte 0 (omega arith)) (byte 1 (omega arith)) (byte 2 (omega arith)) (byte 3 (omega arith)) (byte 4 (omega arith))
   where

@@ -11,6 +11,7 @@ use lib.ListN.{length, getD, replicate, length-append, length-map, length-replic
 use lib.Seq.{sets}
 use borrow.Author.Tests.{leb-true, not-false}
 use Rattle.octets.proofs.Bools.{cond-ind, and-r}
+use Rattle.limits.specs.Limits.{mostId, placeSize, mostKey}
 use Rattle.sha256.specs.Sha256.{sha256}
 use Rattle.sha256.proofs.Laws.{length-sha256}
 use Rattle.contacts.specs.Table.{slot, place}
@@ -18,11 +19,12 @@ use Rattle.contacts.specs.Contact.{entryId}
 use Rattle.contacts.specs.Near.{nearestSlots}
 use Rattle.contacts.specs.Form.{inForm as inFormTable}
 use Rattle.lookup_candidates.specs.declared.Candidate.{Candidate}
-use Rattle.lookup.specs.Lookup.{room, idMost, keyMost, limitMost, nobody, contactAt, idFits, noLookup, firstOnes, begun, keyFits, limitFits, startOf}
+use Rattle.message.specs.Kinds.{keyFits}
+use Rattle.lookup.specs.Lookup.{room, limitMost, nobody, contactAt, idFits, noLookup, firstOnes, begun, limitFits, startOf}
 use Rattle.lookup.specs.Value.{Lookup, Step}
 use Rattle.lookup.proofs.Steps.{settled-lookup}
 use Rattle.lookup.proofs.Starting.{nearest-few}
-use Rattle.flat_lookup.specs.FlatLookup.{placeSize, flatSize, lookupIn, lookupBytes}
+use Rattle.flat_lookup.specs.FlatLookup.{flatSize, lookupIn, lookupBytes}
 use Rattle.flat_lookup.specs.Promises.{SizedCandidate, Sized}
 use Rattle.flat_lookup.proofs.Padding.{padded-length}
 use Rattle.flat_lookup.proofs.Theorems.{stored-reads-back}
@@ -45,7 +47,7 @@ all-append [] ds h g = g
 all-append (c ∷ cs) ds h g = (h .0, all-append cs ds (h .1) g)
 
 nobody-sized : SizedCandidate nobody
-nobody-sized = record { idLong = length-replicate {A = ℕ} idMost 0; placeLong = length-replicate {A = ℕ} 32 0 }
+nobody-sized = record { idLong = length-replicate {A = ℕ} mostId 0; placeLong = length-replicate {A = ℕ} 32 0 }
 
 all-nobody : (n : ℕ) → AllSized (replicate n nobody)
 unfolding AllSized
@@ -56,19 +58,19 @@ all-contacts : (t : List ℕ) (is : List ℕ) → AllSized (map (contactAt t) is
 unfolding AllSized
 all-contacts t [] = tt
 all-contacts t (i ∷ is) =
-    (record { idLong = padded-length idMost (entryId (slot t i)); placeLong = padded-length 32 (place (slot t i)) }, all-contacts t is)
+    (record { idLong = padded-length mostId (entryId (slot t i)); placeLong = padded-length 32 (place (slot t i)) }, all-contacts t is)
 
 -- ---- a lookup whose arrays have their lengths, and whose numbers fit too
 pub record Shaped (l : Lookup) : Type 0 where
   pub long : length (l .candidates) ≡ room
-  pub key : length (l .key) ≡ keyMost
+  pub key : length (l .key) ≡ mostKey
   pub target : length (l .target) ≡ placeSize
   pub all : AllSized (l .candidates)
 
 pub record Storable (l : Lookup) : Type 0 where
   pub shape : Shaped l
   pub count : l .count ≤ room
-  pub size : l .size ≤ keyMost
+  pub size : l .size ≤ mostKey
   pub limit : l .limit ≤ limitMost
 
 pub shaped-sized : (l : Lookup) → Shaped l → Sized l
@@ -84,7 +86,7 @@ reads-back m l n h =
 nothing-storable : Storable noLookup
 nothing-storable =
     record {
-      shape = record { long = length-replicate room nobody; key = length-replicate {A = ℕ} keyMost 0; target = length-replicate {A = ℕ} 32 0; all = all-nobody room };
+      shape = record { long = length-replicate room nobody; key = length-replicate {A = ℕ} mostKey 0; target = length-replicate {A = ℕ} 32 0; all = all-nobody room };
       count = omega arith;
       size = omega arith;
       limit = omega arith;
@@ -94,7 +96,7 @@ pub first-few : (t x : List ℕ) → length (firstOnes t x) ≤ 20
 unfolding firstOnes
 first-few t x = omega (arith, nearest-few t x, length-map (nearestSlots t x) (contactAt t))
 
-pub begun-storable : (t key : List ℕ) (limit : ℕ) → length key ≤ keyMost → limit ≤ limitMost → Storable (begun t key limit)
+pub begun-storable : (t key : List ℕ) (limit : ℕ) → length key ≤ mostKey → limit ≤ limitMost → Storable (begun t key limit)
 unfolding firstOnes
 begun-storable t key limit k n =
     let x : List ℕ = sha256 key in
@@ -103,7 +105,7 @@ begun-storable t key limit k n =
     record {
       shape = record {
         long = length-append cs (replicate (room - length cs) nobody) ∙ omega (arith, length-replicate (room - length cs) nobody);
-        key = padded-length keyMost key;
+        key = padded-length mostKey key;
         target = length-sha256 key;
         all = all-append cs (replicate (room - length cs) nobody) (all-contacts t (nearestSlots t x)) (all-nobody (room - length cs));
       };
@@ -113,14 +115,14 @@ begun-storable t key limit k n =
     }
 
 pub start-storable : (t own ours key : List ℕ) (limit : ℕ) → Storable (startOf t own ours key limit .lookup)
-unfolding startOf
+unfolding startOf keyFits
 start-storable t own ours key limit =
     go (not (inFormTable t ours)) _ _ (λ e. nothing-storable)
     (λ e. go (not (keyFits key)) _ _ (λ e. nothing-storable)
     (λ k. go (not (idFits own)) _ _ (λ e. nothing-storable)
     (λ e. go (not (limitFits limit)) _ _ (λ e. nothing-storable)
     (λ n. subst Storable (sym (settled-lookup (begun t key limit)))
-    (begun-storable t key limit (leb-true (length key) keyMost (and-r (leb 1 (length key)) _ (not-false (keyFits key) k)))
+    (begun-storable t key limit (leb-true (length key) mostKey (and-r (leb 1 (length key)) _ (not-false (keyFits key) k)))
     (leb-true limit limitMost (and-r (leb 1 limit) _ (not-false (limitFits limit) n))))))))
   where
     go : (b : Bool) (x y : Step) → (b ≡ true → Storable (x .lookup)) → (b ≡ false → Storable (y .lookup)) → Storable (cond b x y .lookup)

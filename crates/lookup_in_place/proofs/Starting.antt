@@ -9,6 +9,7 @@ use lib.ListN.{length, getD, take, replicate, length-append, length-map, length-
 use lib.Seq.{sets, length-sets, length-take-le, getD-take, getD-append-add}
 use borrow.Author.Tests.{lt-ltb, le-ltb}
 use Rattle.octets.proofs.Bools.{cond-yes, cond-no}
+use Rattle.limits.specs.Limits.{mostKey}
 use Rattle.refusal.specs.declared.Refusal.{Refusal}
 use Rattle.refusal.specs.declared.Refusal.the-variants.{OutOfForm}
 use Rattle.sha256.specs.Sha256.{sha256}
@@ -18,7 +19,7 @@ use Rattle.contacts.proofs.Sorting.{take-filled}
 use Rattle.lookup_candidates.specs.declared.Candidate.{Candidate}
 use Rattle.lookup.specs.Value.{Lookup, Step}
 use Rattle.lookup.specs.declared.Answer.the-variants.{Refused}
-use Rattle.lookup.specs.Lookup.{room, keyMost, limitMost, padded, nobody, contactAt, refuses, settled, noLookup, firstOnes, begun}
+use Rattle.lookup.specs.Lookup.{room, limitMost, padded, nobody, contactAt, refuses, settled, noLookup, firstOnes, begun}
 use Rattle.lookup.proofs.Starting.{nearest-few, near-count}
 use Rattle.flat_lookup.specs.FlatLookup.{candidateSize, candidatesAt, flatSize, lookupIn, candidateBytes, headBytes, lookupBytes}
 use Rattle.flat_lookup.proofs.Writing.{Putting, put-one, put-long, put-all}
@@ -79,7 +80,7 @@ module _ (t at : List ℕ) (n : ℕ) (long : length at ≡ 20) (few : n ≤ 20) 
 pub near-few : (t x : List ℕ) (near : Closest) → near ≡ nearestOf t x → near .n ≤ 20
 near-few t x near e = omega (arith, near-count t x near e, nearest-few t x)
 
-opened-begun : (t key target kept : List ℕ) (limit : ℕ) (near : Closest) → target ≡ sha256 key → near ≡ nearestOf t target → kept ≡ padded keyMost key
+opened-begun : (t key target kept : List ℕ) (limit : ℕ) (near : Closest) → target ≡ sha256 key → near ≡ nearestOf t target → kept ≡ padded mostKey key
     → opened kept target (near .n) (length key) limit (membersOf t (near .at) (near .n)) ≡ begun t key limit
 unfolding firstOnes nearestOf
 opened-begun t key target kept limit near et en ek =
@@ -89,8 +90,8 @@ opened-begun t key target kept limit near et en ek =
     ∙ ap (λ (n : ℕ). opened kept target n (length key) limit (map (contactAt t) is ++ replicate (room - n) nobody)) (sym (length-map is (contactAt t)))
     ∙ ap₂ (λ (k x : List ℕ). opened k x (length (firstOnes t x)) (length key) limit (firstOnes t x ++ replicate (room - length (firstOnes t x)) nobody)) ek et
 
-pub begins : (m m′ t key target kept : List ℕ) (limit : ℕ) (near : Closest) → flatSize ≤ length m → length key ≤ keyMost → limit ≤ limitMost
-    → target ≡ sha256 key → near ≡ nearestOf t target → kept ≡ padded keyMost key
+pub begins : (m m′ t key target kept : List ℕ) (limit : ℕ) (near : Closest) → flatSize ≤ length m → length key ≤ mostKey → limit ≤ limitMost
+    → target ≡ sha256 key → near ≡ nearestOf t target → kept ≡ padded mostKey key
     → m′ ≡ sets m 0 (lookupBytes (opened kept target (near .n) (length key) limit (membersOf t (near .at) (near .n))))
     → (m′ ≡ sets m 0 (lookupBytes (begun t key limit))) × (lookupIn m′ ≡ begun t key limit)
 begins m m′ t key target kept limit near h k l et en ek e =

@@ -9,6 +9,7 @@ use lib.ListN.{length, getD, take}
 use lib.Seq.{sets}
 use borrow.Author.Tests.{lt-ltb, le-ltb, ltb-true, not-false}
 use Rattle.octets.proofs.Bools.{cond-yes, cond-no, cond-ind}
+use Rattle.limits.specs.Limits.{mostKey}
 use Rattle.refusal.specs.declared.Refusal.{Refusal}
 use Rattle.refusal.specs.declared.Refusal.the-variants.{OutOfForm, NotInFlight}
 use Rattle.sha256.specs.Sha256.{sha256}
@@ -27,7 +28,8 @@ use Rattle.lookup.specs.declared.Answer.{Answer}
 use Rattle.lookup.specs.declared.Answer.the-variants.{Refused, Complete, CutShort, Wait, Ask, Going}
 use Rattle.lookup.specs.declared.Whom.{Whom}
 use Rattle.lookup.specs.declared.Whom.the-variants.{Nobody, At}
-use Rattle.lookup.specs.Lookup.{room, keyMost, limitMost, candidatesOf, marksOf, nearestFirst, inForm, mark, refuses, gives, ends, settled, nextOf, badPeer, flyerOf, whomOf, failureOf, turnAway, known, meet, hear, hearAll, findNode, heardIds, heardFrom, replyOf}
+use Rattle.message.specs.Kinds.{findNode}
+use Rattle.lookup.specs.Lookup.{room, limitMost, candidatesOf, marksOf, nearestFirst, inForm, mark, refuses, gives, ends, settled, nextOf, badStep, flyerOf, whomOf, failureOf, turnAway, known, meet, hear, hearAll, heardIds, heardFrom, replyOf}
 use Rattle.lookup.proofs.Form.{formed, form-size-low, form-size-high, form-limit-low, form-limit-high, form-count, form-rest}
 use Rattle.lookup.proofs.Steps.{marks-part, marks-count, next-full, next-ask, next-wait, whom-none, whom-at, fail-refused, fail-at, meet-known, meet-new, meet-full}
 use Rattle.lookup.proofs.Hearing.{Heard, heard-start, heard-one, heard-all, from-found, from-other, found-fits, reply-bad, reply-refused, reply-at}
@@ -48,12 +50,12 @@ module _ (m : List ℕ) (size limit n : ℕ) (es : size ≡ lookupIn m .size) (e
     key-there : 1 ≤ lookupIn m .size
     key-there = subst (λ (x : ℕ). 1 ≤ x) es a
 
-    pub long-key : keyMost < size → false ≡ inForm (lookupIn m)
-    long-key h = form-size-high (lookupIn m) key-there (subst (λ (x : ℕ). keyMost < x) es h)
+    pub long-key : mostKey < size → false ≡ inForm (lookupIn m)
+    long-key h = form-size-high (lookupIn m) key-there (subst (λ (x : ℕ). mostKey < x) es h)
 
-    module _ (b : size ≤ keyMost) where
-      key-most : lookupIn m .size ≤ keyMost
-      key-most = subst (λ (x : ℕ). x ≤ keyMost) es b
+    module _ (b : size ≤ mostKey) where
+      key-most : lookupIn m .size ≤ mostKey
+      key-most = subst (λ (x : ℕ). x ≤ mostKey) es b
 
       pub no-limit : limit < 1 → false ≡ inForm (lookupIn m)
       no-limit h = form-limit-low (lookupIn m) key-there key-most (subst (λ (x : ℕ). x < 1) el h)
@@ -108,7 +110,7 @@ module _ (m ms : List ℕ) (b o : Bool) (n limit f : ℕ) (eb : b ≡ inForm (lo
     next-wait-in z = ap outcomeOf (next-wait (lookupIn m) b eb (gives (lookupIn m) Wait) h ms em o eo t f ef few i ei (subst (λ (x : ℕ). x ≤ i) en z) refl)
 
 -- ---- whom a report is about
-module _ (m own ours id : List ℕ) (b : Bool) (eb : b ≡ inForm (lookupIn m)) (h : not b ≡ false) (t : badPeer own ours id ≡ false) (ms : List ℕ) (n : ℕ)
+module _ (m own ours id : List ℕ) (b : Bool) (eb : b ≡ inForm (lookupIn m)) (h : not b ≡ false) (t : badStep own ours id ≡ false) (ms : List ℕ) (n : ℕ)
     (en : n ≡ lookupIn m .count) (em : ms ≡ marksOf (lookupIn m)) (o : Bool) (eo : o ≡ isOver ms) (w : o ≡ false) (p : List ℕ) (ep : p ≡ sha256 id) (i : ℕ)
     (ei : i ≡ flyerOf p (take n (lookupIn m .candidates))) where
   flyer-in : i ≡ flyerOf p (candidatesOf (lookupIn m))

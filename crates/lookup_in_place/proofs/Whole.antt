@@ -8,10 +8,11 @@ use lib.Dec.{ltb}
 use lib.ListN.{length, getD, take, drop, set, length-drop, length-set, length-append, take-append-drop}
 use lib.Seq.{sets, sets-eq, take-add, take-set-le, drop-set-lt, drop-set-add, getD-set-same, getD-drop, drop-drop, drop-cons, length-take-le}
 use Rattle.octets.specs.Octets.{Bytes}
-use Rattle.lookup.specs.Lookup.{room, idMost, keyMost, padded, withMark, markAt, mark, withCandidates}
+use Rattle.limits.specs.Limits.{mostId, placeSize, mostKey}
+use Rattle.lookup.specs.Lookup.{room, padded, withMark, markAt, mark, withCandidates}
 use Rattle.lookup_candidates.specs.declared.Candidate.{Candidate}
 use Rattle.lookup.specs.Value.{Lookup}
-use Rattle.flat_lookup.specs.FlatLookup.{placeSize, idAt, placeAt, keyAt, targetAt, candidateSize, candidatesAt, flatSize, byteAt, bytesAt, candidateIn, candidatesIn, lookupIn, candidateBytes, candidatesBytes, headBytes, lookupBytes}
+use Rattle.flat_lookup.specs.FlatLookup.{idAt, placeAt, keyAt, targetAt, candidateSize, candidatesAt, flatSize, byteAt, bytesAt, candidateIn, candidatesIn, lookupIn, candidateBytes, candidatesBytes, headBytes, lookupBytes}
 use Rattle.flat_lookup.proofs.Padding.{padded-length, padded-whole}
 use Rattle.flat_lookup.proofs.Writing.{head-length, candidates-long}
 use Rattle.flat_lookup.proofs.Theorems.{candidate-further}
@@ -32,7 +33,7 @@ joined s i n k = sym (take-add n k (drop i s) ∙ ap (λ (t : List ℕ). take n 
 pub candidate-again : (s : List ℕ) → candidateSize ≤ length s → candidateBytes (candidateIn s) ≡ take candidateSize s
 unfolding candidateBytes
 candidate-again s h =
-    ap₂ (λ (x y : List ℕ). byteAt s 0 ∷ byteAt s 1 ∷ (x ++ y)) (again idMost s idAt (omega arith)) (again placeSize s placeAt (omega arith))
+    ap₂ (λ (x y : List ℕ). byteAt s 0 ∷ byteAt s 1 ∷ (x ++ y)) (again mostId s idAt (omega arith)) (again placeSize s placeAt (omega arith))
     ∙ ap (λ (x : List ℕ). byteAt s 0 ∷ byteAt s 1 ∷ x) (joined s 2 64 32)
     ∙ ap (λ (x : List ℕ). byteAt s 0 ∷ x) (sym (ap (take 97) (drop-cons s 1 0 (omega arith))))
     ∙ sym (ap (take 98) (drop-cons s 0 0 (omega arith)))
@@ -63,7 +64,7 @@ unfolding headBytes
 head-again m l b =
     numbers _ _ _ _ (low (byteAt m 0) (byteAt m 1) (b 0)) (high (byteAt m 0) (byteAt m 1) (b 0) (b 1)) (small (byteAt m 2) (b 2)) (small (byteAt m 3) (b 3))
     ∙ ap (λ (x : List ℕ). byteAt m 0 ∷ byteAt m 1 ∷ byteAt m 2 ∷ byteAt m 3 ∷ flagged m ∷ 0 ∷ 0 ∷ 0 ∷ x)
-    (ap₂ (λ (x y : List ℕ). x ++ y) (again keyMost m keyAt (omega arith)) (again placeSize m targetAt (omega arith)) ∙ joined m 8 128 32)
+    (ap₂ (λ (x y : List ℕ). x ++ y) (again mostKey m keyAt (omega arith)) (again placeSize m targetAt (omega arith)) ∙ joined m 8 128 32)
     ∙ ap (λ (x : List ℕ). x ++ ((flagged m ∷ 0 ∷ 0 ∷ 0 ∷ []) ++ take 160 (drop 8 m))) (sym four)
   where
     numbers : (w x y z : ℕ) {w′ x′ y′ z′ : ℕ} → w′ ≡ w → x′ ≡ x → y′ ≡ y → z′ ≡ z → {t : List ℕ}
@@ -112,9 +113,9 @@ front-kept s t hs ht e = front s hs ∙ ap candidateIn e ∙ sym (front t ht)
 
 first-marked : (s : List ℕ) (v : ℕ) → candidateSize ≤ length s → candidateIn (set s 0 v) ≡ withMark v (candidateIn s)
 first-marked s v h =
-    ap₂ (λ (i : List ℕ) (p : List ℕ). record { id = padded idMost i; place = padded placeSize p; mark = byteAt (set s 0 v) 0; len = byteAt (set s 0 v) 1 })
+    ap₂ (λ (i : List ℕ) (p : List ℕ). record { id = padded mostId i; place = padded placeSize p; mark = byteAt (set s 0 v) 0; len = byteAt (set s 0 v) 1 })
     (drop-set-lt 2 s 0 v (omega arith)) (drop-set-lt 66 s 0 v (omega arith))
-    ∙ ap₂ (λ (m n : ℕ). record { id = bytesAt idMost s idAt; place = bytesAt placeSize s placeAt; mark = m; len = n })
+    ∙ ap₂ (λ (m n : ℕ). record { id = bytesAt mostId s idAt; place = bytesAt placeSize s placeAt; mark = m; len = n })
     (getD-set-same s 0 v 0 (omega arith))
     (sym (getD-drop 1 (set s 0 v) 0 0) ∙ ap (λ (x : List ℕ). getD x 0 0) (drop-set-lt 1 s 0 v (omega arith)) ∙ getD-drop 1 s 0 0)
 

@@ -7,10 +7,11 @@ ghost use Prim.Native.Nat.{_+_, _<_, _≤_};
 ghost use lib.ListN.{length, getD, take};
 ghost use lib.Seq.{sets};
 ghost use Rattle.octets.specs.Octets.{part};
+ghost use Rattle.limits.specs.Limits.{mostKey, mostNear};
 ghost use Rattle.place.specs.Place.{nearerTo};
 ghost use Rattle.lookup_marks.specs.Marks.{flying, failed};
 ghost use Rattle.lookup_candidates.specs.Candidates.{markOf, wellMade, flies, liesAt};
-ghost use Rattle.lookup.specs.Lookup.{marksOf, nearestFirst, inForm, mark, ends, settled, nextOf, flyerOf, whomOf, withCandidates, turnAway, known, meet, hear, hearAll, heardIds, heardFrom, nobody, noLookup, begun, keyFits, limitFits, startOf};
+ghost use Rattle.lookup.specs.Lookup.{room, limitMost, marksOf, nearestFirst, inForm, mark, ends, settled, nextOf, flyerOf, whomOf, withCandidates, turnAway, known, meet, hear, hearAll, heardIds, heardFrom, nobody, noLookup, begun, limitFits, startOf};
 ghost use Rattle.lookup.specs.declared.Answer.the-variants.{Refused};
 ghost use Rattle.lookup.specs.Inner.{beyond, rankOf};
 ghost use Rattle.flat_lookup.specs.FlatLookup.{candidateSize, flatSize, lookupIn, candidateBytes, headBytes, lookupBytes, candidateAt};
@@ -35,9 +36,6 @@ use lookup_marks::Ranks;
 use message::Fields;
 use refusal::Refusal;
 
-// The bytes of a place.
-const PLACE: usize = 32;
-
 // What a step answers beside the lookup: the answer and, where the lookup is over, the ranks of the nearest that answered.
 pub struct Outcome {
     pub found: Ranks,
@@ -51,13 +49,13 @@ fn target_in(m: &[u8]) -> &[u8]
     requires { ⌜ flatSize ≤ length (now m) ⌝ }
     ensures { λ r. ⌜ now r ≡ (lookupIn (now (m .entry))) .target ⌝ }
 {
-    let e = TARGET_AT + PLACE;
+    let e = TARGET_AT + limits::PLACE;
     &m[TARGET_AT..e]
 }
 
 // The mark of the candidate of rank i.
 fn mark_at(m: &[u8], i: usize) -> u8
-    requires { ⌜ (flatSize ≤ length (now m)) × (i < 256) ⌝ }
+    requires { ⌜ (flatSize ≤ length (now m)) × (i < room) ⌝ }
     ensures { λ r. ⌜ r ≡ (candidateAt (now (m .entry)) i) .mark ⌝ }
 {
     m[CANDIDATES_AT + i * CANDIDATE]
@@ -65,7 +63,7 @@ fn mark_at(m: &[u8], i: usize) -> u8
 
 // The length of its id.
 fn len_at(m: &[u8], i: usize) -> u8
-    requires { ⌜ (flatSize ≤ length (now m)) × (i < 256) ⌝ }
+    requires { ⌜ (flatSize ≤ length (now m)) × (i < room) ⌝ }
     ensures { λ r. ⌜ r ≡ (candidateAt (now (m .entry)) i) .len ⌝ }
 {
     m[CANDIDATES_AT + i * CANDIDATE + LEN_AT]
@@ -73,11 +71,11 @@ fn len_at(m: &[u8], i: usize) -> u8
 
 // Its place.
 fn place_at(m: &[u8], i: usize) -> &[u8]
-    requires { ⌜ (flatSize ≤ length (now m)) × (i < 256) ⌝ }
+    requires { ⌜ (flatSize ≤ length (now m)) × (i < room) ⌝ }
     ensures { λ r. ⌜ now r ≡ (candidateAt (now (m .entry)) i) .place ⌝ }
 {
     let a = CANDIDATES_AT + i * CANDIDATE + PLACE_AT;
-    let e = a + PLACE;
+    let e = a + limits::PLACE;
     &m[a..e]
 }
 
@@ -85,7 +83,7 @@ fn place_at(m: &[u8], i: usize) -> &[u8]
 
 // Whether the candidate of rank i has a mark and an id of 1 to 64 bytes.
 fn well_made_at(m: &[u8], i: usize) -> bool
-    requires { ⌜ (flatSize ≤ length (now m)) × (i < 256) ⌝ }
+    requires { ⌜ (flatSize ≤ length (now m)) × (i < room) ⌝ }
     ensures { λ r. ⌜ r ≡ wellMade (candidateAt (now (m .entry)) i) ⌝ }
 {
     let mark = mark_at(m, i);
@@ -96,12 +94,12 @@ fn well_made_at(m: &[u8], i: usize) -> bool
     if len < 1 {
         return false;
     }
-    len as usize <= lookup_candidates::ID_MOST
+    len as usize <= limits::MOST_ID
 }
 
 // Whether the candidate after rank i may stand there.
 fn follows_at(m: &[u8], i: usize) -> bool
-    requires { ⌜ (flatSize ≤ length (now m)) × (i + 1 < 256) ⌝ }
+    requires { ⌜ (flatSize ≤ length (now m)) × (i + 1 < room) ⌝ }
     ensures { λ r. ⌜ r ≡ (wellMade (candidateAt (now (m .entry)) (i + 1)) && nearerTo ((lookupIn (now (m .entry))) .target) ((candidateAt (now (m .entry)) i) .place) ((candidateAt (now (m .entry)) (i + 1)) .place)) ⌝ }
 {
     if !well_made_at(m, i + 1) {
@@ -112,7 +110,7 @@ fn follows_at(m: &[u8], i: usize) -> bool
 
 // Whether the first n candidates are well made and stand nearest first.
 fn in_order(m: &[u8], n: usize) -> bool
-    requires { ⌜ (flatSize ≤ length (now m)) × (n ≤ 256) ⌝ }
+    requires { ⌜ (flatSize ≤ length (now m)) × (n ≤ room) ⌝ }
     ensures { λ r. ⌜ r ≡ nearestFirst ((lookupIn (now (m .entry))) .target) (take n ((lookupIn (now (m .entry))) .candidates)) ⌝ }
 {
     if n == 0 {
@@ -142,7 +140,7 @@ fn in_form(m: &[u8]) -> bool
     if size < 1 {
         return false;
     }
-    if size > lookup::KEY_MOST {
+    if size > limits::MOST_KEY {
         return false;
     }
     if limit < 1 {
@@ -160,13 +158,13 @@ fn in_form(m: &[u8]) -> bool
 // ---- answers
 
 // The marks of all candidates, side by side.
-fn marks_in(m: &[u8]) -> [u8; 256]
+fn marks_in(m: &[u8]) -> [u8; lookup::ROOM]
     requires { ⌜ flatSize ≤ length (now m) ⌝ }
     ensures { λ r. ⌜ r ≡ map markOf ((lookupIn (now (m .entry))) .candidates) ⌝ }
 {
-    let mut marks = [0u8; 256];
+    let mut marks = [0u8; lookup::ROOM];
     let mut i: usize = 0;
-    while i < 256 {
+    while i < lookup::ROOM {
         let v = mark_at(m, i);
         marks[i] = v;
         i += 1;
@@ -178,7 +176,7 @@ fn marks_in(m: &[u8]) -> [u8; 256]
 fn give(answer: Answer) -> Outcome
     ensures { λ r. ⌜ r ≡ answers answer ⌝ }
 {
-    let at = [0usize; 20];
+    let at = [0usize; limits::MOST_NEAR];
     let found = Ranks { at, n: 0 };
     Outcome { found, answer }
 }
@@ -204,7 +202,7 @@ fn end(m: &[u8], marks: &[u8]) -> Outcome
 
 // Over or going, after a start, a reply or a failure.
 fn settle(m: &[u8]) -> Outcome
-    requires { ⌜ (flatSize ≤ length (now m)) × ((lookupIn (now m)) .count ≤ 256) ⌝ }
+    requires { ⌜ (flatSize ≤ length (now m)) × ((lookupIn (now m)) .count ≤ room) ⌝ }
     ensures { λ r. ⌜ r ≡ outcomeOf (settled (lookupIn (now (m .entry)))) ⌝ }
 {
     let n = flat_lookup::count_in(m);
@@ -243,7 +241,7 @@ fn next_answer(m: &[u8]) -> Outcome
 
 // Whether the candidate of rank i lies at this place and is in flight.
 fn flies_at(m: &[u8], i: usize, place: &[u8]) -> bool
-    requires { ⌜ (flatSize ≤ length (now m)) × (i < 256) ⌝ }
+    requires { ⌜ (flatSize ≤ length (now m)) × (i < room) ⌝ }
     ensures { λ r. ⌜ r ≡ flies (now (place .entry)) (candidateAt (now (m .entry)) i) ⌝ }
 {
     let mark = mark_at(m, i);
@@ -255,7 +253,7 @@ fn flies_at(m: &[u8], i: usize, place: &[u8]) -> bool
 
 // The rank of the candidate in flight at this place, or n.
 fn flyer(m: &[u8], n: usize, place: &[u8]) -> usize
-    requires { ⌜ (flatSize ≤ length (now m)) × (n ≤ 256) ⌝ }
+    requires { ⌜ (flatSize ≤ length (now m)) × (n ≤ room) ⌝ }
     ensures { λ r. ⌜ r ≡ flyerOf (now (place .entry)) (take n ((lookupIn (now (m .entry))) .candidates)) ⌝ }
 {
     let mut i: usize = 0;
@@ -322,7 +320,7 @@ fn tidy(m: &mut [u8])
 
 // The candidate of rank i gets the mark v.
 fn set_mark(m: &mut [u8], i: usize, v: u8)
-    requires { ⌜ (flatSize ≤ length (now m)) × (i < 256) ⌝ }
+    requires { ⌜ (flatSize ≤ length (now m)) × (i < room) ⌝ }
     ensures { λ _. ⌜ Becomes (mark i v (lookupIn (now (m .entry)))) (now (m .entry)) (now (m .exit)) ⌝ }
 {
     m[CANDIDATES_AT + i * CANDIDATE] = v;
@@ -330,7 +328,7 @@ fn set_mark(m: &mut [u8], i: usize, v: u8)
 
 // The peer of rank i is asked.
 fn ask(m: &mut [u8], i: usize)
-    requires { ⌜ (flatSize ≤ length (now m)) × (i < 256) ⌝ }
+    requires { ⌜ (flatSize ≤ length (now m)) × (i < room) ⌝ }
     ensures { λ _. ⌜ now (m .exit) ≡ sets (now (m .entry)) 0 (lookupBytes (mark i flying (lookupIn (now (m .entry))))) ⌝ }
 {
     set_mark(m, i, lookup_marks::IN_FLIGHT);
@@ -356,12 +354,12 @@ fn asked(a: Answer) -> usize
     ensures { λ r. ⌜ r ≡ askedOf a ⌝ }
 {
     match a {
-        Answer::Refused(_) => 256,
-        Answer::Complete(_) => 256,
-        Answer::CutShort(_) => 256,
-        Answer::Wait => 256,
+        Answer::Refused(_) => lookup::ROOM,
+        Answer::Complete(_) => lookup::ROOM,
+        Answer::CutShort(_) => lookup::ROOM,
+        Answer::Wait => lookup::ROOM,
         Answer::Ask(i) => i,
-        Answer::Going => 256,
+        Answer::Going => lookup::ROOM,
     }
 }
 
@@ -374,7 +372,7 @@ fn keep_next(m: &mut [u8], answer: Answer)
         return;
     }
     let i = asked(answer);
-    if i < 256 {
+    if i < lookup::ROOM {
         ask(m, i);
         return;
     }
@@ -383,7 +381,7 @@ fn keep_next(m: &mut [u8], answer: Answer)
 
 // Over or going, and the bytes tidied.
 fn finish(m: &mut [u8]) -> Outcome
-    requires { ⌜ (flatSize ≤ length (now m)) × ((lookupIn (now m)) .count ≤ 256) ⌝ }
+    requires { ⌜ (flatSize ≤ length (now m)) × ((lookupIn (now m)) .count ≤ room) ⌝ }
     ensures { λ r. ⌜ (r ≡ outcomeOf (settled (lookupIn (now (m .entry))))) × (now (m .exit) ≡ sets (now (m .entry)) 0 (lookupBytes (lookupIn (now (m .entry))))) ⌝ }
 {
     let said = settle(m);
@@ -393,7 +391,7 @@ fn finish(m: &mut [u8]) -> Outcome
 
 // The peer of rank i has failed for good.
 fn fail(m: &mut [u8], i: usize) -> Outcome
-    requires { ⌜ (flatSize ≤ length (now m)) × (i < 256) × ((lookupIn (now m)) .count ≤ 256) ⌝ }
+    requires { ⌜ (flatSize ≤ length (now m)) × (i < room) × ((lookupIn (now m)) .count ≤ room) ⌝ }
     ensures { λ r. ⌜ (r ≡ outcomeOf (settled (mark i failed (lookupIn (now (m .entry)))))) × (now (m .exit) ≡ sets (now (m .entry)) 0 (lookupBytes (mark i failed (lookupIn (now (m .entry)))))) ⌝ }
 {
     set_mark(m, i, lookup_marks::FAILED);
@@ -404,7 +402,7 @@ fn fail(m: &mut [u8], i: usize) -> Outcome
 
 // Whether the candidate of rank i lies at this place.
 fn lies_at(m: &[u8], i: usize, place: &[u8]) -> bool
-    requires { ⌜ (flatSize ≤ length (now m)) × (i < 256) ⌝ }
+    requires { ⌜ (flatSize ≤ length (now m)) × (i < room) ⌝ }
     ensures { λ r. ⌜ r ≡ liesAt (now (place .entry)) (candidateAt (now (m .entry)) i) ⌝ }
 {
     octets::same_bytes(place_at(m, i), place)
@@ -412,7 +410,7 @@ fn lies_at(m: &[u8], i: usize, place: &[u8]) -> bool
 
 // Whether one of the first n candidates does.
 fn is_known(m: &[u8], n: usize, place: &[u8]) -> bool
-    requires { ⌜ (flatSize ≤ length (now m)) × (n ≤ 256) ⌝ }
+    requires { ⌜ (flatSize ≤ length (now m)) × (n ≤ room) ⌝ }
     ensures { λ r. ⌜ r ≡ known (now (place .entry)) (take n ((lookupIn (now (m .entry))) .candidates)) ⌝ }
 {
     let mut i: usize = 0;
@@ -427,7 +425,7 @@ fn is_known(m: &[u8], n: usize, place: &[u8]) -> bool
 
 // Whether the candidate of rank i is no nearer than this place.
 fn is_beyond(m: &[u8], i: usize, place: &[u8]) -> bool
-    requires { ⌜ (flatSize ≤ length (now m)) × (i < 256) ⌝ }
+    requires { ⌜ (flatSize ≤ length (now m)) × (i < room) ⌝ }
     ensures { λ r. ⌜ r ≡ beyond ((lookupIn (now (m .entry))) .target) (now (place .entry)) (candidateAt (now (m .entry)) i) ⌝ }
 {
     !place::nearer(target_in(m), place_at(m, i), place)
@@ -435,7 +433,7 @@ fn is_beyond(m: &[u8], i: usize, place: &[u8]) -> bool
 
 // How many of the first n candidates are nearer than this place, up to the first that isn't.
 fn rank(m: &[u8], n: usize, place: &[u8]) -> usize
-    requires { ⌜ (flatSize ≤ length (now m)) × (n ≤ 256) ⌝ }
+    requires { ⌜ (flatSize ≤ length (now m)) × (n ≤ room) ⌝ }
     ensures { λ r. ⌜ (r ≡ rankOf ((lookupIn (now (m .entry))) .target) (now (place .entry)) (take n ((lookupIn (now (m .entry))) .candidates))) × (r ≤ n) ⌝ }
 {
     let mut i: usize = 0;
@@ -493,7 +491,7 @@ fn turn_away(m: &mut [u8])
 
 // Of n candidates those from rank r on move up, and c gets that rank.
 fn come_in(m: &mut [u8], n: usize, r: usize, c: Candidate)
-    requires { ⌜ (flatSize ≤ length (now m)) × (r ≤ n) × (n < 256) ⌝ }
+    requires { ⌜ (flatSize ≤ length (now m)) × (r ≤ n) × (n < room) ⌝ }
     ensures { λ _. ⌜ Becomes (joined (lookupIn (now (m .entry))) n r c) (now (m .entry)) (now (m .exit)) ⌝ }
 {
     let a = CANDIDATES_AT + r * CANDIDATE;
@@ -505,7 +503,7 @@ fn come_in(m: &mut [u8], n: usize, r: usize, c: Candidate)
 
 // A peer is heard of.
 fn meet_one(m: &mut [u8], c: Candidate)
-    requires { ⌜ (flatSize ≤ length (now m)) × ((lookupIn (now m)) .count ≤ 256) ⌝ }
+    requires { ⌜ (flatSize ≤ length (now m)) × ((lookupIn (now m)) .count ≤ room) ⌝ }
     ensures { λ _. ⌜ Becomes (meet c (lookupIn (now (m .entry)))) (now (m .entry)) (now (m .exit)) ⌝ }
 {
     let n = flat_lookup::count_in(m);
@@ -523,7 +521,7 @@ fn meet_one(m: &mut [u8], c: Candidate)
 
 // The peer with this id is, unless the id is bad or ours.
 fn hear_one(m: &mut [u8], ours: [u8; 32], id: &[u8])
-    requires { ⌜ (flatSize ≤ length (now m)) × ((lookupIn (now m)) .count ≤ 256) ⌝ }
+    requires { ⌜ (flatSize ≤ length (now m)) × ((lookupIn (now m)) .count ≤ room) ⌝ }
     ensures { λ _. ⌜ Becomes (hear ours (now (id .entry)) (lookupIn (now (m .entry)))) (now (m .entry)) (now (m .exit)) ⌝ }
 {
     let c = lookup_candidates::arrival(ours, id);
@@ -535,7 +533,7 @@ fn hear_one(m: &mut [u8], ours: [u8; 32], id: &[u8])
 
 // The first 21 peers that a reply names are heard of, one after another.
 fn hear_all(m: &mut [u8], ours: [u8; 32], body: &[u8])
-    requires { ⌜ (flatSize ≤ length (now m)) × ((lookupIn (now m)) .count ≤ 256) ⌝ }
+    requires { ⌜ (flatSize ≤ length (now m)) × ((lookupIn (now m)) .count ≤ room) ⌝ }
     ensures { λ _. ⌜ Becomes (hearAll ours (heardIds (now (body .entry))) (lookupIn (now (m .entry)))) (now (m .entry)) (now (m .exit)) ⌝ }
 {
     let ids = message::closer_ids(body);
@@ -553,10 +551,10 @@ fn hear_all(m: &mut [u8], ours: [u8; 32], body: &[u8])
 
 // What the lookup becomes by a message from the candidate of rank i.
 fn hear_from(m: &mut [u8], i: usize, ours: [u8; 32], body: &[u8], kind: u64)
-    requires { ⌜ (flatSize ≤ length (now m)) × (i < 256) × ((lookupIn (now m)) .count ≤ 256) ⌝ }
-    ensures { λ _. ⌜ (Becomes (heardFrom ours (now (body .entry)) kind (lookupIn (now (m .entry))) i) (now (m .entry)) (now (m .exit))) × ((lookupIn (now (m .exit))) .count ≤ 256) ⌝ }
+    requires { ⌜ (flatSize ≤ length (now m)) × (i < room) × ((lookupIn (now m)) .count ≤ room) ⌝ }
+    ensures { λ _. ⌜ (Becomes (heardFrom ours (now (body .entry)) kind (lookupIn (now (m .entry))) i) (now (m .entry)) (now (m .exit))) × ((lookupIn (now (m .exit))) .count ≤ room) ⌝ }
 {
-    if kind == lookup::FIND_NODE {
+    if kind == message::FIND_NODE {
         set_mark(m, i, lookup_marks::ANSWERED);
         hear_all(m, ours, body);
         return;
@@ -566,7 +564,7 @@ fn hear_from(m: &mut [u8], i: usize, ours: [u8; 32], body: &[u8], kind: u64)
 
 // A message from the candidate of rank i is heard, and then it is over or not.
 fn hear_out(m: &mut [u8], i: usize, ours: [u8; 32], body: &[u8], kind: u64) -> Outcome
-    requires { ⌜ (flatSize ≤ length (now m)) × (i < 256) × ((lookupIn (now m)) .count ≤ 256) ⌝ }
+    requires { ⌜ (flatSize ≤ length (now m)) × (i < room) × ((lookupIn (now m)) .count ≤ room) ⌝ }
     ensures { λ r. ⌜ (r ≡ outcomeOf (settled (heardFrom ours (now (body .entry)) kind (lookupIn (now (m .entry))) i))) × (now (m .exit) ≡ sets (now (m .entry)) 0 (lookupBytes (heardFrom ours (now (body .entry)) kind (lookupIn (now (m .entry))) i))) ⌝ }
 {
     hear_from(m, i, ours, body, kind);
@@ -576,7 +574,14 @@ fn hear_out(m: &mut [u8], i: usize, ours: [u8; 32], body: &[u8], kind: u64) -> O
 // ---- a lookup begins
 
 // What stands before the candidates of a lookup from which nobody was turned away.
-fn put_head(m: &mut [u8], key: [u8; 128], target: [u8; 32], count: usize, size: usize, limit: usize)
+fn put_head(
+    m: &mut [u8],
+    key: [u8; limits::MOST_KEY],
+    target: [u8; 32],
+    count: usize,
+    size: usize,
+    limit: usize,
+)
     ensures { λ _. ⌜ now (m .exit) ≡ sets (now (m .entry)) 0 (headBytes (opened key target count size limit [])) ⌝ }
 {
     let low = (count % 256) as u8;
@@ -597,8 +602,8 @@ fn put_head(m: &mut [u8], key: [u8; 128], target: [u8; 32], count: usize, size: 
 }
 
 // The contact in the slot at[i] of the table as a candidate, nobody from n on.
-fn member(table: &[u8], at: [usize; 20], n: usize, i: usize) -> Candidate
-    requires { ⌜ (n ≤ 20) × (i < 256) ⌝ }
+fn member(table: &[u8], at: [usize; limits::MOST_NEAR], n: usize, i: usize) -> Candidate
+    requires { ⌜ (n ≤ mostNear) × (i < room) ⌝ }
     ensures { λ r. ⌜ r ≡ getD (membersOf (now (table .entry)) at n) i nobody ⌝ }
 {
     if i < n {
@@ -610,15 +615,15 @@ fn member(table: &[u8], at: [usize; 20], n: usize, i: usize) -> Candidate
 // All of such a lookup: its candidates are the contacts in the first n of these slots, and nobody stands after them.
 fn put_lookup(
     m: &mut [u8],
-    key: [u8; 128],
+    key: [u8; limits::MOST_KEY],
     target: [u8; 32],
     size: usize,
     limit: usize,
     table: &[u8],
-    at: [usize; 20],
+    at: [usize; limits::MOST_NEAR],
     n: usize,
 )
-    requires { ⌜ n ≤ 20 ⌝ }
+    requires { ⌜ n ≤ mostNear ⌝ }
     ensures { λ _. ⌜ now (m .exit) ≡ sets (now (m .entry)) 0 (lookupBytes (opened key target n size limit (membersOf (now (table .entry)) at n))) ⌝ }
 {
     put_head(m, key, target, n, size, limit);
@@ -631,14 +636,14 @@ fn put_lookup(
 
 // A lookup with the nearest of the contacts that aren't doubtful as candidates.
 fn begin(m: &mut [u8], table: &[u8], key: &[u8], limit: usize)
-    requires { ⌜ (flatSize ≤ length (now m)) × (length (now key) ≤ 128) × (limit ≤ 10) ⌝ }
+    requires { ⌜ (flatSize ≤ length (now m)) × (length (now key) ≤ mostKey) × (limit ≤ limitMost) ⌝ }
     ensures { λ _. ⌜ (now (m .exit) ≡ sets (now (m .entry)) 0 (lookupBytes (begun (now (table .entry)) (now (key .entry)) limit))) × (lookupIn (now (m .exit)) ≡ begun (now (table .entry)) (now (key .entry)) limit) ⌝ }
 {
     let target = sha256::hash(key);
     let near = contacts::nearest(table, &target);
     let at = near.at;
     let n = near.n;
-    let mut kept = [0u8; 128];
+    let mut kept = [0u8; limits::MOST_KEY];
     octets::copy(&mut kept, 0, key);
     put_lookup(m, kept, target, key.len(), limit, table, at, n);
 }
@@ -647,21 +652,11 @@ fn begin(m: &mut [u8], table: &[u8], key: &[u8], limit: usize)
 fn refuse(m: &mut [u8], r: Refusal) -> Outcome
     ensures { λ o. ⌜ (o ≡ answers (Refused r)) × (now (m .exit) ≡ sets (now (m .entry)) 0 (lookupBytes noLookup)) ⌝ }
 {
-    let at = [0usize; 20];
-    let key = [0u8; 128];
+    let at = [0usize; limits::MOST_NEAR];
+    let key = [0u8; limits::MOST_KEY];
     let target = [0u8; 32];
     put_lookup(m, key, target, 0, 0, &key, at, 0);
     give(Answer::Refused(r))
-}
-
-// Whether a key has 1 to 128 bytes.
-fn key_fits(key: &[u8]) -> bool
-    ensures { λ r. ⌜ r ≡ keyFits (now (key .entry)) ⌝ }
-{
-    if key.len() < 1 {
-        return false;
-    }
-    key.len() <= lookup::KEY_MOST
 }
 
 // Whether so many requests may be in flight.
@@ -693,7 +688,7 @@ pub fn start(
     if !contacts::in_form(table, &ours) {
         return refuse(m, Refusal::OutOfForm);
     }
-    if !key_fits(key) {
+    if !message::key_fits(key) {
         return refuse(m, Refusal::BreaksRules);
     }
     if !lookup_candidates::id_fits(own) {

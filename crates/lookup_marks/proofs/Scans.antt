@@ -1,7 +1,7 @@
 -- Laws of the scans over marks: one mark more, and the end. Assumes nothing.
 use Prim.Native.Nat.{ℕ, zero, suc, _+_, _-_, _≤_, _<_}
 use mathlib.Core.Path.{_≡_, refl, sym, ap, ap₂, _∙_}
-use mathlib.Core.Bool.{Bool, true, false, not}
+use mathlib.Core.Bool.{Bool, true, false, not, cond}
 use mathlib.Core.List.{List, [], _∷_, _++_}
 use native.Mathlib.Omega.{arith}
 use native.Mathlib.Numerals.{add-one}
@@ -9,9 +9,10 @@ use borrow.Author.Tests.{eq-eqb, ne-eqb}
 use lib.ListN.{length, getD, take, drop, set, replicate, length-drop, drop-of-length-le}
 use lib.Seq.{drop-cons, take-nil, take-all, take-suc, set-at, append-snoc, length-take-le}
 use Rattle.octets.specs.Search.{count, every}
-use Rattle.octets.proofs.Bools.{cond-yes, cond-no, and-on, and-off, not-yes, not-no}
+use Rattle.octets.proofs.Bools.{cond-yes, cond-no, and-on, and-off}
 use Rattle.octets.proofs.Searching.{every-nil, count-yes, count-no}
-use Rattle.lookup_marks.specs.Marks.{idle, flying, answered, failed, wanted, marked, live, twentyOf, isOver, pick, idleOf, flightsOf, sentOf, ranksOf}
+use Rattle.limits.specs.Limits.{mostNear}
+use Rattle.lookup_marks.specs.Marks.{idle, flying, answered, failed, marked, live, twentyOf, isOver, pick, idleOf, flightsOf, sentOf, ranksOf}
 use Rattle.lookup_marks.specs.declared.Ranks.{Ranks}
 
 -- ---- the ranks of those not failed, from rank i on
@@ -39,7 +40,7 @@ take-none left l e = rw e
 unfoldable pub Still : List ℕ → ℕ → ℕ → Bool
 Still ms left i = every (marked answered ms) (take left (live i (drop i ms)))
 
-pub still-start : (ms : List ℕ) → Still ms wanted 0 ≡ isOver ms
+pub still-start : (ms : List ℕ) → Still ms mostNear 0 ≡ isOver ms
 unfolding Still isOver twentyOf
 still-start ms = refl
 
@@ -76,7 +77,7 @@ module _ (ms : List ℕ) (left i : ℕ) (h : i < length ms) where
 unfoldable pub Pick : List ℕ → ℕ → ℕ → ℕ
 Pick ms left i = pick (marked idle ms) (length ms) (take left (live i (drop i ms)))
 
-pub pick-start : (ms : List ℕ) → Pick ms wanted 0 ≡ idleOf ms
+pub pick-start : (ms : List ℕ) → Pick ms mostNear 0 ≡ idleOf ms
 unfolding Pick idleOf twentyOf
 pick-start ms = refl
 
@@ -109,28 +110,33 @@ module _ (ms : List ℕ) (left i : ℕ) (h : i < length ms) where
       ∙ cond-no (marked idle ms i) i _ (ne-eqb (getD ms i 0) idle e)
 
 -- ---- counts
-pub flights-end : (ms : List ℕ) (i : ℕ) → length ms ≤ i → i ≤ length ms → count i (marked flying ms) ≡ flightsOf ms
+module _ (m : ℕ) (ms : List ℕ) (i : ℕ) where
+  pub mark-end : length ms ≤ i → i ≤ length ms → count i (marked m ms) ≡ count (length ms) (marked m ms)
+  mark-end h g = let e : i ≡ length ms = omega arith in rw e
+
+  pub mark-one : getD ms i 0 ≡ m → count (i + 1) (marked m ms) ≡ count i (marked m ms) + 1
+  mark-one e = count-yes (marked m ms) i (eq-eqb (getD ms i 0) m e)
+
+  pub mark-none : (getD ms i 0 ≡ m → ⊥) → count (i + 1) (marked m ms) ≡ count i (marked m ms)
+  mark-none e = count-no (marked m ms) i (ne-eqb (getD ms i 0) m e)
+
+pub flights-are : (ms : List ℕ) {r : ℕ} → r ≡ count (length ms) (marked flying ms) → r ≡ flightsOf ms
 unfolding flightsOf
-flights-end ms i h g = let e : i ≡ length ms = omega arith in rw e
+flights-are ms e = e
 
-pub flies : (ms : List ℕ) (i : ℕ) → getD ms i 0 ≡ flying → count (i + 1) (marked flying ms) ≡ count i (marked flying ms) + 1
-flies ms i e = count-yes (marked flying ms) i (eq-eqb (getD ms i 0) flying e)
+-- a number passes or it doesn't
+both-counts : (p : ℕ → Bool) (n : ℕ) → count n p + count n (λ r. not (p r)) ≡ n
+unfolding count
+both-counts p zero = refl
+both-counts p (suc n) = go (p n) (both-counts p n)
+  where
+    go : (b : Bool) → count n p + count n (λ r. not (p r)) ≡ n → count n p + cond b 1 0 + (count n (λ r. not (p r)) + cond (not b) 1 0) ≡ suc n
+    go true h = omega arith
+    go false h = omega arith
 
-pub flies-not : (ms : List ℕ) (i : ℕ) → (getD ms i 0 ≡ flying → ⊥) → count (i + 1) (marked flying ms) ≡ count i (marked flying ms)
-flies-not ms i e = count-no (marked flying ms) i (ne-eqb (getD ms i 0) flying e)
-
-abbrev pub asked : List ℕ → ℕ → Bool
-asked ms r = not (marked idle ms r)
-
-pub sent-end : (ms : List ℕ) (i : ℕ) → length ms ≤ i → i ≤ length ms → count i (asked ms) ≡ sentOf ms
+pub sent-rest : (ms : List ℕ) {r : ℕ} → r ≡ count (length ms) (marked idle ms) → length ms - r ≡ sentOf ms
 unfolding sentOf
-sent-end ms i h g = let e : i ≡ length ms = omega arith in rw e
-
-pub sent-one : (ms : List ℕ) (i : ℕ) → (getD ms i 0 ≡ idle → ⊥) → count (i + 1) (asked ms) ≡ count i (asked ms) + 1
-sent-one ms i e = count-yes (asked ms) i (not-no (marked idle ms i) (ne-eqb (getD ms i 0) idle e))
-
-pub sent-none : (ms : List ℕ) (i : ℕ) → getD ms i 0 ≡ idle → count (i + 1) (asked ms) ≡ count i (asked ms)
-sent-none ms i e = count-no (asked ms) i (not-yes (marked idle ms i) (eq-eqb (getD ms i 0) idle e))
+sent-rest ms e = omega (arith, both-counts (marked idle ms) (length ms))
 
 abbrev made : List ℕ → ℕ → Ranks
 made a m = record { at = a; n = m }
@@ -138,12 +144,12 @@ made a m = record { at = a; n = m }
 -- ---- the ranks written into an array: the first n of them stand there, and the others are those from rank i on
 pub record Filling (ms at : List ℕ) (n i : ℕ) : Type 0 where
   pub within : i ≤ length ms
-  pub some : n ≤ wanted
+  pub some : n ≤ mostNear
   pub done : n ≤ length (twentyOf ms)
-  pub written : at ≡ take n (twentyOf ms) ++ replicate (wanted - n) 0
-  pub rest : drop n (twentyOf ms) ≡ take (wanted - n) (live i (drop i ms))
+  pub written : at ≡ take n (twentyOf ms) ++ replicate (mostNear - n) 0
+  pub rest : drop n (twentyOf ms) ≡ take (mostNear - n) (live i (drop i ms))
 
-pub fill-start : (ms : List ℕ) → Filling ms (replicate wanted 0) 0 0
+pub fill-start : (ms : List ℕ) → Filling ms (replicate mostNear 0) 0 0
 unfolding twentyOf
 fill-start ms = record { within = omega arith; some = omega arith; done = omega arith; written = refl; rest = refl }
 
@@ -155,25 +161,25 @@ module _ (ms at : List ℕ) (n i : ℕ) (f : Filling ms at n i) where
         some = f .some;
         done = f .done;
         written = f .written;
-        rest = f .rest ∙ ap (take (wanted - n)) (live-failed ms i h e);
+        rest = f .rest ∙ ap (take (mostNear - n)) (live-failed ms i h e);
       }
 
-  next : i < length ms → (n ≡ wanted → ⊥) → (getD ms i 0 ≡ failed → ⊥) → drop n (twentyOf ms) ≡ i ∷ take (wanted - (n + 1)) (live (i + 1) (drop (i + 1) ms))
+  next : i < length ms → (n ≡ mostNear → ⊥) → (getD ms i 0 ≡ failed → ⊥) → drop n (twentyOf ms) ≡ i ∷ take (mostNear - (n + 1)) (live (i + 1) (drop (i + 1) ms))
   next h z e =
-      let q : wanted - n - 1 ≡ wanted - (n + 1) = omega arith in
-      let w : wanted - n ≡ 0 → ⊥ = λ y. omega (arith, f .some) in
-      f .rest ∙ ap (take (wanted - n)) (live-other ms i h e) ∙ take-more (wanted - n) i (live (i + 1) (drop (i + 1) ms)) w ∙ rw q
+      let q : mostNear - n - 1 ≡ mostNear - (n + 1) = omega arith in
+      let w : mostNear - n ≡ 0 → ⊥ = λ y. omega (arith, f .some) in
+      f .rest ∙ ap (take (mostNear - n)) (live-other ms i h e) ∙ take-more (mostNear - n) i (live (i + 1) (drop (i + 1) ms)) w ∙ rw q
 
-  pub fill-one : i < length ms → (n ≡ wanted → ⊥) → (getD ms i 0 ≡ failed → ⊥) → Filling ms (set at n i) (n + 1) (i + 1)
+  pub fill-one : i < length ms → (n ≡ mostNear → ⊥) → (getD ms i 0 ≡ failed → ⊥) → Filling ms (set at n i) (n + 1) (i + 1)
   fill-one h z e = go (next h z e)
     where
-      go : drop n (twentyOf ms) ≡ i ∷ take (wanted - (n + 1)) (live (i + 1) (drop (i + 1) ms)) → Filling ms (set at n i) (n + 1) (i + 1)
+      go : drop n (twentyOf ms) ≡ i ∷ take (mostNear - (n + 1)) (live (i + 1) (drop (i + 1) ms)) → Filling ms (set at n i) (n + 1) (i + 1)
       go d =
-          let k : length (twentyOf ms) - n ≡ suc (length (take (wanted - (n + 1)) (live (i + 1) (drop (i + 1) ms)))) = sym (length-drop n (twentyOf ms)) ∙ ap length d in
+          let k : length (twentyOf ms) - n ≡ suc (length (take (mostNear - (n + 1)) (live (i + 1) (drop (i + 1) ms)))) = sym (length-drop n (twentyOf ms)) ∙ ap length d in
           let l : n < length (twentyOf ms) = omega arith in
-          let c : getD (twentyOf ms) n 0 ∷ drop (suc n) (twentyOf ms) ≡ i ∷ take (wanted - (n + 1)) (live (i + 1) (drop (i + 1) ms)) = sym (drop-cons (twentyOf ms) n 0 l) ∙ d in
+          let c : getD (twentyOf ms) n 0 ∷ drop (suc n) (twentyOf ms) ≡ i ∷ take (mostNear - (n + 1)) (live (i + 1) (drop (i + 1) ms)) = sym (drop-cons (twentyOf ms) n 0 l) ∙ d in
           let hd : getD (twentyOf ms) n 0 ≡ i = cc in
-          let tl : drop (suc n) (twentyOf ms) ≡ take (wanted - (n + 1)) (live (i + 1) (drop (i + 1) ms)) = cc in
+          let tl : drop (suc n) (twentyOf ms) ≡ take (mostNear - (n + 1)) (live (i + 1) (drop (i + 1) ms)) = cc in
           record {
             within = omega arith;
             some = omega (arith, f .some);
@@ -182,27 +188,27 @@ module _ (ms at : List ℕ) (n i : ℕ) (f : Filling ms at n i) where
             rest = rw (add-one n) (rw (add-one n) at tl);
           }
         where
-          room : wanted - n ≡ suc (wanted - (n + 1))
+          room : mostNear - n ≡ suc (mostNear - (n + 1))
           room = omega (arith, f .some)
 
-          stored : n < length (twentyOf ms) → getD (twentyOf ms) n 0 ≡ i → set at n i ≡ take (n + 1) (twentyOf ms) ++ replicate (wanted - (n + 1)) 0
+          stored : n < length (twentyOf ms) → getD (twentyOf ms) n 0 ≡ i → set at n i ≡ take (n + 1) (twentyOf ms) ++ replicate (mostNear - (n + 1)) 0
           stored l hd =
               ap (λ (x : List ℕ). set x n i) (f .written ∙ ap (λ (m : ℕ). take n (twentyOf ms) ++ replicate m 0) room)
-              ∙ set-at (take n (twentyOf ms)) 0 (replicate (wanted - (n + 1)) 0) i n (length-take-le n (twentyOf ms) (omega arith))
-              ∙ sym (ap (λ (x : List ℕ). x ++ replicate (wanted - (n + 1)) 0) (ap (λ (m : ℕ). take m (twentyOf ms)) (add-one n) ∙ take-suc (twentyOf ms) n 0 l ∙ ap (λ (x : ℕ). take n (twentyOf ms) ++ (x ∷ [])) hd)
-              ∙ append-snoc (take n (twentyOf ms)) i (replicate (wanted - (n + 1)) 0))
+              ∙ set-at (take n (twentyOf ms)) 0 (replicate (mostNear - (n + 1)) 0) i n (length-take-le n (twentyOf ms) (omega arith))
+              ∙ sym (ap (λ (x : List ℕ). x ++ replicate (mostNear - (n + 1)) 0) (ap (λ (m : ℕ). take m (twentyOf ms)) (add-one n) ∙ take-suc (twentyOf ms) n 0 l ∙ ap (λ (x : ℕ). take n (twentyOf ms) ++ (x ∷ [])) hd)
+              ∙ append-snoc (take n (twentyOf ms)) i (replicate (mostNear - (n + 1)) 0))
 
   whole : drop n (twentyOf ms) ≡ [] → made at n ≡ ranksOf (twentyOf ms)
   whole d =
       let k : length (twentyOf ms) - n ≡ 0 = sym (length-drop n (twentyOf ms)) ∙ ap length d in
       let e : n ≡ length (twentyOf ms) = omega (arith, f .done) in
       let t : take n (twentyOf ms) ≡ twentyOf ms = take-all n (twentyOf ms) (omega arith) in
-      let w : at ≡ twentyOf ms ++ replicate (wanted - length (twentyOf ms)) 0 =
-      f .written ∙ ap (λ (x : List ℕ). x ++ replicate (wanted - n) 0) t ∙ ap (λ (m : ℕ). twentyOf ms ++ replicate (wanted - m) 0) e in
+      let w : at ≡ twentyOf ms ++ replicate (mostNear - length (twentyOf ms)) 0 =
+      f .written ∙ ap (λ (x : List ℕ). x ++ replicate (mostNear - n) 0) t ∙ ap (λ (m : ℕ). twentyOf ms ++ replicate (mostNear - m) 0) e in
       ap₂ made w e
 
-  pub fill-full : n ≡ wanted → made at n ≡ ranksOf (twentyOf ms)
-  fill-full e = let z : wanted - n ≡ 0 = omega arith in whole (f .rest ∙ take-none (wanted - n) (live i (drop i ms)) z)
+  pub fill-full : n ≡ mostNear → made at n ≡ ranksOf (twentyOf ms)
+  fill-full e = let z : mostNear - n ≡ 0 = omega arith in whole (f .rest ∙ take-none (mostNear - n) (live i (drop i ms)) z)
 
   pub fill-end : length ms ≤ i → made at n ≡ ranksOf (twentyOf ms)
-  fill-end h = whole (f .rest ∙ ap (take (wanted - n)) (live-end i ms h) ∙ take-nil (wanted - n))
+  fill-end h = whole (f .rest ∙ ap (take (mostNear - n)) (live-end i ms h) ∙ take-nil (mostNear - n))

@@ -5,6 +5,7 @@ use mathlib.Core.List.{List, [], _∷_, _++_}
 use lib.ListN.{length, getD, take, replicate}
 use lib.Dec.{eqb}
 use Rattle.octets.specs.Search.{count, every}
+use Rattle.limits.specs.Limits.{mostNear}
 use Rattle.lookup_marks.specs.declared.Ranks.{Ranks}
 
 -- what a mark says of its candidate
@@ -20,10 +21,6 @@ answered = 2
 abbrev pub failed : ℕ
 failed = 3
 
--- "the 20 nearest"
-abbrev pub wanted : ℕ
-wanted = 20
-
 -- the candidate of rank r has the mark m
 abbrev pub marked : ℕ → List ℕ → ℕ → Bool
 marked m ms r = eqb (getD ms r 0) m
@@ -35,7 +32,7 @@ live r (m ∷ ms) = cond (eqb m failed) (live (suc r) ms) (r ∷ live (suc r) ms
 
 -- "the 20 nearest not failed", by rank, or all where there are fewer
 unfoldable pub twentyOf : List ℕ → List ℕ
-twentyOf ms = take wanted (live 0 ms)
+twentyOf ms = take mostNear (live 0 ms)
 
 -- "over, if all of the 20 nearest not failed have answered"
 unfoldable pub isOver : List ℕ → Bool
@@ -60,4 +57,4 @@ sentOf ms = count (length ms) (λ r. not (marked idle ms r))
 
 -- up to twenty ranks in an array, zeros after them
 abbrev pub ranksOf : List ℕ → Ranks
-ranksOf l = record { at = l ++ replicate (wanted - length l) 0; n = length l }
+ranksOf l = record { at = l ++ replicate (mostNear - length l) 0; n = length l }

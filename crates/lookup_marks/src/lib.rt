@@ -1,6 +1,8 @@
 // The marks of a lookup's candidates, a byte each, nearest first: what is over, and whom to ask. Every function takes any bytes.
 ghost use mathlib.Core.Path.{_≡_};
-ghost use Rattle.lookup_marks.specs.Marks.{isOver, idleOf, flightsOf, sentOf, twentyOf, ranksOf};
+ghost use lib.ListN.{length};
+ghost use Rattle.octets.specs.Search.{count};
+ghost use Rattle.lookup_marks.specs.Marks.{marked, isOver, idleOf, flightsOf, sentOf, twentyOf, ranksOf};
 
 pub const IDLE: u8 = 0;
 
@@ -10,12 +12,9 @@ pub const ANSWERED: u8 = 2;
 
 pub const FAILED: u8 = 3;
 
-// How many of the nearest a lookup wants answers from.
-pub const WANTED: usize = 20;
-
 // Up to twenty ranks, in order, zeros after them.
 pub struct Ranks {
-    pub at: [usize; 20],
+    pub at: [usize; limits::MOST_NEAR],
     pub n: usize,
 }
 
@@ -23,7 +22,7 @@ pub struct Ranks {
 pub fn over(marks: &[u8]) -> bool
     ensures { λ r. ⌜ r ≡ isOver (now (marks .entry)) ⌝ }
 {
-    let mut left: usize = WANTED;
+    let mut left: usize = limits::MOST_NEAR;
     let mut i: usize = 0;
     while i < marks.len() {
         if left == 0 {
@@ -47,7 +46,7 @@ pub fn idle(marks: &[u8]) -> usize
     ensures { λ r. ⌜ r ≡ idleOf (now (marks .entry)) ⌝ }
 {
     let n = marks.len();
-    let mut left: usize = WANTED;
+    let mut left: usize = limits::MOST_NEAR;
     let mut i: usize = 0;
     while i < n {
         if left == 0 {
@@ -66,49 +65,46 @@ pub fn idle(marks: &[u8]) -> usize
     n
 }
 
-// How many are in flight.
-pub fn in_flight(marks: &[u8]) -> usize
-    ensures { λ r. ⌜ r ≡ flightsOf (now (marks .entry)) ⌝ }
+// How many have this mark.
+fn with_mark(marks: &[u8], mark: u8) -> usize
+    ensures { λ r. ⌜ r ≡ count (length (now (marks .entry))) (marked mark (now (marks .entry))) ⌝ }
 {
     let mut n: usize = 0;
     let mut i: usize = 0;
     while i < marks.len() {
         let m = marks[i];
         i += 1;
-        if m != IN_FLIGHT {
+        if m != mark {
             continue;
         }
         n += 1;
     }
     n
+}
+
+// How many are in flight.
+pub fn in_flight(marks: &[u8]) -> usize
+    ensures { λ r. ⌜ r ≡ flightsOf (now (marks .entry)) ⌝ }
+{
+    with_mark(marks, IN_FLIGHT)
 }
 
 // How many are no longer idle: the requests sent.
 pub fn sent(marks: &[u8]) -> usize
     ensures { λ r. ⌜ r ≡ sentOf (now (marks .entry)) ⌝ }
 {
-    let mut n: usize = 0;
-    let mut i: usize = 0;
-    while i < marks.len() {
-        let m = marks[i];
-        i += 1;
-        if m == IDLE {
-            continue;
-        }
-        n += 1;
-    }
-    n
+    marks.len() - with_mark(marks, IDLE)
 }
 
 // The ranks of the 20 nearest that have not failed.
 pub fn twenty(marks: &[u8]) -> Ranks
     ensures { λ r. ⌜ r ≡ ranksOf (twentyOf (now (marks .entry))) ⌝ }
 {
-    let mut at = [0usize; 20];
+    let mut at = [0usize; limits::MOST_NEAR];
     let mut n: usize = 0;
     let mut i: usize = 0;
     while i < marks.len() {
-        if n == WANTED {
+        if n == limits::MOST_NEAR {
             return Ranks { at, n };
         }
         let m = marks[i];

@@ -18,7 +18,7 @@ use Rattle.lookup_marks.specs.declared.Ranks.{Ranks}
 use Rattle.parts.specs.Parts.{isView}
 use Rattle.parts.proofs.Own.{read-view}
 use Rattle.sha256.specs.Sha256.{sha256}
-use Rattle.lookup.specs.Lookup.{room, candidatesOf, markOf, marksOf, inForm, mark, gives, refuses, ends, settled, nextOf, badPeer, flyerOf, whomOf, reported, failureOf, heardFrom, replyOf}
+use Rattle.lookup.specs.Lookup.{room, candidatesOf, markOf, marksOf, inForm, mark, gives, refuses, ends, settled, nextOf, badStep, flyerOf, whomOf, reported, failureOf, heardFrom, replyOf}
 use Rattle.lookup.specs.Value.{Lookup, Step}
 use Rattle.lookup.specs.declared.Answer.{Answer}
 use Rattle.lookup.specs.declared.Answer.the-variants.{Refused, Complete, CutShort, Wait, Ask, Going}
@@ -151,7 +151,7 @@ whom-above : (l : Lookup) (own ours id : List ℕ) → inForm l ≡ true → Abo
 unfolding whomOf
 whom-above l own ours id f =
     cond-ind AboutAbove (not (inForm l)) _ _ (passes (inForm l) f)
-    (λ a. cond-ind AboutAbove (badPeer own ours id) _ _ (λ e. omega arith)
+    (λ a. cond-ind AboutAbove (badStep own ours id) _ _ (λ e. omega arith)
     (λ b. cond-ind AboutAbove (isOver (marksOf l)) _ _ (λ e. omega arith)
     (λ o. cond-ind AboutAbove (leb (l .count) (flyerOf (sha256 id) (candidatesOf l))) _ _ (λ e. omega arith) (λ e. tt))))
 

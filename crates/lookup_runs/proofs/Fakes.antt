@@ -9,17 +9,18 @@ use lib.Dec.{eqb, leb, ltb}
 use lib.ListN.{length, getD, take, length-take}
 use borrow.Author.Tests.{lt-ltb, lt-leb, eq-eqb}
 use Rattle.octets.specs.Octets.{same}
-use Rattle.octets.specs.Search.{every}
+use Rattle.octets.specs.Search.{every, firstIn, anyIn}
 use Rattle.octets.proofs.Bools.{cond-yes, cond-no, and-i, and-off, and-fails, or-l, or-fails, not-both, not-yes, not-no}
 use Rattle.octets.proofs.Strings.{same-yes, same-no, same-refl}
+use Rattle.limits.specs.Limits.{mostNear}
 use Rattle.place.specs.Place.{distance}
 use Rattle.sha256.specs.Sha256.{sha256}
 use Rattle.contacts.specs.Near.{nearestSlots}
 use Rattle.message.specs.declared.Fields.{Fields}
 use Rattle.parts.specs.Parts.{isView}
-use Rattle.lookup_marks.specs.Marks.{idle, flying, answered, failed, wanted, marked, live, twentyOf, isOver, pick, idleOf, flightsOf, sentOf, ranksOf}
-use Rattle.lookup.specs.Lists.{firstIn, anyIn}
-use Rattle.lookup.specs.Lookup.{candidatesOf, markOf, marksOf, inForm, put, withMark, withCandidates, markAt, mark, gives, ends, settled, nextOf, known, liesAt, flies, flyerOf, badPeer, whomOf, reported, nobody, contactAt, firstOnes, begun, findNode, heardIds, heardFrom, hearAll, startOf}
+use Rattle.lookup_marks.specs.Marks.{idle, flying, answered, failed, marked, live, twentyOf, isOver, pick, idleOf, flightsOf, sentOf, ranksOf}
+use Rattle.message.specs.Kinds.{findNode}
+use Rattle.lookup.specs.Lookup.{candidatesOf, markOf, marksOf, inForm, put, withMark, withCandidates, markAt, mark, gives, ends, settled, nextOf, known, liesAt, flies, flyerOf, badStep, whomOf, reported, nobody, contactAt, firstOnes, begun, heardIds, heardFrom, hearAll, startOf}
 use Rattle.lookup_candidates.specs.declared.Candidate.{Candidate}
 use Rattle.lookup.specs.Value.{Lookup, Step}
 use Rattle.lookup.specs.declared.Answer.{Answer}
@@ -56,11 +57,11 @@ flyer-first : (p : List ℕ) (c : Candidate) (rest : List Candidate) → same (c
 unfolding firstIn flies
 flyer-first p c rest e = cond-yes (same (c .place) p) 0 (suc (firstIn (flies p) rest)) e
 
-about-first : (l : Lookup) (own ours id : List ℕ) (c : Candidate) (rest : List Candidate) → inForm l ≡ true → badPeer own ours id ≡ false → isOver (marksOf l) ≡ false
+about-first : (l : Lookup) (own ours id : List ℕ) (c : Candidate) (rest : List Candidate) → inForm l ≡ true → badStep own ours id ≡ false → isOver (marksOf l) ≡ false
     → candidatesOf l ≡ withMark flying c ∷ rest → sha256 id ≡ c .place → 0 < l .count → whomOf l own ours id ≡ At 0
 unfolding whomOf
 about-first l own ours id c rest f p o cs at h =
-    cond-no (not (inForm l)) _ _ (not-yes (inForm l) f) ∙ cond-no (badPeer own ours id) _ _ p ∙ cond-no (isOver (marksOf l)) _ _ o
+    cond-no (not (inForm l)) _ _ (not-yes (inForm l) f) ∙ cond-no (badStep own ours id) _ _ p ∙ cond-no (isOver (marksOf l)) _ _ o
     ∙ cond-no (leb (l .count) (flyerOf (sha256 id) (candidatesOf l))) _ _ (ap (leb (l .count)) first ∙ lt-leb (l .count) 0 h) ∙ ap At first
   where
     first : flyerOf (sha256 id) (candidatesOf l) ≡ 0
@@ -70,7 +71,7 @@ about-first l own ours id c rest f p o cs at h =
 over-two : (m : ℕ) (ms : List ℕ) → eqb m failed ≡ false → eqb m answered ≡ false → isOver (m ∷ ms) ≡ false
 unfolding isOver twentyOf live every
 over-two m ms z y =
-    ap (λ (b : Bool). every (marked answered (m ∷ ms)) (take wanted (cond b (live 1 ms) (0 ∷ live 1 ms)))) z ∙ and-off (eqb m answered) _ y
+    ap (λ (b : Bool). every (marked answered (m ∷ ms)) (take mostNear (cond b (live 1 ms) (0 ∷ live 1 ms)))) z ∙ and-off (eqb m answered) _ y
 
 idle-first : (ms : List ℕ) → idleOf (idle ∷ ms) ≡ 0
 unfolding idleOf pick twentyOf live
@@ -105,7 +106,7 @@ next-beyond x c d rest r = r .0 .0
 
 -- ---- a start with two contacts
 module _ (t own ours key : List ℕ) (limit i j : ℕ) (js id : List ℕ) (st : Started t own ours key limit) (two : nearestSlots t (sha256 key) ≡ i ∷ j ∷ js)
-    (at : sha256 id ≡ contactAt t i .place) (good : badPeer own ours id ≡ false) where
+    (at : sha256 id ≡ contactAt t i .place) (good : badStep own ours id ≡ false) where
   abbrev s : Step
   s = startOf t own ours key limit
 
@@ -213,7 +214,7 @@ module _ (t own ours key : List ℕ) (limit i j : ℕ) (js id : List ℕ) (st : 
   none-left : twentyOf (marksOf l2) ≡ []
   unfolding twentyOf
   none-left =
-      ap (λ (cs : List Candidate). take wanted (live 0 (map markOf cs))) (take-failed (l1 .count) (l1 .candidates)) ∙ ap (take wanted) (none-live 0 (candidatesOf l1))
+      ap (λ (cs : List Candidate). take mostNear (live 0 (map markOf cs))) (take-failed (l1 .count) (l1 .candidates)) ∙ ap (take mostNear) (none-live 0 (candidatesOf l1))
 
   over2 : isOver (marksOf l2) ≡ true
   unfolding isOver every

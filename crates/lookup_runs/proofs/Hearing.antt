@@ -13,8 +13,9 @@ use Rattle.octets.proofs.Strings.{same-eq, same-refl}
 use Rattle.sha256.specs.Sha256.{sha256}
 use Rattle.message.specs.declared.Fields.{Fields}
 use Rattle.lookup_marks.specs.Marks.{flying, answered, failed}
-use Rattle.lookup.specs.Lists.{anyIn}
-use Rattle.lookup.specs.Lookup.{room, candidatesOf, turnAway, put, mark, idFits, fresh, liesAt, known, enter, meet, hear, hearAll, findNode, heardIds}
+use Rattle.octets.specs.Search.{anyIn}
+use Rattle.message.specs.Kinds.{findNode}
+use Rattle.lookup.specs.Lookup.{room, candidatesOf, turnAway, put, mark, idFits, fresh, liesAt, known, enter, meet, hear, hearAll, heardIds}
 use Rattle.lookup.specs.Value.{Lookup, Step}
 use Rattle.lookup_runs.specs.Runs.{accepted, Call, goReply, step, outcome}
 use Rattle.lookup_runs.specs.History.{history, tells, meansPeer, namedIn}

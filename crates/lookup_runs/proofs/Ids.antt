@@ -11,6 +11,8 @@ use borrow.Author.Tests.{leb-true}
 use Rattle.octets.specs.Octets.{Bytes, same}
 use Rattle.octets.proofs.Bools.{and-r, and-i, either, or-l, or-r, or-fails, not-both, not-yes, not-no}
 use Rattle.octets.proofs.Strings.{same-yes}
+use Rattle.limits.specs.Limits.{mostId}
+use Rattle.peer.proofs.Meaning.{fits-most}
 use Rattle.sha256.specs.Sha256.{sha256}
 use Rattle.sha256.proofs.Laws.{length-sha256}
 use Rattle.contacts.specs.Table.{slot, place}
@@ -20,8 +22,8 @@ use Rattle.contacts.specs.Near.{nearestSlots}
 use Rattle.contact_form.proofs.EntryFacts.{entry-id-most}
 use Rattle.contacts.proofs.TwentyNearest.{nearest-held}
 use Rattle.lookup_marks.specs.Marks.{flying, answered, failed}
-use Rattle.lookup.specs.Lists.{anyIn}
-use Rattle.lookup.specs.Lookup.{idMost, candidatesOf, mark, idFits, fresh, heardIds, contactAt, firstOnes, begun}
+use Rattle.octets.specs.Search.{anyIn}
+use Rattle.lookup.specs.Lookup.{candidatesOf, mark, idFits, fresh, heardIds, contactAt, firstOnes, begun}
 use Rattle.lookup_candidates.specs.declared.Candidate.{Candidate}
 use Rattle.lookup.specs.Value.{Lookup, Step}
 use Rattle.lookup_runs.specs.Runs.{Call, step, outcome}
@@ -50,7 +52,7 @@ module _ (t key : List ℕ) where
   fresh-own id f =
       not-yes (hasOwnId t key (fresh id))
       (or-l (same (sha256 (idOf (fresh id))) (sha256 id)) _
-      (same-yes (sha256 (idOf (fresh id))) (sha256 id) (ap sha256 (padded-part idMost id (leb-true (length id) idMost (and-r (leb 1 (length id)) _ f))))))
+      (same-yes (sha256 (idOf (fresh id))) (sha256 id) (ap sha256 (padded-part mostId id (fits-most id f)))))
 
   step-own : (c : Call) (l : Lookup) → Sound l → Stranger (step c l .lookup) ≡ Stranger l
   step-own c l s = go (moved c l (s .long))
@@ -86,7 +88,7 @@ module _ (t key : List ℕ) where
         not-yes (hasOwnId t key c)
         (or-r (same (sha256 (idOf c)) (c .place)) _
         (at-any (λ k. same (entryId (slot t k)) (idOf c) && same (place (slot t k)) (c .place)) (nearestSlots t (sha256 key)) i h
-        (and-i (same (entryId (slot t j)) (idOf c)) _ (same-yes (entryId (slot t j)) (idOf c) (sym (padded-part idMost (entryId (slot t j)) (entry-id-most (slot t j)))))
+        (and-i (same (entryId (slot t j)) (idOf c)) _ (same-yes (entryId (slot t j)) (idOf c) (sym (padded-part mostId (entryId (slot t j)) (entry-id-most (slot t j)))))
         (same-yes (place (slot t j)) (c .place)
         (sym (place-is t ours (sha256 key) bytes table (length-sha256 key) j (nearest-held t (sha256 key) i h)))))))
       where

@@ -12,7 +12,7 @@ use Rattle.octets.proofs.Bools.{cond-ind, and-l, and-r, or-off}
 use Rattle.octets.proofs.Strings.{same-eq}
 use Rattle.place.specs.Place.{nearerTo}
 use Rattle.lookup_marks.specs.Marks.{idle, flying, marked, twentyOf, pick, idleOf}
-use Rattle.lookup.specs.Lists.{firstIn, anyIn}
+use Rattle.octets.specs.Search.{firstIn, anyIn}
 use Rattle.lookup.specs.Lookup.{candidatesOf, markOf, put, withMark, markAt, mark, flies, flyerOf, enter, nobody}
 use Rattle.lookup_candidates.specs.declared.Candidate.{Candidate}
 use Rattle.lookup.specs.Value.{Lookup}

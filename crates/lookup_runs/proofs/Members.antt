@@ -6,9 +6,8 @@ use mathlib.Core.Bool.{Bool, true, false}
 use mathlib.Core.List.{List, [], _∷_}
 use native.Mathlib.Omega.{arith}
 use lib.ListN.{length, getD, take}
-use Rattle.octets.specs.Search.{every}
+use Rattle.octets.specs.Search.{every, anyIn}
 use Rattle.octets.proofs.Bools.{and-l, and-r, or-e, or-l, or-r, not-both}
-use Rattle.lookup.specs.Lists.{anyIn}
 use Rattle.lookup.specs.Lookup.{nobody}
 use Rattle.lookup_candidates.specs.declared.Candidate.{Candidate}
 

@@ -15,7 +15,8 @@ use Rattle.refusal.specs.declared.Refusal.the-variants.{OutOfForm}
 use Rattle.message.specs.declared.Fields.{Fields}
 use Rattle.lookup_marks.specs.Marks.{idle, flying, answered, failed, isOver, idleOf, flightsOf}
 use Rattle.parts.specs.Parts.{isView}
-use Rattle.lookup.specs.Lookup.{candidatesOf, marksOf, inForm, mark, gives, refuses, ends, settled, nextOf, badPeer, flyerOf, whomOf, reported, failureOf, hearAll, findNode, heardIds, heardFrom, replyOf, nobody}
+use Rattle.message.specs.Kinds.{findNode}
+use Rattle.lookup.specs.Lookup.{candidatesOf, marksOf, inForm, mark, gives, refuses, ends, settled, nextOf, badStep, flyerOf, whomOf, reported, failureOf, hearAll, heardIds, heardFrom, replyOf, nobody}
 use Rattle.lookup.specs.Value.{Lookup, Step}
 use Rattle.lookup.specs.declared.Answer.{Answer}
 use Rattle.lookup.specs.declared.Answer.the-variants.{Refused, Complete, CutShort, Wait, Ask, Going}
@@ -114,7 +115,7 @@ about : (l : Lookup) (own ours id : List ℕ) → length (l .candidates) ≡ 256
 unfolding whomOf
 about l own ours id hl =
     cond-ind (About l id) (not (inForm l)) _ _ (λ e. tt)
-    (λ f. cond-ind (About l id) (badPeer own ours id) _ _ (λ e. tt)
+    (λ f. cond-ind (About l id) (badStep own ours id) _ _ (λ e. tt)
     (λ b. cond-ind (About l id) (isOver (marksOf l)) _ _ (λ e. tt)
     (λ o. cond-ind (About l id) (leb (l .count) (flyerOf (sha256 id) (candidatesOf l))) _ _ (λ e. tt) (λ e. found f o e))))
   where

@@ -10,8 +10,9 @@ use lib.ListN.{length, getD, take, length-take, length-map}
 use lib.Seq.{take-append-seam, getD-take}
 use Rattle.octets.specs.Search.{every}
 use Rattle.octets.proofs.Bools.{cond-ind, cond-ap, not-both}
+use Rattle.limits.specs.Limits.{mostNear}
 use Rattle.place.specs.Place.{distance}
-use Rattle.lookup_marks.specs.Marks.{answered, failed, wanted, marked, live, twentyOf, isOver, ranksOf}
+use Rattle.lookup_marks.specs.Marks.{answered, failed, marked, live, twentyOf, isOver, ranksOf}
 use Rattle.lookup.specs.Lookup.{markOf, nobody, nearestFirst}
 use Rattle.lookup_candidates.specs.declared.Candidate.{Candidate}
 use Rattle.lookup_runs.specs.History.{TwentyNearest}
@@ -63,7 +64,7 @@ map-map f (x ∷ l) = ap (λ (r : List (List ℕ)). f x .place ∷ r) (map-map f
 
 -- the first twenty
 abbrev pub twenty : List Candidate → List Candidate
-twenty cs = take wanted (left cs)
+twenty cs = take mostNear (left cs)
 
 zero-on : (n : ℕ) → 0 + n ≡ n
 zero-on n = omega arith
@@ -71,8 +72,8 @@ zero-on n = omega arith
 twenty-is : (cs : List Candidate) → map (λ r. getD cs r nobody) (twentyOf (map markOf cs)) ≡ twenty cs
 unfolding twentyOf
 twenty-is cs =
-    map-take (λ r. getD cs r nobody) wanted (live 0 (map markOf cs))
-    ∙ ap (take wanted) (live-left (λ r. getD cs r nobody) 0 cs (λ i h. ap (λ (n : ℕ). getD cs n nobody) (zero-on i)))
+    map-take (λ r. getD cs r nobody) mostNear (live 0 (map markOf cs))
+    ∙ ap (take mostNear) (live-left (λ r. getD cs r nobody) 0 cs (λ i h. ap (λ (n : ℕ). getD cs n nobody) (zero-on i)))
 
 -- their places, as they are found
 pub found-places : (cs : List Candidate) → map (λ r. getD cs r nobody .place) (take (ranksOf (twentyOf (map markOf cs)) .n) (ranksOf (twentyOf (map markOf cs)) .at)) ≡ map placeOf (twenty cs)
@@ -198,16 +199,16 @@ module _ (t : List ℕ) where
     pub twenty-nearest : TwentyNearest passes t (map placeOf (twenty cs))
     twenty-nearest =
         record {
-          few = omega (arith, size, length-take wanted (left cs));
-          pass = λ i h. let m = left-in cs (take-in wanted (left cs) (at-in (twenty cs) i (omega (arith, size)))) in ap passes (place-at (twenty cs) i (omega (arith, size))) ∙ yes (getD (twenty cs) i nobody) (m .0) (m .1);
+          few = omega (arith, size, length-take mostNear (left cs));
+          pass = λ i h. let m = left-in cs (take-in mostNear (left cs) (at-in (twenty cs) i (omega (arith, size)))) in ap passes (place-at (twenty cs) i (omega (arith, size))) ∙ yes (getD (twenty cs) i nobody) (m .0) (m .1);
           order = λ i j h g. subst (λ (p : List ℕ). distance p t < distance (getD (map placeOf (twenty cs)) j []) t) (sym (place-at (twenty cs) i (omega (arith, size))))
-              (subst (λ (p : List ℕ). dist t (getD (twenty cs) i nobody) < distance p t) (sym (place-at (twenty cs) j (omega (arith, size)))) (rising-take wanted (left cs) up i j h (omega (arith, size))));
+              (subst (λ (p : List ℕ). dist t (getD (twenty cs) i nobody) < distance p t) (sym (place-at (twenty cs) j (omega (arith, size)))) (rising-take mostNear (left cs) up i j h (omega (arith, size))));
           rest = λ p h. found p (only p h);
         }
       where
         found : (p : List ℕ) → (c : Candidate) × In c cs × (eqb (c .mark) failed ≡ false) × (c .place ≡ p)
             → ((i : ℕ) × (i < length (map placeOf (twenty cs))) × (getD (map placeOf (twenty cs)) i [] ≡ p))
-            ⊎ ((length (map placeOf (twenty cs)) ≡ wanted) × ((i : ℕ) → i < length (map placeOf (twenty cs)) → distance (getD (map placeOf (twenty cs)) i []) t < distance p t))
+            ⊎ ((length (map placeOf (twenty cs)) ≡ mostNear) × ((i : ℕ) → i < length (map placeOf (twenty cs)) → distance (getD (map placeOf (twenty cs)) i []) t < distance p t))
         found p r =
             ⊎-elim
             (λ m. let k = in-at m in let g : k .0 < length (map placeOf (twenty cs)) = omega (arith, k .1, size) in inl (k .0, g, place-at (twenty cs) (k .0) (k .1) ∙ ap placeOf (k .2) ∙ r .3))
@@ -216,4 +217,4 @@ module _ (t : List ℕ) where
               λ i h. subst (λ (q : List ℕ). distance q t < distance p t) (sym (place-at (twenty cs) i (omega (arith, size))))
                   (subst (λ (q : List ℕ). dist t (getD (twenty cs) i nobody) < distance q t) (r .3) (n .1 i (omega (arith, size)))),
             ))
-            (split wanted (left cs) up (in-left (r .1) (r .2)))
+            (split mostNear (left cs) up (in-left (r .1) (r .2)))

@@ -11,11 +11,12 @@ use borrow.Author.Tests.{le-leb, lt-ltb}
 use Rattle.octets.specs.Octets.{Bytes}
 use Rattle.octets.proofs.Bools.{cond-ind, and-l, and-r, and-i, all-rest, all-one-more, or-l, or-r, either, not-both, to-false}
 use Rattle.octets.proofs.Strings.{same-eq, same-yes}
+use Rattle.limits.specs.Limits.{mostId}
 use Rattle.place.specs.Place.{distance, nearerTo}
 use Rattle.place.proofs.Distance.{nearer-out, nearer-is, nearer-total}
 use Rattle.lookup_marks.specs.Marks.{failed}
-use Rattle.lookup.specs.Lists.{anyIn}
-use Rattle.lookup.specs.Lookup.{idMost, wellMade, follow, nearestFirst, withMark, markAt, liesAt, known, enter}
+use Rattle.octets.specs.Search.{anyIn}
+use Rattle.lookup.specs.Lookup.{wellMade, follow, nearestFirst, withMark, markAt, liesAt, known, enter}
 use Rattle.lookup_candidates.specs.declared.Candidate.{Candidate}
 use Rattle.lookup_runs.proofs.Sums.{sumOf, sum-nil, sum-cons, one}
 use Rattle.lookup_runs.proofs.Members.{In, here, there}
@@ -160,7 +161,7 @@ apart t p (c ∷ cs) h = ⊎-elim here (away (λ f. apart t p cs f)) (either (li
 made-mark : (m : ℕ) (c : Candidate) → m ≤ failed → wellMade c ≡ true → wellMade (withMark m c) ≡ true
 unfolding wellMade
 made-mark m c h w =
-    all-one-more (leb m failed) (leb 1 (c .len) ∷ leb (c .len) idMost ∷ []) (le-leb m failed h) (all-rest (leb (c .mark) failed) (leb 1 (c .len) ∷ leb (c .len) idMost ∷ []) w)
+    all-one-more (leb m failed) (leb 1 (c .len) ∷ leb (c .len) mostId ∷ []) (le-leb m failed h) (all-rest (leb (c .mark) failed) (leb 1 (c .len) ∷ leb (c .len) mostId ∷ []) w)
 
 follow-marked : (t : List ℕ) (m : ℕ) (c : Candidate) (cs : List Candidate) → follow t c cs ≡ true → follow t (withMark m c) cs ≡ true
 unfolding follow

@@ -13,7 +13,8 @@ use Rattle.contacts.specs.Form.{inForm as inFormTable}
 use Rattle.message.specs.declared.Fields.{Fields}
 use Rattle.lookup_marks.specs.Marks.{failed, isOver, idleOf, flightsOf}
 use Rattle.parts.specs.Parts.{isView}
-use Rattle.lookup.specs.Lookup.{marksOf, inForm, mark, refuses, settled, nextOf, idFits, whomOf, reported, failureOf, heardFrom, replyOf, noLookup, begun, keyFits, limitFits, startOf}
+use Rattle.message.specs.Kinds.{keyFits}
+use Rattle.lookup.specs.Lookup.{marksOf, inForm, mark, refuses, settled, nextOf, idFits, whomOf, reported, failureOf, heardFrom, replyOf, noLookup, begun, limitFits, startOf}
 use Rattle.lookup.specs.Value.{Lookup, Step}
 use Rattle.lookup.specs.declared.Answer.the-variants.{Refused}
 use Rattle.lookup.specs.declared.Whom.{Whom}

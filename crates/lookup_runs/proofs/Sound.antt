@@ -10,6 +10,8 @@ use lib.Seq.{sets-eq, take-append-seam}
 use borrow.Author.Tests.{le-leb, leb-true, ltb-true, not-false}
 use Rattle.octets.specs.Octets.{Bytes, same}
 use Rattle.octets.proofs.Bools.{cond-ind, and-l, and-r, all-one-more, all-none, not-both}
+use Rattle.limits.specs.Limits.{mostId, mostKey}
+use Rattle.peer.proofs.Meaning.{fits-least, fits-most}
 use Rattle.place.specs.Place.{distance}
 use Rattle.sha256.specs.Sha256.{sha256}
 use Rattle.refusal.specs.declared.Refusal.{Refusal}
@@ -23,8 +25,9 @@ use Rattle.contact_form.proofs.FormFacts.{form-elim}
 use Rattle.contact_form.proofs.EntryFacts.{entry-id-most, form-entry}
 use Rattle.contacts.proofs.TwentyNearest.{nearest-held, nearest-strict}
 use Rattle.lookup_marks.specs.Marks.{idle, flying, answered, failed}
-use Rattle.lookup.specs.Lists.{anyIn}
-use Rattle.lookup.specs.Lookup.{room, idMost, keyMost, limitMost, candidatesOf, wellMade, follow, nearestFirst, inForm, turnAway, put, mark, idFits, padded, fresh, known, enter, meet, hear, hearAll, nobody, contactAt, firstOnes, begun, refuses, settled, noLookup, keyFits, limitFits, startOf}
+use Rattle.octets.specs.Search.{anyIn}
+use Rattle.message.specs.Kinds.{keyFits}
+use Rattle.lookup.specs.Lookup.{room, limitMost, candidatesOf, wellMade, follow, nearestFirst, inForm, turnAway, put, mark, idFits, padded, fresh, known, enter, meet, hear, hearAll, nobody, contactAt, firstOnes, begun, refuses, settled, noLookup, limitFits, startOf}
 use Rattle.lookup_candidates.specs.declared.Candidate.{Candidate}
 use Rattle.lookup.specs.Value.{Lookup, Step}
 use Rattle.lookup.proofs.Form.{Formed, formed, form-of}
@@ -99,11 +102,11 @@ sound-turn l s =
       placed = s .placed;
     }
 
-made-idle : (c : Candidate) → c .mark ≡ idle → 1 ≤ c .len → c .len ≤ idMost → wellMade c ≡ true
+made-idle : (c : Candidate) → c .mark ≡ idle → 1 ≤ c .len → c .len ≤ mostId → wellMade c ≡ true
 unfolding wellMade
 made-idle c m a b =
     all-one-more (leb (c .mark) failed) _ (le-leb (c .mark) failed (omega arith))
-    (all-one-more (leb 1 (c .len)) _ (le-leb 1 (c .len) a) (all-one-more (leb (c .len) idMost) [] (le-leb (c .len) idMost b) all-none))
+    (all-one-more (leb 1 (c .len)) _ (le-leb 1 (c .len) a) (all-one-more (leb (c .len) mostId) [] (le-leb (c .len) mostId b) all-none))
 
 pub sound-hear : (ours id : List ℕ) (l : Lookup) → Sound l → Sound (hear ours id l)
 unfolding hear meet
@@ -113,7 +116,7 @@ sound-hear ours id l s =
     (λ o. cond-ind Sound (known (sha256 id) (candidatesOf l)) l _ (λ e. s)
     (λ k. cond-ind Sound (ltb (l .count) room) (put l (enter (l .target) (fresh id) (candidatesOf l))) (turnAway l)
     (λ e. sound-put (fresh id) l
-    (made-idle (fresh id) refl (leb-true 1 (length id) (and-l (leb 1 (length id)) _ (not-false (idFits id) f))) (leb-true (length id) idMost (and-r (leb 1 (length id)) _ (not-false (idFits id) f))))
+    (made-idle (fresh id) refl (fits-least id (not-false (idFits id) f)) (fits-most id (not-false (idFits id) f)))
     (record { long = length-sha256 id; bytes = bytes-sha256 id }) k (ltb-true (l .count) room e) s)
     (λ e. sound-turn l s))))
 
@@ -273,13 +276,14 @@ taken t own ours key limit s =
 
 -- a started lookup is in form
 pub sound-start : (t own ours key : List ℕ) (limit : ℕ) → Started t own ours key limit → Sound (begun t key limit)
+unfolding keyFits
 sound-start t own ours key limit st =
     let s : Taken t own ours key limit = taken t own ours key limit st in
     let few : length (firstOnes t (sha256 key)) ≤ 20 = first-few t ours (sha256 key) (st .bytes) (s .table) (length-sha256 key) in
     record {
       form = form-of (begun t key limit) (record {
         sizeLow = leb-true 1 (length key) (and-l (leb 1 (length key)) _ (s .keyed));
-        sizeHigh = leb-true (length key) keyMost (and-r (leb 1 (length key)) _ (s .keyed));
+        sizeHigh = leb-true (length key) mostKey (and-r (leb 1 (length key)) _ (s .keyed));
         limitLow = leb-true 1 limit (and-l (leb 1 limit) _ (s .limited));
         limitHigh = leb-true limit limitMost (and-r (leb 1 limit) _ (s .limited));
         fits = omega arith;

@@ -12,12 +12,13 @@ use borrow.Author.Tests.{leb-true, ltb-false, not-true}
 use Rattle.octets.specs.Octets.{same}
 use Rattle.octets.proofs.Bools.{and-l, and-r, and-i, either, or-e, or-l, or-r, not-both, not-no, same-way, all-head}
 use Rattle.octets.proofs.Strings.{same-eq, same-refl}
+use Rattle.limits.specs.Limits.{mostId, mostNear}
 use Rattle.sha256.specs.Sha256.{sha256}
 use Rattle.sha256.proofs.Laws.{length-sha256}
-use Rattle.lookup_marks.specs.Marks.{idle, flying, answered, failed, wanted}
+use Rattle.lookup_marks.specs.Marks.{idle, flying, answered, failed}
 use Rattle.lookup_marks.specs.declared.Ranks.{Ranks}
-use Rattle.lookup.specs.Lists.{anyIn}
-use Rattle.lookup.specs.Lookup.{room, idMost, candidatesOf, liesAt, known, nobody, wellMade, nearestFirst, begun, startOf}
+use Rattle.octets.specs.Search.{anyIn}
+use Rattle.lookup.specs.Lookup.{room, candidatesOf, liesAt, known, nobody, wellMade, nearestFirst, begun, startOf}
 use Rattle.lookup_candidates.specs.declared.Candidate.{Candidate}
 use Rattle.lookup.specs.Value.{Lookup, Step}
 use Rattle.lookup.specs.declared.Answer.the-variants.{Complete, CutShort}
@@ -47,7 +48,7 @@ mark-is (suc (suc (suc (suc m)))) h = absurd (omega arith)
 
 made-mark : (c : Candidate) → wellMade c ≡ true → c .mark ≤ failed
 unfolding wellMade
-made-mark c w = leb-true (c .mark) failed (all-head (leb (c .mark) failed) (leb 1 (c .len) ∷ leb (c .len) idMost ∷ []) w)
+made-mark c w = leb-true (c .mark) failed (all-head (leb (c .mark) failed) (leb 1 (c .len) ∷ leb (c .len) mostId ∷ []) w)
 
 -- ---- what a start gives
 pub record Begins (t key : List ℕ) (limit : ℕ) (s : Step) : Type 0 where
@@ -168,7 +169,7 @@ module _ (t key : List ℕ) (limit : ℕ) (s : Step) (b : Begins t key limit s) 
             let k : i < length (twenty (candidatesOf l)) = omega (arith, length-map (twenty (candidatesOf l)) placeOf) in
             let m : In (getD (twenty (candidatesOf l)) i nobody) (twenty (candidatesOf l)) = at-in (twenty (candidatesOf l)) i k in
             ap (λ (p : List ℕ). hasAnswered p h) (place-at (twenty (candidatesOf l)) i k)
-            ∙ answered-by (getD (twenty (candidatesOf l)) i nobody) (left-in (candidatesOf l) (take-in wanted _ m) .0)
+            ∙ answered-by (getD (twenty (candidatesOf l)) i nobody) (left-in (candidatesOf l) (take-in mostNear _ m) .0)
             ∙ over-answered (candidatesOf l) (w .over) m
 
     all-nearest : (who : List ℕ → Bool) → ((p : List ℕ) → who p ≡ known p (candidatesOf l))

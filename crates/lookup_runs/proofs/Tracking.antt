@@ -12,8 +12,9 @@ use Rattle.sha256.specs.Sha256.{sha256}
 use Rattle.contacts.specs.Near.{nearestSlots}
 use Rattle.message.specs.declared.Fields.{Fields}
 use Rattle.lookup_marks.specs.Marks.{idle, flying, answered, failed}
-use Rattle.lookup.specs.Lists.{anyIn}
-use Rattle.lookup.specs.Lookup.{room, candidatesOf, turnAway, put, withMark, mark, idFits, fresh, known, enter, meet, hear, hearAll, findNode, heardIds, nobody, begun, contactAt, firstOnes}
+use Rattle.octets.specs.Search.{anyIn}
+use Rattle.message.specs.Kinds.{findNode}
+use Rattle.lookup.specs.Lookup.{room, candidatesOf, turnAway, put, withMark, mark, idFits, fresh, known, enter, meet, hear, hearAll, heardIds, nobody, begun, contactAt, firstOnes}
 use Rattle.lookup_candidates.specs.declared.Candidate.{Candidate}
 use Rattle.lookup.specs.Value.{Lookup, Step}
 use Rattle.lookup.specs.declared.Answer.{Answer}

@@ -14,7 +14,7 @@ use Rattle.contacts.specs.Near.{nearestSlots}
 use Rattle.message.specs.View.{readingOf}
 use Rattle.message.specs.declared.Reading.the-variants.{Whole}
 use Rattle.lookup_marks.specs.Marks.{isOver, flightsOf}
-use Rattle.lookup.specs.Lists.{anyIn}
+use Rattle.octets.specs.Search.{anyIn}
 use Rattle.lookup.specs.Lookup.{candidatesOf, marksOf, inForm, ends, known, nobody}
 use Rattle.lookup_candidates.specs.declared.Candidate.{Candidate}
 use Rattle.lookup.specs.Value.{Lookup, Step}

@@ -10,8 +10,9 @@ use Rattle.contacts.specs.Near.{nearestSlots}
 use Rattle.message.specs.declared.Fields.{Fields}
 use Rattle.parts.specs.Parts.{isView}
 use Rattle.lookup_marks.specs.Marks.{answered, failed}
-use Rattle.lookup.specs.Lists.{anyIn}
-use Rattle.lookup.specs.Lookup.{candidatesOf, put, withCandidates, withMark, contactAt, nobody, badPeer, whomOf, reported, findNode, heardIds, heardFrom, nextOf, replyOf, failureOf, startOf}
+use Rattle.octets.specs.Search.{anyIn}
+use Rattle.message.specs.Kinds.{findNode}
+use Rattle.lookup.specs.Lookup.{candidatesOf, put, withCandidates, withMark, contactAt, nobody, badStep, whomOf, reported, heardIds, heardFrom, nextOf, replyOf, failureOf, startOf}
 use Rattle.lookup.specs.Value.{Lookup, Step}
 use Rattle.lookup_runs.specs.Runs.{Started, Call, goNext, goReply, goFail}
 use Rattle.lookup_runs.specs.Claims.{Claims}
@@ -49,4 +50,4 @@ pub record Refuted (t own ours key : List ℕ) (limit : ℕ) : Type 0 where
 -- whatever the start, if it isn't refused and has two contacts: in slots i and j, nearest first, with an id of the first
 abbrev pub NoFake : Type 0
 NoFake = (t own ours key : List ℕ) (limit i j : ℕ) (js id : List ℕ) → Started t own ours key limit → nearestSlots t (sha256 key) ≡ i ∷ j ∷ js
-    → sha256 id ≡ contactAt t i .place → badPeer own ours id ≡ false → Refuted t own ours key limit
+    → sha256 id ≡ contactAt t i .place → badStep own ours id ≡ false → Refuted t own ours key limit

@@ -13,8 +13,9 @@ use Rattle.sha256.specs.Sha256.{sha256}
 use Rattle.contacts.specs.Table.{slot, place}
 use Rattle.contacts.specs.Near.{nearestSlots}
 use Rattle.lookup_marks.specs.Marks.{idle, flying, answered, failed}
-use Rattle.lookup.specs.Lists.{anyIn}
-use Rattle.lookup.specs.Lookup.{candidatesOf, liesAt, idFits, findNode, heardIds, nobody}
+use Rattle.octets.specs.Search.{anyIn}
+use Rattle.message.specs.Kinds.{findNode}
+use Rattle.lookup.specs.Lookup.{candidatesOf, liesAt, idFits, heardIds, nobody}
 use Rattle.lookup_candidates.specs.declared.Candidate.{Candidate}
 use Rattle.lookup.specs.Value.{Lookup, Step}
 use Rattle.lookup.specs.declared.Answer.{Answer}

@@ -10,13 +10,14 @@ use lib.Seq.{sets}
 use borrow.Author.Tests.{ltb-true, not-false}
 use Rattle.octets.specs.Octets.{same}
 use Rattle.octets.proofs.Bools.{cond-ind}
+use Rattle.limits.specs.Limits.{mostId, placeSize, mostKey}
 use Rattle.sha256.specs.Sha256.{sha256}
 use Rattle.sha256.proofs.Laws.{length-sha256}
 use Rattle.parts.specs.Parts.{isView}
 use Rattle.place.specs.Place.{nearerTo}
 use Rattle.lookup_marks.specs.Marks.{answered}
 use Rattle.lookup_candidates.specs.declared.Candidate.{Candidate}
-use Rattle.lookup.specs.Lookup.{room, idMost, keyMost, fresh, idFits, candidatesOf, inForm, markAt, mark, put, turnAway, nextOf, whomOf, reported, known, enter, meet, hear, hearAll, replyOf, failureOf}
+use Rattle.lookup.specs.Lookup.{room, fresh, idFits, candidatesOf, inForm, markAt, mark, put, turnAway, nextOf, whomOf, reported, known, enter, meet, hear, hearAll, replyOf, failureOf}
 use Rattle.lookup.specs.Value.{Lookup, Step}
 use Rattle.lookup.specs.declared.Answer.{Answer}
 use Rattle.lookup.specs.declared.Answer.the-variants.{Refused, Complete, CutShort, Wait, Ask, Going}
@@ -27,7 +28,7 @@ use Rattle.lookup_runs.specs.Runs.{Call, goNext, goReply, goFail, step}
 use Rattle.lookup_runs.proofs.Marking.{length-mark}
 use Rattle.lookup_runs.proofs.Moves.{Move, stays, asks, fails, answers, moved}
 use Rattle.lookup_runs.proofs.Refusals.{refusals}
-use Rattle.flat_lookup.specs.FlatLookup.{placeSize, idAt, placeAt, keyAt, targetAt, flatSize, candidatesAt, candidateSize, candidatesIn, lookupIn, lookupBytes}
+use Rattle.flat_lookup.specs.FlatLookup.{idAt, placeAt, keyAt, targetAt, flatSize, candidatesAt, candidateSize, candidatesIn, lookupIn, lookupBytes}
 use Rattle.flat_lookup.specs.Promises.{SizedCandidate}
 use Rattle.flat_lookup.proofs.Padding.{padded-length}
 use Rattle.flat_lookup.proofs.Reading.{candidates-length}
@@ -64,14 +65,14 @@ all-read : (n : ℕ) (s : List ℕ) → AllSized (candidatesIn n s)
 unfolding AllSized candidatesIn
 all-read zero s = tt
 all-read (suc n) s =
-    (record { idLong = padded-length idMost (drop idAt s); placeLong = padded-length placeSize (drop placeAt s) }, all-read n (drop candidateSize s))
+    (record { idLong = padded-length mostId (drop idAt s); placeLong = padded-length placeSize (drop placeAt s) }, all-read n (drop candidateSize s))
 
 -- ---- a lookup that is read
 pub read-shaped : (s : List ℕ) → Shaped (lookupIn s)
 read-shaped s =
     record {
       long = candidates-length room (drop candidatesAt s);
-      key = padded-length keyMost (drop keyAt s);
+      key = padded-length mostKey (drop keyAt s);
       target = padded-length placeSize (drop targetAt s);
       all = all-read room (drop candidatesAt s);
     }
@@ -125,7 +126,7 @@ unfolding hear
 hear-storable ours id l h =
     cond-ind Storable (not (idFits id)) _ _ (λ e. h)
     (λ e. cond-ind Storable (same (sha256 id) ours) _ _ (λ e. h)
-    (λ e. meet-storable (fresh id) l (record { idLong = padded-length idMost id; placeLong = length-sha256 id }) h))
+    (λ e. meet-storable (fresh id) l (record { idLong = padded-length mostId id; placeLong = length-sha256 id }) h))
 
 all-storable : (ours : List ℕ) (ids : List (List ℕ)) (l : Lookup) → Storable l → Storable (hearAll ours ids l)
 unfolding hearAll

@@ -10,6 +10,7 @@ use Prim.Native.Nat.{_<_, _≤_}
 use borrow.Author.Tests.{eqb-true, lt-ltb, le-ltb}
 use Rattle.octets.specs.Search.{every, allOf, lastOf}
 use Rattle.octets.proofs.Bools.{and-fails}
+use Rattle.limits.specs.Limits.{mostBody, mostKind}
 use Rattle.refusal.specs.declared.Refusal.the-variants.{TooLong, Malformed, UnknownType}
 use Rattle.wire.specs.Wire.{fieldAt, nextOf, fieldsAt, fields, fieldsIn, fine, well, numbers, spanIf, spans, nowhere}
 use Rattle.wire.specs.declared.Span.{Span}
@@ -17,7 +18,6 @@ use Rattle.wire.specs.declared.Field.{Field}
 use Rattle.wire.specs.declared.Field.the-variants.{End, Bad, Number, Bytes, Other}
 use Rattle.wire.specs.declared.Next.the-variants.{Done, Broken as Stuck, On}
 use Rattle.wire.proofs.Scan.{at-done, at-broken, at-on}
-use Rattle.message.specs.Limits.{mostBody, mostKind}
 use Rattle.message.specs.Message.{wellMessage}
 use Rattle.message.specs.View.{noRecord, fieldsOf, readingOf}
 use Rattle.message.specs.Inner.{wellIn, withOccurrence, withOccurrences, withRecord, withPeer, withBytes, withField, wellFields, finished, onto, gathered}

@@ -5,23 +5,16 @@ use mathlib.Core.List.{List, [], _∷_, _++_, map, append-assoc, append-nil}
 use native.Mathlib.Omega.{arith}
 use lib.ListN.{length, set, replicate, length-append, length-map}
 use lib.Seq.{sets, take-at, take-all}
+use Rattle.octets.proofs.Lists.{map-append}
+use Rattle.octets.proofs.Stores.{sets-snoc}
+use Rattle.limits.specs.Limits.{mostHeard}
 use Rattle.wire.specs.Wire.{fields, fieldsAt, spans, firstOf}
 use Rattle.wire.specs.declared.Span.{Span}
 use Rattle.wire.specs.declared.Found.{Found}
 use Rattle.wire.specs.declared.Found.the-variants.{At, Nothing}
 use Rattle.wire.proofs.Scan.{walk-at, walk-none}
-use Rattle.message.specs.Limits.{mostHeard}
 use Rattle.message.specs.View.{idAt, closerAt, heardAt, starts, ends, idsOf}
 use Rattle.message.specs.declared.Ids.{Ids}
-
--- for octets
-sets-snoc : (l : List ℕ) (i : ℕ) (a : List ℕ) (x : ℕ) → sets l i (a ++ (x ∷ [])) ≡ set (sets l i a) (i + length a) x
-sets-snoc l i [] x = let e : i + 0 ≡ i = omega arith in rw e
-sets-snoc l i (y ∷ a) x = let e : i + suc (length a) ≡ suc i + length a = omega arith in rw e (sets-snoc (set l i y) (suc i) a x)
-
-pub map-append : {A B : Type 0} (h : A → B) (a b : List A) → map h (a ++ b) ≡ map h a ++ map h b
-map-append h [] b = refl
-map-append h (x ∷ a) b = rw (map-append h a b)
 
 -- one more element of an array that is filled from its front
 stored : (h : Span → ℕ) (k : ℕ) (arr : List ℕ) (l : List Span) (p : Span) (n : ℕ) → n ≡ length l → arr ≡ sets (replicate k 0) 0 (map h l)

@@ -5,3 +5,4 @@ pub mod Occurrences
 pub mod Views
 pub mod Vectors
 pub mod Claims
+pub mod Keys

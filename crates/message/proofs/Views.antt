@@ -9,24 +9,19 @@ use native.Mathlib.Omega.{arith}
 use lib.ListN.{length, take}
 use lib.Dec.{ltb}
 use borrow.Author.Tests.{ltb-true, ltb-false, lt-ltb, le-ltb}
+use Rattle.octets.proofs.Lists.{map-take}
+use Rattle.limits.specs.Limits.{mostBody, mostKind, mostHeard}
 use Rattle.refusal.specs.declared.Refusal.the-variants.{TooLong, Malformed, UnknownType}
 use Rattle.wire.specs.Wire.{fields, fieldsAt, fieldsIn, spans, firstOf, walk}
 use Rattle.wire.specs.Items.{cut}
 use Rattle.wire.specs.declared.Span.{Span}
 use Rattle.wire.proofs.Scan.{walked}
-use Rattle.message.specs.Limits.{mostBody, mostKind, mostHeard}
 use Rattle.message.specs.Message.{Peer, Message, messageOf, wellMessage, decode}
 use Rattle.message.specs.View.{fieldsOf, readingOf, idAt, closerAt, providersAt, addressesAt, heardAt, peerMeant, meant}
 use Rattle.message.specs.declared.Fields.{Fields}
 use Rattle.message.specs.declared.Reading.{Reading}
 use Rattle.message.specs.declared.Reading.the-variants.{Whole, Refused}
 use Rattle.message.proofs.Meaning.{all-meant, closer-meant, FieldsIn, fields-inside, kind-meant}
-
--- for octets
-map-take : {A B : Type 0} (g : A → B) (k : ℕ) (l : List A) → take k (map g l) ≡ map g (take k l)
-map-take g zero l = refl
-map-take g (suc k) [] = refl
-map-take g (suc k) (x ∷ l) = rw (map-take g k l)
 
 -- the reader's four answers, and what each comes with
 data Answers (s : List ℕ) (r : Reading) : Type 0 where

@@ -7,11 +7,11 @@ use mathlib.Core.Bool.{false}
 use mathlib.Core.Option.{Option, none, some}
 use lib.ListN.{length, getD, take}
 use Rattle.octets.specs.Search.{every, lastOf}
+use Rattle.limits.specs.Limits.{mostBody, mostKind, mostHeard}
 use Rattle.refusal.specs.declared.Refusal.the-variants.{TooLong, Malformed, UnknownType}
 use Rattle.wire.specs.Wire.{fields, fieldsAt, spans, nowhere, firstOf, walk}
 use Rattle.wire.specs.Items.{cut, items, parts}
 use Rattle.wire.specs.declared.Span.{Span}
-use Rattle.message.specs.Limits.{mostBody, mostKind, mostHeard}
 use Rattle.message.specs.Message.{Peer, Record, Message, messageOf, wellFormed, decode}
 use Rattle.message.specs.View.{allSpans, fieldsOf, readingOf, idAt, addressesAt, closerAt, providersAt, heardAt, meant}
 use Rattle.message.specs.declared.Fields.{Fields}

@@ -1,4 +1,4 @@
-pub mod Limits
+pub mod Kinds
 pub mod Message
 pub mod View
 pub mod Claims

@@ -6,8 +6,8 @@ use mathlib.Core.Option.{Option, none, some}
 use lib.ListN.{length}
 use lib.Dec.{leb}
 use Rattle.octets.specs.Search.{every, allOf, lastOf}
+use Rattle.limits.specs.Limits.{mostConnection}
 use Rattle.wire.specs.Items.{Item, num, bytes, items, isField, values, parts, minimal, written, single, repeated}
-use Rattle.message.specs.Limits.{mostConnection}
 
 -- "Peer id=1, addrs=2 (repeated), connection=3 (0 to 3)"
 pub record Peer : Type 0 where

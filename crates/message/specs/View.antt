@@ -7,11 +7,11 @@ use lib.ListN.{length, take, replicate}
 use lib.Seq.{sets}
 use lib.Dec.{ltb}
 use Rattle.octets.specs.Search.{lastOf}
+use Rattle.limits.specs.Limits.{mostBody, mostKind, mostHeard}
 use Rattle.refusal.specs.declared.Refusal.the-variants.{TooLong, Malformed, UnknownType}
 use Rattle.wire.specs.Wire.{fields, fieldsIn, numbers, spans, nowhere}
 use Rattle.wire.specs.Items.{cut}
 use Rattle.wire.specs.declared.Span.{Span}
-use Rattle.message.specs.Limits.{mostBody, mostKind, mostHeard}
 use Rattle.message.specs.Message.{Peer, Record, Message, wellMessage, connectionOf}
 use Rattle.message.specs.declared.Held.{Held}
 use Rattle.message.specs.declared.Fields.{Fields}

@@ -2,6 +2,7 @@
 ghost use mathlib.Core.Path.{_≡_};
 ghost use lib.ListN.{take};
 ghost use Rattle.wire.specs.Wire.{firstOf, fieldsAt, spans};
+ghost use Rattle.message.specs.Kinds.{keyFits};
 ghost use Rattle.message.specs.View.{readingOf, idAt, connectionAt, heardAt, idsOf};
 ghost use Rattle.message.specs.Inner.{withRecord, withPeer, withBytes, withField, gathered};
 use refusal::Refusal;
@@ -10,23 +11,14 @@ use wire::Found;
 use wire::Next;
 use wire::Span;
 
-// A message body has at most this many bytes.
-pub const MOST_BODY: usize = 16384;
-// Types are 0 to this.
-pub const MOST_KIND: u64 = 5;
-// Connections are 0 to this.
-pub const MOST_CONNECTION: u64 = 3;
-// A lookup hears this many entries of a reply.
-pub const MOST_HEARD: usize = 21;
+// The types of messages.
+pub const PUT_VALUE: u64 = 0;
 
-// A key, a record's value, a peer's id and an address have at most this many bytes.
-pub const MOST_KEY: usize = 128;
+pub const GET_VALUE: u64 = 1;
 
-pub const MOST_VALUE: usize = 2048;
+pub const FIND_NODE: u64 = 4;
 
-pub const MOST_ID: usize = 64;
-
-pub const MOST_ADDRESS: usize = 128;
+pub const PING: u64 = 5;
 
 // The numbers of the fields.
 const KIND: u64 = 1;
@@ -76,8 +68,8 @@ pub enum Gathered {
 
 // Where the ids of the first entries of closerPeers are: of the entry k below n, from at[k] up to end[k].
 pub struct Ids {
-    pub at: [usize; 21],
-    pub end: [usize; 21],
+    pub at: [usize; limits::MOST_HEARD],
+    pub end: [usize; limits::MOST_HEARD],
     pub n: usize,
 }
 
@@ -206,12 +198,12 @@ fn gather(s: &[u8]) -> Gathered
 pub fn read(body: &[u8]) -> Reading
     ensures { λ r. ⌜ r ≡ readingOf (now (body .entry)) ⌝ }
 {
-    if MOST_BODY < body.len() {
+    if limits::MOST_BODY < body.len() {
         return Reading::Refused(Refusal::TooLong);
     }
     match gather(body) {
         Gathered::Sound(m) => {
-            if MOST_KIND < m.kind {
+            if limits::MOST_KIND < m.kind {
                 return Reading::Refused(Refusal::UnknownType);
             }
             Reading::Whole(m)
@@ -255,7 +247,7 @@ pub fn peer_connection(body: &[u8], peer: Span) -> u64
 {
     let at = peer.at;
     let v = wire::last_number(front(body, peer.end), at, PEER_CONNECTION);
-    if v <= MOST_CONNECTION {
+    if v <= limits::MOST_CONNECTION {
         return v;
     }
     0
@@ -265,11 +257,11 @@ pub fn peer_connection(body: &[u8], peer: Span) -> u64
 pub fn closer_ids(body: &[u8]) -> Ids
     ensures { λ r. ⌜ r ≡ idsOf (heardAt (now (body .entry))) ⌝ }
 {
-    let mut starts = [0usize; MOST_HEARD];
-    let mut ends = [0usize; MOST_HEARD];
+    let mut starts = [0usize; limits::MOST_HEARD];
+    let mut ends = [0usize; limits::MOST_HEARD];
     let mut n: usize = 0;
     let mut from: usize = 0;
-    while n < MOST_HEARD {
+    while n < limits::MOST_HEARD {
         match closer_peer(body, from) {
             Found::At(p) => {
                 let id = peer_id(body, p);
@@ -292,4 +284,14 @@ pub fn closer_ids(body: &[u8]) -> Ids
         end: ends,
         n,
     }
+}
+
+// Whether a key has 1 to 128 bytes.
+pub fn key_fits(key: &[u8]) -> bool
+    ensures { λ r. ⌜ r ≡ keyFits (now (key .entry)) ⌝ }
+{
+    if key.len() == 0 {
+        return false;
+    }
+    key.len() <= limits::MOST_KEY
 }

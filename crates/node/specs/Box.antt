@@ -1,3 +1,3 @@
 -- Who we are, and a connection, passed on.
 pub use Rattle.connections.specs.Box.{withFraming}
-unfoldable pub use Rattle.connections.specs.Box.{ownFits, nobody, startOf, openOf, sizeFits, peerForm, connForm, endConn}
+unfoldable pub use Rattle.connections.specs.Box.{ownFits, nobody, startOf, openOf, connForm, endConn}

@@ -20,8 +20,9 @@ ghost use mathlib.Core.Path.{_≡_};
 ghost use lib.ListN.{length};
 ghost use Rattle.message.specs.View.{readingOf};
 ghost use Rattle.connections.specs.Box.{withFraming};
-ghost use Rattle.node.specs.Node.{sightOf, contactsAfter, served, heardAs, dealingOf, gateOf, received, takenOf, receiveOf, Gives};
-ghost use Rattle.node.specs.Inner.{unseen, Deals};
+ghost use Rattle.replies.specs.Lent.{lent};
+ghost use Rattle.node.specs.Node.{linked, sightOf, contactsAfter, served, heardAs, dealingOf, gateOf, received, takenOf, receiveOf, Gives, Deals};
+ghost use Rattle.node.specs.Inner.{unseen};
 
 pub enum Answer {
     // A request was answered: so many bytes stand at the reply buffer's start.
@@ -60,7 +61,7 @@ fn gate_of(
     records: &[u8],
     reply: &[u8],
 ) -> Gate
-    ensures { λ r. ⌜ r ≡ gateOf me conn (now (buffer .entry)) (now (contacts .entry)) (now (records .entry)) (now (reply .entry)) ⌝ }
+    ensures { λ r. ⌜ r ≡ gateOf me (linked conn (now (buffer .entry))) (lent (now (contacts .entry)) (now (records .entry)) (now (reply .entry))) ⌝ }
 {
     let ours = me.place;
     if !contacts::in_form(contacts, &ours) {
@@ -72,10 +73,10 @@ fn gate_of(
     if !connections::conn_form(me, conn) {
         return Gate::Closed(Refusal::OutOfForm);
     }
-    if buffer.len() < message::MOST_BODY {
+    if buffer.len() < limits::MOST_BODY {
         return Gate::Closed(Refusal::SmallBuffer);
     }
-    if reply.len() < writer::LEAST_REPLY {
+    if reply.len() < limits::LEAST_REPLY {
         return Gate::Closed(Refusal::SmallBuffer);
     }
     let f = conn.framing;
@@ -88,7 +89,7 @@ fn gate_of(
     Gate::Open
 }
 
-// A sender that is a server is seen.
+// A sender that is a server is seen, with its usable addresses.
 fn see_sender(me: Peer, conn: Conn, contacts: &mut [u8]) -> Sight
     ensures { λ r. ⌜ (r ≡ sightOf me conn (now (contacts .entry))) × (now (contacts .exit) ≡ contactsAfter me conn (now (contacts .entry))) ⌝ }
 {
@@ -141,7 +142,7 @@ fn serve(
     records: &mut [u8],
     reply: &mut [u8],
 ) -> Received
-    ensures { λ r. ⌜ Deals (served me conn (now (body .entry)) (now (contacts .entry)) (now (records .entry)) (now (reply .entry))) conn taken r (now (contacts .exit)) (now (records .exit)) (now (reply .exit)) ⌝ }
+    ensures { λ r. ⌜ Deals (served me conn (now (body .entry)) (lent (now (contacts .entry)) (now (records .entry)) (now (reply .entry)))) conn taken r (now (contacts .exit)) (now (records .exit)) (now (reply .exit)) ⌝ }
 {
     let who = conn.peer;
     match answer::answer(me, who, body, contacts, records, reply) {
@@ -153,8 +154,8 @@ fn serve(
     }
 }
 
-// A message is whole.
-fn whole(
+// What a whole message does on a connection, after so many bytes of a piece: for who has one without its framing, such as a record that is played back.
+pub fn whole(
     me: Peer,
     conn: Conn,
     taken: usize,
@@ -163,7 +164,7 @@ fn whole(
     records: &mut [u8],
     reply: &mut [u8],
 ) -> Received
-    ensures { λ r. ⌜ Deals (dealingOf me conn (now (body .entry)) (now (contacts .entry)) (now (records .entry)) (now (reply .entry))) conn taken r (now (contacts .exit)) (now (records .exit)) (now (reply .exit)) ⌝ }
+    ensures { λ r. ⌜ Deals (dealingOf me conn (now (body .entry)) (lent (now (contacts .entry)) (now (records .entry)) (now (reply .entry)))) conn taken r (now (contacts .exit)) (now (records .exit)) (now (reply .exit)) ⌝ }
 {
     if conn.asking {
         return hear(conn, taken, body);
@@ -181,7 +182,7 @@ fn take_bytes(
     records: &mut [u8],
     reply: &mut [u8],
 ) -> Received
-    ensures { λ r. ⌜ Gives (takenOf me conn (now (buffer .entry)) (now (piece .entry)) (now (contacts .entry)) (now (records .entry)) (now (reply .entry))) r (now (buffer .exit)) (now (contacts .exit)) (now (records .exit)) (now (reply .exit)) ⌝ }
+    ensures { λ r. ⌜ Gives (takenOf me (linked conn (now (buffer .entry))) (now (piece .entry)) (lent (now (contacts .entry)) (now (records .entry)) (now (reply .entry)))) r (now (buffer .exit)) (now (contacts .exit)) (now (records .exit)) (now (reply .exit)) ⌝ }
 {
     let f = conn.framing;
     let got = stream::receive(f, buffer, piece);
@@ -213,7 +214,7 @@ pub fn receive(
     records: &mut [u8],
     reply: &mut [u8],
 ) -> Received
-    ensures { λ r. ⌜ Gives (receiveOf me conn (now (buffer .entry)) (now (piece .entry)) (now (contacts .entry)) (now (records .entry)) (now (reply .entry))) r (now (buffer .exit)) (now (contacts .exit)) (now (records .exit)) (now (reply .exit)) ⌝ }
+    ensures { λ r. ⌜ Gives (receiveOf me (linked conn (now (buffer .entry))) (now (piece .entry)) (lent (now (contacts .entry)) (now (records .entry)) (now (reply .entry)))) r (now (buffer .exit)) (now (contacts .exit)) (now (records .exit)) (now (reply .exit)) ⌝ }
 {
     match gate_of(me, conn, buffer, contacts, records, reply) {
         Gate::Closed(r) => hand_back(conn, 0, Answer::Refused(r), Sight::NotSeen),

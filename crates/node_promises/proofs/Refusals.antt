@@ -8,18 +8,19 @@ use native.Mathlib.Omega.{arith}
 use lib.ListN.{length}
 use lib.Dec.{ltb}
 use Rattle.octets.proofs.Bools.{cond-ind, cond-no, either}
+use Rattle.limits.specs.Limits.{mostBody, leastReply}
 use Rattle.refusal.specs.declared.Refusal.{Refusal}
 use Rattle.refusal.specs.declared.Refusal.the-variants as no
 use Rattle.peer.specs.declared.Peer.{Peer}
 use Rattle.peer.specs.Peers.{badPeer, idFits}
 use Rattle.contacts.specs.Form.{inForm as contactsForm}
 use Rattle.records.specs.Store.{inForm as recordsForm}
-use Rattle.message.specs.Limits.{mostBody, leastReply}
-use Rattle.replies.specs.Verdicts.{keyFits}
-use Rattle.contact_calls.specs.declared.SeenOutcome.{SeenOutcome}
-use Rattle.contact_calls.specs.declared.SettleOutcome.{SettleOutcome}
-use Rattle.contact_calls.specs.declared.RemoveOutcome.{RemoveOutcome}
-use Rattle.contact_calls.specs.declared.DoubtOutcome.{DoubtOutcome}
+use Rattle.replies.specs.Lent.{Lent}
+use Rattle.message.specs.Kinds.{keyFits}
+use Rattle.sightings.specs.declared.Sighting.{Sighting}
+use Rattle.sightings.specs.declared.Settled.{Settled}
+use Rattle.sightings.specs.declared.Removed.{Removed}
+use Rattle.sightings.specs.declared.Doubted.{Doubted}
 use Rattle.contact_calls.specs.Calls.{seenCall, seenCallTable, settleCall, settleCallTable, removeCall, removeCallTable, doubtCall, doubtCallTable, seenNumber, settleNumber, removeNumber, doubtNumber}
 use Rattle.contact_calls.proofs.Claims as calls
 use Rattle.stream.specs.declared.Framing.the-variants as framing
@@ -37,10 +38,9 @@ use Rattle.node.specs.declared.Sight.the-variants.{NotSeen}
 use Rattle.node.specs.declared.Gate.{Gate}
 use Rattle.node.specs.declared.Gate.the-variants.{Open, Closed}
 use Rattle.connections.specs.Box.{ownFits, nobody, startOf, withFraming, openOf, connForm, endConn}
-use Rattle.node.specs.Node.{Dealing, Out, gateOf, done, shutIf, dealingOf, heard, receiveOf}
+use Rattle.node.specs.Node.{Link, Dealing, Out, gateOf, done, shutIf, dealingOf, heard, receiveOf}
 use Rattle.host_calls.specs.Hosts.{seenOf, seenAfter, settleOf, settleAfter, removeOf, removeAfter, nearestTo}
 use Rattle.host_contacts.proofs.Hosting.{seen-on, seen-off, settle-on, settle-off, remove-on, remove-off, doubt-on, doubt-off}
-use Rattle.answer_promises.proofs.Promised.{refused-changes-nothing}
 use Rattle.node_promises.specs.Promises.{Unchanged, NotTaken, Early, Refuses, ReceiveRefused, CallsRefused, ValuesRefused}
 use Rattle.node_promises.proofs.Cases.{deal-cases, afterwards, cases, open-cases}
 
@@ -67,15 +67,15 @@ same-closed s r e = cc
 abbrev GateEarly : Gate → Type 0
 GateEarly g = (s : Refusal) → g ≡ Closed s → Early s
 
-gate-early : (me : Peer) (c : Conn) (m t k y : List ℕ) → GateEarly (gateOf me c m t k y)
+gate-early : (me : Peer) (link : Link) (l : Lent) → GateEarly (gateOf me link l)
 unfolding gateOf
-gate-early me c m t k y =
-    cond-ind GateEarly (not (contactsForm t (me .place))) _ _ (λ h. zero)
-    (λ h. cond-ind GateEarly (not (recordsForm k)) _ _ (λ h. zero)
-    (λ h. cond-ind GateEarly (not (connForm me c)) _ _ (λ h. zero)
-    (λ h. cond-ind GateEarly (ltb (length m) mostBody) _ _ (λ h. one)
-    (λ h. cond-ind GateEarly (ltb (length y) leastReply) _ _ (λ h. one)
-    (λ h. cond-ind GateEarly (isShut (c .framing)) _ _ (λ h s e. inr (inr (inl (sym (same-closed no.Shut s e)))))
+gate-early me link l =
+    cond-ind GateEarly (not (contactsForm (l .contacts) (me .place))) _ _ (λ h. zero)
+    (λ h. cond-ind GateEarly (not (recordsForm (l .records))) _ _ (λ h. zero)
+    (λ h. cond-ind GateEarly (not (connForm me (link .conn))) _ _ (λ h. zero)
+    (λ h. cond-ind GateEarly (ltb (length (link .buffer)) mostBody) _ _ (λ h. one)
+    (λ h. cond-ind GateEarly (ltb (length (l .reply)) leastReply) _ _ (λ h. one)
+    (λ h. cond-ind GateEarly (isShut (link .conn .framing)) _ _ (λ h s e. inr (inr (inl (sym (same-closed no.Shut s e)))))
     (λ h. cond-ind GateEarly (not (ownFits me)) _ _ (λ h s e. inr (inr (inr (sym (same-closed no.BadPeer s e))))) (λ h s e. open-not s (sym e))))))))
   where
     zero : GateEarly (Closed no.OutOfForm)
@@ -85,59 +85,56 @@ gate-early me c m t k y =
     one s e = inr (inl (sym (same-closed no.SmallBuffer s e)))
 
 -- ---- receive
-module _ (me : Peer) (c : Conn) (m bs t k y : List ℕ) (r : Refusal) where
+module _ (me : Peer) (link : Link) (bs : List ℕ) (l : Lent) (r : Refusal) where
   record Same (d : Dealing) : Type 0 where
-    contacts : d .contacts ≡ t
-    records : d .records ≡ k
-    reply : d .reply ≡ y
+    left : d .left ≡ l
     sight : d .sight ≡ NotSeen
 
   abbrev Kept : Dealing → Type 0
   Kept d = d .answer ≡ Refused r → Same d
 
-  deal-kept : (c′ : Conn) (body : List ℕ) → Kept (dealingOf me c′ body t k y)
+  deal-kept : (c′ : Conn) (body : List ℕ) → Kept (dealingOf me c′ body l)
   unfolding heard
   deal-kept c′ body =
-      deal-cases me c′ body t k y Kept (λ e. record { contacts = refl; records = refl; reply = refl; sight = refl })
-      (λ x h e. let q = refused-changes-nothing me (c′ .peer) body t k y x h in record { contacts = refl; records = q .0; reply = q .1; sight = refl })
-      (λ n e. reply-not n r e)
+      deal-cases me c′ body l Kept (λ e. record { left = refl; sight = refl })
+      (λ x e. record { left = refl; sight = refl }) (λ n e. reply-not n r e)
 
   abbrev Holds : Out → Type 0
-  Holds o = o .got .answer ≡ Refused r → Unchanged t k y o
+  Holds o = o .got .answer ≡ Refused r → Unchanged l o
 
-  unchanged : Holds (receiveOf me c m bs t k y)
+  unchanged : Holds (receiveOf me link bs l)
   unchanged =
-      cases me c m bs t k y Holds (λ s h e. record { contacts = refl; records = refl; reply = refl; sight = refl })
-      (λ g l e. let s = deal-kept (afterwards me c m bs t k y) _ e in record { contacts = s .contacts; records = s .records; reply = s .reply; sight = s .sight })
-      (λ g x e. record { contacts = refl; records = refl; reply = refl; sight = refl }) (λ g e. record { contacts = refl; records = refl; reply = refl; sight = refl })
+      cases me link bs l Holds (λ s h e. record { left = refl; sight = refl })
+      (λ g n e. let s = deal-kept (afterwards me link bs l) _ e in record { left = s .left; sight = s .sight })
+      (λ g x e. record { left = refl; sight = refl }) (λ g e. record { left = refl; sight = refl })
 
   abbrev Shuts : Out → Type 0
-  Shuts o = o .got .answer ≡ Refused r → o .got .conn ≡ withFraming c framing.Shut
+  Shuts o = o .got .answer ≡ Refused r → o .got .conn ≡ withFraming (link .conn) framing.Shut
 
-  shuts : gateOf me c m t k y ≡ Open → Shuts (receiveOf me c m bs t k y)
-  shuts g = open-cases me c m bs t k y g Shuts (λ l. shut-by) (λ x. shut-by) shut-by
+  shuts : gateOf me link l ≡ Open → Shuts (receiveOf me link bs l)
+  shuts g = open-cases me link bs l g Shuts (λ n. shut-by) (λ x. shut-by) shut-by
     where
-      shut-by : {a : Answer} → a ≡ Refused r → shutIf a (afterwards me c m bs t k y) ≡ withFraming c framing.Shut
-      shut-by e = ap (λ (a : Answer). shutIf a (afterwards me c m bs t k y)) e
+      shut-by : {a : Answer} → a ≡ Refused r → shutIf a (afterwards me link bs l) ≡ withFraming (link .conn) framing.Shut
+      shut-by e = ap (λ (a : Answer). shutIf a (afterwards me link bs l)) e
 
   abbrev Stays : Refusal → Out → Type 0
-  Stays s o = o .got .answer ≡ Refused r → (s ≡ r) × NotTaken c m o
+  Stays s o = o .got .answer ≡ Refused r → (s ≡ r) × NotTaken link o
 
-  stays : (s : Refusal) → gateOf me c m t k y ≡ Closed s → Stays s (receiveOf me c m bs t k y)
+  stays : (s : Refusal) → gateOf me link l ≡ Closed s → Stays s (receiveOf me link bs l)
   stays s g =
-      cases me c m bs t k y (Stays s) (λ x h e. (same-closed s x (sym g ∙ h) ∙ same-refusal x r e, record { taken = refl; conn = refl; buffer = refl }))
-      (λ h l. open-not s (sym g ∙ h)) (λ h x. open-not s (sym g ∙ h)) (λ h. open-not s (sym g ∙ h))
+      cases me link bs l (Stays s) (λ x h e. (same-closed s x (sym g ∙ h) ∙ same-refusal x r e, record { taken = refl; conn = refl; buffer = refl }))
+      (λ h n. open-not s (sym g ∙ h)) (λ h x. open-not s (sym g ∙ h)) (λ h. open-not s (sym g ∙ h))
 
-  refuses : receiveOf me c m bs t k y .got .answer ≡ Refused r → Refuses me c m bs t k y r
+  refuses : receiveOf me link bs l .got .answer ≡ Refused r → Refuses me link bs l r
   refuses e =
       record {
         unchanged = unchanged e;
-        closed = λ s g. let w = stays s g e in (w .0, subst Early (w .0) (gate-early me c m t k y s g), w .1);
+        closed = λ s g. let w = stays s g e in (w .0, subst Early (w .0) (gate-early me link l s g), w .1);
         shuts = λ g. shuts g e;
       }
 
 pub receive-refused : ReceiveRefused
-receive-refused me c m bs t k y r e = refuses me c m bs t k y r e
+receive-refused me link bs l r e = refuses me link bs l r e
 
 -- ---- the host's calls
 own-cases : (C : Type 0) (me : Peer) → (ownFits me ≡ true → C) → (ownFits me ≡ false → C) → C
@@ -148,23 +145,23 @@ calls-refused =
     record {
       sees = λ me t id client addresses l.
           own-cases _ me
-          (λ h. let w = seen-on me t id client addresses (seenCall t (me .place) id client) (seenCallTable t (me .place) id client addresses) h (refl, refl) in
-          sym (w .1) ∙ calls.claims .seenRefused t (me .place) id client addresses (subst (λ (o : SeenOutcome). seenNumber o < 64) (sym (w .0)) l))
+          (λ h. let w = seen-on me t id client addresses (seenCall t (me .place) id client addresses) (seenCallTable t (me .place) id client addresses) h (refl, refl) in
+          sym (w .1) ∙ calls.claims .seenRefused t (me .place) id client addresses (subst (λ (o : Sighting). seenNumber o < 64) (sym (w .0)) l))
           (λ h. sym (seen-after-off me t id client addresses h));
       settles = λ me t head id client addresses answered l.
           own-cases _ me
-          (λ h. let w = settle-on me t head id client addresses answered (settleCall t (me .place) head id client answered) (settleCallTable t (me .place) head id client addresses answered) h (refl, refl) in
-          sym (w .1) ∙ calls.claims .settleRefused t (me .place) head id client addresses answered (subst (λ (o : SettleOutcome). settleNumber o < 64) (sym (w .0)) l))
+          (λ h. let w = settle-on me t head id client addresses answered (settleCall t (me .place) head id client addresses answered) (settleCallTable t (me .place) head id client addresses answered) h (refl, refl) in
+          sym (w .1) ∙ calls.claims .settleRefused t (me .place) head id client addresses answered (subst (λ (o : Settled). settleNumber o < 64) (sym (w .0)) l))
           (λ h. sym (settle-off me t head id client addresses answered _ h refl .1));
       removes = λ me t id l.
           own-cases _ me
           (λ h. let w = remove-on me t id (removeCall t (me .place) id) (removeCallTable t (me .place) id) h (refl, refl) in
-          sym (w .1) ∙ calls.claims .removeRefused t (me .place) id (subst (λ (o : RemoveOutcome). removeNumber o < 64) (sym (w .0)) l))
+          sym (w .1) ∙ calls.claims .removeRefused t (me .place) id (subst (λ (o : Removed). removeNumber o < 64) (sym (w .0)) l))
           (λ h. sym (remove-off me t id _ h refl .1));
       doubts = λ me t id l.
           own-cases _ me
           (λ h. let w = doubt-on me t id (doubtCall t (me .place) id) (doubtCallTable t (me .place) id) h (refl, refl) in
-          sym (w .1) ∙ calls.claims .doubtRefused t (me .place) id (subst (λ (o : DoubtOutcome). doubtNumber o < 64) (sym (w .0)) l))
+          sym (w .1) ∙ calls.claims .doubtRefused t (me .place) id (subst (λ (o : Doubted). doubtNumber o < 64) (sym (w .0)) l))
           (λ h. sym (doubt-off me t id _ h refl .1));
     }
   where

@@ -6,11 +6,12 @@ use mathlib.Core.Bool.{Bool, true, false, cond}
 use mathlib.Core.List.{List}
 use lib.ListN.{length}
 use Rattle.octets.specs.Octets.{Bytes}
+use Rattle.limits.specs.Limits.{mostId, mostAddresses, addressesSize, placeSize}
 use Rattle.refusal.specs.declared.Refusal.{Refusal}
 use Rattle.refusal.specs.declared.Refusal.the-variants as no
 use Rattle.place.specs.Place.{placeOf}
 use Rattle.peer.specs.declared.Peer.{Peer}
-use Rattle.peer.specs.Peers.{idFits, badPeer, peerOf}
+use Rattle.peer.specs.Peers.{idFits, badPeer, peerOf, tidied}
 use Rattle.contacts.specs.Form.{inForm as contactsForm}
 use Rattle.records.specs.Store.{inForm as recordsForm}
 use Rattle.sightings.specs.Sightings.{sightingOf, seenTable}
@@ -19,6 +20,7 @@ use Rattle.message.specs.View.{readingOf}
 use Rattle.message.specs.declared.Fields.{Fields}
 use Rattle.message.specs.declared.Reading.the-variants as reading
 use Rattle.replies.specs.declared.Answered.the-variants as told
+use Rattle.replies.specs.Lent.{Lent, withContacts}
 use Rattle.answer.specs.Answers.{dealOf}
 use Rattle.stream.specs.declared.Framing.the-variants as framing
 use Rattle.stream.specs.declared.Ending.the-variants as ends
@@ -29,41 +31,38 @@ use Rattle.node.specs.declared.Answer.the-variants.{Reply, Heard, Refused}
 use Rattle.node.specs.declared.Sight.the-variants.{NotSeen, Seen}
 use Rattle.node.specs.declared.Gate.the-variants.{Open, Closed}
 use Rattle.connections.specs.Box.{ownFits, nobody, startOf, withFraming, openOf, connForm, endConn}
-use Rattle.node.specs.Node.{untouched, dealingOf, Out, gateOf, receiveOf}
+use Rattle.node.specs.Node.{Link, untouched, dealingOf, Out, gateOf, receiveOf}
 use Rattle.host_calls.specs.Hosts.{seenOf, seenAfter, settleOf, settleAfter, removeOf, removeAfter, doubtOf, doubtAfter, nearestTo}
 
 -- ---- 1. Refused calls change nothing
 -- contacts, records and reply buffer are as they were, and nobody was seen
-pub record Unchanged (t k y : List ℕ) (o : Out) : Type 0 where
-  pub contacts : o .contacts ≡ t
-  pub records : o .records ≡ k
-  pub reply : o .reply ≡ y
+pub record Unchanged (l : Lent) (o : Out) : Type 0 where
+  pub left : o .left ≡ l
   pub sight : o .got .sight ≡ NotSeen
 
 -- nothing was taken: "0 to 2 consume and change nothing", and so does 12
-pub record NotTaken (c : Conn) (m : List ℕ) (o : Out) : Type 0 where
+pub record NotTaken (link : Link) (o : Out) : Type 0 where
   pub taken : o .got .taken ≡ 0
-  pub conn : o .got .conn ≡ c
-  pub buffer : o .buffer ≡ m
+  pub conn : o .got .conn ≡ link .conn
+  pub buffer : o .buffer ≡ link .buffer
 
 -- 0, 1, 2 or 12
 abbrev pub Early : Refusal → Type 0
 Early r = (r ≡ no.OutOfForm) ⊎ ((r ≡ no.SmallBuffer) ⊎ ((r ≡ no.Shut) ⊎ (r ≡ no.BadPeer)))
 
 -- a receive that is refused: by the gate, or it shuts the connection
-pub record Refuses (me : Peer) (c : Conn) (m bs t k y : List ℕ) (r : Refusal) : Type 0 where
-  pub unchanged : Unchanged t k y (receiveOf me c m bs t k y)
-  pub closed : (s : Refusal) → gateOf me c m t k y ≡ Closed s → (s ≡ r) × Early r × NotTaken c m (receiveOf me c m bs t k y)
-  pub shuts : gateOf me c m t k y ≡ Open → receiveOf me c m bs t k y .got .conn ≡ withFraming c framing.Shut
+pub record Refuses (me : Peer) (link : Link) (bs : List ℕ) (l : Lent) (r : Refusal) : Type 0 where
+  pub unchanged : Unchanged l (receiveOf me link bs l)
+  pub closed : (s : Refusal) → gateOf me link l ≡ Closed s → (s ≡ r) × Early r × NotTaken link (receiveOf me link bs l)
+  pub shuts : gateOf me link l ≡ Open → receiveOf me link bs l .got .conn ≡ withFraming (link .conn) framing.Shut
 
 abbrev pub ReceiveRefused : Type 0
-ReceiveRefused =
-    (me : Peer) (c : Conn) (m bs t k y : List ℕ) (r : Refusal) → receiveOf me c m bs t k y .got .answer ≡ Refused r → Refuses me c m bs t k y r
+ReceiveRefused = (me : Peer) (link : Link) (bs : List ℕ) (l : Lent) (r : Refusal) → receiveOf me link bs l .got .answer ≡ Refused r → Refuses me link bs l r
 
 -- the host's calls: a number under 64 leaves the table, 13 too, which names a head to probe
 pub record CallsRefused : Type 0 where
-  pub sees : (me : Peer) (t id : List ℕ) (client : Bool) (addresses : List ℕ) → seenNumber (seenOf me t id client) < 64 → seenAfter me t id client addresses ≡ t
-  pub settles : (me : Peer) (t head id : List ℕ) (client : Bool) (addresses : List ℕ) (answered : Bool) → settleNumber (settleOf me t head id client answered) < 64
+  pub sees : (me : Peer) (t id : List ℕ) (client : Bool) (addresses : List ℕ) → seenNumber (seenOf me t id client addresses) < 64 → seenAfter me t id client addresses ≡ t
+  pub settles : (me : Peer) (t head id : List ℕ) (client : Bool) (addresses : List ℕ) (answered : Bool) → settleNumber (settleOf me t head id client addresses answered) < 64
       → settleAfter me t head id client addresses answered ≡ t
   pub removes : (me : Peer) (t id : List ℕ) → removeNumber (removeOf me t id) < 64 → removeAfter me t id ≡ t
   pub doubts : (me : Peer) (t id : List ℕ) → doubtNumber (doubtOf me t id) < 64 → doubtAfter me t id ≡ t
@@ -79,23 +78,24 @@ pub record ValuesRefused : Type 0 where
 
 -- ---- 2. What a whole message does, in four cases that leave none out
 pub record MessageDone : Type 0 where
-  -- on the answering side: a request that is refused does nothing; one that is answered gets that reply, "then a server-mode sender is seen"
-  pub refuses : (me : Peer) (c : Conn) (body t k y : List ℕ) (r : Refusal) → c .asking ≡ false → dealOf me (c .peer) body t k y .told ≡ told.Refused r
-      → dealingOf me c body t k y ≡ untouched (Refused r) t k y
-  pub replies : (me : Peer) (c : Conn) (body t k y : List ℕ) (n : ℕ) → c .asking ≡ false → dealOf me (c .peer) body t k y .told ≡ told.Reply n
-      → dealingOf me c body t k y
+  -- on the answering side: a request that is refused does nothing; one that is answered gets that reply, "then a server-mode sender is seen", with its
+  -- usable addresses
+  pub refuses : (me : Peer) (c : Conn) (body : List ℕ) (l : Lent) (r : Refusal) → c .asking ≡ false → dealOf me (c .peer) body l .told ≡ told.Refused r
+      → dealingOf me c body l ≡ untouched (Refused r) l
+  pub replies : (me : Peer) (c : Conn) (body : List ℕ) (l : Lent) (n : ℕ) → c .asking ≡ false → dealOf me (c .peer) body l .told ≡ told.Reply n
+      → dealingOf me c body l
       ≡ record {
         answer = Reply n;
-        sight = cond (c .server) (Seen (sightingOf t (me .place) (c .peer .place))) NotSeen;
-        contacts = cond (c .server) (seenTable t (me .place) (c .peer)) t;
-        records = dealOf me (c .peer) body t k y .records;
-        reply = dealOf me (c .peer) body t k y .reply;
+        sight = cond (c .server) (Seen (sightingOf (l .contacts) (me .place) (tidied (c .peer)))) NotSeen;
+        left = withContacts (dealOf me (c .peer) body l .left) (cond (c .server) (seenTable (l .contacts) (me .place) (tidied (c .peer))) (l .contacts));
       }
+  -- a sender as an open gives it is seen as it is
+  pub opened : (id place addresses : List ℕ) → tidied (peerOf id place addresses) ≡ peerOf id place addresses
   -- "On the asking side it goes to the host": with the view that the reader gives, "no reply, no sighting"; or it is refused as the reader refuses it
-  pub declines : (me : Peer) (c : Conn) (body t k y : List ℕ) (r : Refusal) → c .asking ≡ true → readingOf body ≡ reading.Refused r
-      → dealingOf me c body t k y ≡ untouched (Refused r) t k y
-  pub hears : (me : Peer) (c : Conn) (body t k y : List ℕ) (f : Fields) → c .asking ≡ true → readingOf body ≡ reading.Whole f
-      → dealingOf me c body t k y ≡ untouched (Heard (length body) f) t k y
+  pub declines : (me : Peer) (c : Conn) (body : List ℕ) (l : Lent) (r : Refusal) → c .asking ≡ true → readingOf body ≡ reading.Refused r
+      → dealingOf me c body l ≡ untouched (Refused r) l
+  pub hears : (me : Peer) (c : Conn) (body : List ℕ) (l : Lent) (f : Fields) → c .asking ≡ true → readingOf body ≡ reading.Whole f
+      → dealingOf me c body l ≡ untouched (Heard (length body) f) l
 
 -- ---- 3. What a start, an open and an end give, in cases that leave none out
 pub record BoxCalls : Type 0 where
@@ -118,16 +118,16 @@ pub record BoxCalls : Type 0 where
 -- ---- 4. Form is kept
 -- a peer whose arrays have the lengths that they are declared with, and whose place is bytes
 pub record Made (p : Peer) : Type 0 where
-  pub lensLong : length (p .lens) ≡ 4
-  pub placeLong : length (p .place) ≡ 32
+  pub lensLong : length (p .lens) ≡ mostAddresses
+  pub placeLong : length (p .place) ≡ placeSize
   pub placeBytes : Bytes (p .place)
-  pub idLong : length (p .id) ≡ 64
-  pub addrsLong : length (p .addrs) ≡ 512
+  pub idLong : length (p .id) ≡ mostId
+  pub addrsLong : length (p .addrs) ≡ addressesSize
 
 pub record FormKept : Type 0 where
   pub opens : (me : Peer) (id : List ℕ) (server asking : Bool) (addresses : List ℕ) → connForm me (openOf me id server asking addresses .conn) ≡ true
   pub closes : (me : Peer) (c : Conn) → connForm me c ≡ true → connForm me (endConn me c .conn) ≡ true
-  pub receives : (me : Peer) (c : Conn) (m bs t k y : List ℕ) → connForm me c ≡ true → connForm me (receiveOf me c m bs t k y .got .conn) ≡ true
-  pub contacts : (me : Peer) (c : Conn) (m bs t k y : List ℕ) → Made me → Made (c .peer) → connForm me c ≡ true → isShut (c .framing) ≡ false
-      → contactsForm t (me .place) ≡ true → contactsForm (receiveOf me c m bs t k y .contacts) (me .place) ≡ true
-  pub records : (me : Peer) (c : Conn) (m bs t k y : List ℕ) → recordsForm k ≡ true → recordsForm (receiveOf me c m bs t k y .records) ≡ true
+  pub receives : (me : Peer) (link : Link) (bs : List ℕ) (l : Lent) → connForm me (link .conn) ≡ true → connForm me (receiveOf me link bs l .got .conn) ≡ true
+  pub contacts : (me : Peer) (link : Link) (bs : List ℕ) (l : Lent) → Made me → Made (link .conn .peer) → connForm me (link .conn) ≡ true
+      → isShut (link .conn .framing) ≡ false → contactsForm (l .contacts) (me .place) ≡ true → contactsForm (receiveOf me link bs l .left .contacts) (me .place) ≡ true
+  pub records : (me : Peer) (link : Link) (bs : List ℕ) (l : Lent) → recordsForm (l .records) ≡ true → recordsForm (receiveOf me link bs l .left .records) ≡ true

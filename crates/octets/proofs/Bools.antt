@@ -145,3 +145,8 @@ all-off b bs e = and-off b (allOf bs) e
 pub all-on : (b : Bool) (bs : List Bool) → b ≡ true → allOf (b ∷ bs) ≡ allOf bs
 unfolding allOf
 all-on b bs e = and-on b (allOf bs) e
+
+pub all-last : (b : Bool) → allOf (b ∷ []) ≡ b
+unfolding allOf
+all-last true = refl
+all-last false = refl

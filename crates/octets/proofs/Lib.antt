@@ -5,3 +5,7 @@ pub mod Strings
 pub mod Numbers
 pub mod Stores
 pub mod Claims
+pub mod Words
+pub mod Lists
+pub mod Finding
+pub mod Counting

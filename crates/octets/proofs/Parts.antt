@@ -1,11 +1,15 @@
 -- Laws of parts of a byte string. Assumes nothing.
-use Prim.Native.Nat.{ℕ, zero, suc, _+_, _-_, _<_, _≤_}
+use Prim.Native.Nat.{ℕ, zero, suc, _+_, _-_, _<_, _≤_, min}
 use mathlib.Core.Path.{_≡_, refl, sym, ap, ap₂, _∙_}
+use mathlib.Core.Logic.{⊎-elim}
 use mathlib.Core.List.{List, [], _∷_, _++_}
 use native.Mathlib.Omega.{arith}
-use lib.ListN.{length, getD, take, drop, length-take, length-drop}
-use lib.Seq.{getD-take, getD-drop, drop-drop, take-take, take-add, take-all}
+use lib.ListN.{length, getD, take, drop, length-take, length-drop, drop-of-length-le}
+use lib.Seq.{getD-take, getD-drop, drop-drop, take-nil, take-take, take-add, take-all}
+use lib.Dec.{ltb}
+use borrow.Author.Tests.{ltb-true, ltb-false}
 use Rattle.octets.specs.Octets.{Bytes, part}
+use Rattle.octets.proofs.Bools.{either}
 
 -- ---- bytes
 pub bytes-take : (n : ℕ) (s : List ℕ) → Bytes s → Bytes (take n s)
@@ -50,7 +54,7 @@ pub part-whole : (s : List ℕ) (e : ℕ) → length s ≤ e → part s 0 e ≡ 
 part-whole s e h = let z : e - 0 ≡ e = omega arith in rw z (take-all e s h)
 
 -- a part of a part
-drop-take : (j n : ℕ) (s : List ℕ) → drop j (take n s) ≡ take (n - j) (drop j s)
+pub drop-take : (j n : ℕ) (s : List ℕ) → drop j (take n s) ≡ take (n - j) (drop j s)
 drop-take zero n s = let z : n - 0 ≡ n = omega arith in rw z
 drop-take (suc j) zero s = nil j
   where
@@ -77,3 +81,33 @@ part-join s a b e p q =
     let y : (b - a) + (e - b) ≡ e - a = omega arith in
     sym (ap (λ (n : ℕ). take n (drop a s)) (sym y) ∙ take-add (b - a) (e - b) (drop a s)
     ∙ ap (λ (t : List ℕ). part s a b ++ take (e - b) t) (drop-drop (b - a) a s ∙ ap (λ (n : ℕ). drop n s) x))
+
+-- ---- a cut: from a to the end, and n bytes or as many as there are
+pub cut-end : (s : List ℕ) (a : ℕ) → take (length s - a) (drop a s) ≡ drop a s
+cut-end s a = take-all (length s - a) (drop a s) (simp length-drop (omega arith))
+
+pub cut-none : (s : List ℕ) (a n : ℕ) → length s ≤ a → drop (length s) s ≡ take n (drop a s)
+cut-none s a n h =
+    let z : length s ≤ length s = omega arith in
+    drop-of-length-le s z ∙ sym (ap (take n) (drop-of-length-le s h) ∙ take-nil n)
+
+pub cut-few : (s : List ℕ) (a n : ℕ) → length s - a ≤ n → drop a s ≡ take n (drop a s)
+cut-few s a n h = sym (take-all n (drop a s) (simp length-drop (omega arith)))
+
+pub cut-whole : (s : List ℕ) (a n : ℕ) → take (a + n - a) (drop a s) ≡ take n (drop a s)
+cut-whole s a n = let e : a + n - a ≡ n = omega arith in ap (λ (k : ℕ). take k (drop a s)) e
+
+-- a part cut at a limit
+pub take-part : (s : List ℕ) (a n m : ℕ) → take m (part s a (a + n)) ≡ take (min n m) (drop a s)
+take-part s a n m = let e : a + n - a ≡ n = omega arith in ap (λ (k : ℕ). take m (take k (drop a s))) e ∙ both m n (drop a s)
+  where
+    both : (m n : ℕ) (l : List ℕ) → take m (take n l) ≡ take (min n m) l
+    both m n l = ⊎-elim (λ h. low (ltb-true n m h)) (λ h. high (ltb-false n m h)) (either (ltb n m))
+      where
+        low : n < m → take m (take n l) ≡ take (min n m) l
+        low h =
+            let e : min n m ≡ n = omega arith in
+            take-all m (take n l) (omega (arith, length-take n l)) ∙ ap (λ (k : ℕ). take k l) (sym e)
+
+        high : m ≤ n → take m (take n l) ≡ take (min n m) l
+        high h = let e : min n m ≡ m = omega arith in take-take m n l h ∙ ap (λ (k : ℕ). take k l) (sym e)

@@ -10,7 +10,7 @@ use native.Mathlib.Omega.{arith}
 use lib.Dec.{ltb, T}
 use borrow.Author.Tests.{lt-ltb, le-ltb, ltb-true, ltb-false}
 use Rattle.octets.specs.Search.{all, some, first, count, largest, every, lastOf}
-use Rattle.octets.proofs.Bools.{and-l, and-r, and-i, and-swap, or-e, or-l, or-r, not-both, to-false, either}
+use Rattle.octets.proofs.Bools.{and-l, and-r, and-i, and-assoc, and-swap, or-e, or-l, or-r, not-both, to-false, either}
 
 module _ (p : ℕ → Bool) where
   -- ---- all
@@ -240,3 +240,25 @@ pub last-append : {A : Type 0} (d : A) (l m : List A) → lastOf d (l ++ m) ≡ 
 unfolding lastOf
 last-append d [] m = refl
 last-append d (x ∷ l) m = last-append x l m
+
+-- ---- every, of joined lists
+pub every-append-is : {A : Type 0} (p : A → Bool) (l m : List A) → every p (l ++ m) ≡ (every p l && every p m)
+unfolding every
+every-append-is p [] m = refl
+every-append-is p (x ∷ l) m = rw (every-append-is p l m) (and-assoc (p x) (every p l) (every p m))
+
+-- ---- a search from 0 on
+pub none-yet : (p : ℕ → Bool) (j : ℕ) → j < 0 → p j ≡ false
+none-yet p j l = absurd (not-suc-le-zero l)
+
+pub none-more : (p : ℕ → Bool) (i : ℕ) → ((j : ℕ) → j < i → p j ≡ false) → p i ≡ false → (j : ℕ) → j < i + 1 → p j ≡ false
+none-more p i h e j l = ⊎-elim (λ q. ap p q ∙ e) (λ lt. h j lt) (eq-or-lt-of-le below)
+  where
+    below : j ≤ i
+    below = omega arith
+
+pub found : (p : ℕ → Bool) (n m i : ℕ) → m ≡ n → i < m → ((j : ℕ) → j < i → p j ≡ false) → p i ≡ true → i ≡ first n p
+found p n m i e l h q = first-hit p n i (omega arith) h q
+
+pub not-found : (p : ℕ → Bool) (n m i : ℕ) → m ≡ n → m ≤ i → ((j : ℕ) → j < i → p j ≡ false) → m ≡ first n p
+not-found p n m i e l h = e ∙ first-miss p n (λ j lj. h j (omega arith))

@@ -1,13 +1,13 @@
 -- Laws of runs of stores, `sets`. Assumes nothing.
 use Prim.Native.Nat.{ℕ, suc, _+_, _-_, _<_, _≤_}
-use mathlib.Core.Path.{_≡_, refl, sym, _∙_}
+use mathlib.Core.Path.{_≡_, refl, sym, ap, _∙_}
 use mathlib.Core.List.{List, [], _∷_, _++_, append-assoc}
 use mathlib.Core.Logic.{⊎-elim}
 use mathlib.Core.Bool.{true, false}
 use native.Mathlib.Numerals.{add-one}
 use native.Mathlib.Omega.{arith}
-use lib.ListN.{length, getD, take, drop, set, length-set, drop-of-length-le}
-use lib.Seq.{sets, drop-cons, set-out, sets-eq, take-set-le, drop-set-lt, getD-set-other, length-take-le, drop-at, take-append-seam}
+use lib.ListN.{length, getD, take, drop, set, length-set, take-append-drop, drop-of-length-le}
+use lib.Seq.{sets, length-sets, take-all, set-append-left, drop-cons, set-out, sets-eq, take-set-le, drop-set-lt, getD-set-other, length-take-le, drop-at, take-append-seam}
 use lib.Dec.{ltb}
 use borrow.Author.Tests.{ltb-true, ltb-false}
 use Rattle.octets.proofs.Bools.{either}
@@ -78,3 +78,52 @@ copied buf₀ at src n buf i g l h f = ⊎-elim cut whole (either (ltb n (length
 
     whole : ltb n (length src) ≡ false → buf ≡ sets buf₀ at src
     whole t = let q : length src ≤ i = omega (arith, ltb-false n (length src) t) in rw (drop-of-length-le src q) at (g .same)
+
+-- one more store
+pub sets-snoc : (l : List ℕ) (i : ℕ) (a : List ℕ) (x : ℕ) → sets l i (a ++ (x ∷ [])) ≡ set (sets l i a) (i + length a) x
+sets-snoc l i [] x = let e : i + 0 ≡ i = omega arith in rw e
+sets-snoc l i (y ∷ a) x = let e : i + suc (length a) ≡ suc i + length a = omega arith in rw e (sets-snoc (set l i y) (suc i) a x)
+
+-- ---- stores into one of two lists that stand one after the other
+pub set-append-add : (xs ys : List ℕ) (k v : ℕ) → set (xs ++ ys) (length xs + k) v ≡ xs ++ set ys k v
+set-append-add [] ys k v = let e : 0 + k ≡ k = omega arith in rw e
+set-append-add (x ∷ xs) ys k v =
+    let e : suc (length xs) + k ≡ suc (length xs + k) = omega arith in
+    rw e (ap {B = List ℕ} (λ (l : List ℕ). x ∷ l) (set-append-add xs ys k v))
+
+pub sets-append-add : (xs ys : List ℕ) (k : ℕ) (vs : List ℕ) → sets (xs ++ ys) (length xs + k) vs ≡ xs ++ sets ys k vs
+sets-append-add xs ys k [] = refl
+sets-append-add xs ys k (v ∷ vs) =
+    let e : suc (length xs + k) ≡ length xs + suc k = omega arith in
+    rw (set-append-add xs ys k v, e) (sets-append-add xs (set ys k v) (suc k) vs)
+
+pub sets-append-left : (xs ys : List ℕ) (k : ℕ) (vs : List ℕ) → k + length vs ≤ length xs → sets (xs ++ ys) k vs ≡ sets xs k vs ++ ys
+sets-append-left xs ys k [] h = refl
+sets-append-left xs ys k (v ∷ vs) h =
+    ap (λ (l : List ℕ). sets l (suc k) vs) (set-append-left xs ys k v (omega arith)) ∙ sets-append-left (set xs k v) ys (suc k) vs (omega (arith, length-set xs k v))
+
+pub sets-cons : (x : ℕ) (l : List ℕ) (k : ℕ) (vs : List ℕ) → sets (x ∷ l) (suc k) vs ≡ x ∷ sets l k vs
+sets-cons x l k [] = refl
+sets-cons x l k (v ∷ vs) = sets-cons x (set l k v) (suc k) vs
+
+-- stores from the start on, as many as there is room for
+pub sets-front : (out l : List ℕ) → sets out 0 l ≡ take (length out) l ++ drop (length l) out
+sets-front out l = ⊎-elim cut-off whole (either (ltb (length out) (length l)))
+  where
+    whole : ltb (length out) (length l) ≡ false → sets out 0 l ≡ take (length out) l ++ drop (length l) out
+    whole t =
+        let h : length l ≤ length out = ltb-false (length out) (length l) t in
+        let z : 0 + length l ≡ length l = omega arith in
+        sets-eq l out 0 (omega (arith, h)) ∙ rw (z, take-all (length out) l h)
+
+    cut-off : ltb (length out) (length l) ≡ true → sets out 0 l ≡ take (length out) l ++ drop (length l) out
+    cut-off t =
+        let n : ℕ = length out in
+        let h : length out < length l = ltb-true (length out) (length l) t in
+        let k : length (take n l) ≡ n = length-take-le n l (omega (arith, h)) in
+        let a : sets out 0 l ≡ sets (sets out 0 (take n l)) (0 + length (take n l)) (drop n l) = ap (λ (x : List ℕ). sets out 0 x) (sym (take-append-drop n l)) ∙ sets-append out 0 (take n l) (drop n l) in
+        let b = sets-out (sets out 0 (take n l)) (0 + length (take n l)) (drop n l) (omega (arith, k, length-sets out 0 (take n l))) in
+        let u : length out ≤ 0 + length (take n l) = omega (arith, k) in
+        let v : length out ≤ length l = omega (arith, h) in
+        let d : drop (0 + length (take n l)) out ≡ drop (length l) out = drop-of-length-le out u ∙ sym (drop-of-length-le out v) in
+        a ∙ b ∙ sets-eq (take n l) out 0 (omega (arith, k)) ∙ rw d

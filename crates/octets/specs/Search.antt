@@ -43,3 +43,14 @@ allOf (b ∷ bs) = b && allOf bs
 unfoldable pub lastOf : {A : Type 0} → A → List A → A
 lastOf d [] = d
 lastOf d (x ∷ l) = lastOf x l
+
+-- ---- in a list
+-- the place of the first element that passes, or the length where none does
+unfoldable pub firstIn : {A : Type 0} → (A → Bool) → List A → ℕ
+firstIn p [] = 0
+firstIn p (x ∷ l) = cond (p x) 0 (suc (firstIn p l))
+
+-- some element passes
+unfoldable pub anyIn : {A : Type 0} → (A → Bool) → List A → Bool
+anyIn p [] = false
+anyIn p (x ∷ l) = p x || anyIn p l

@@ -1,6 +1,6 @@
 // Byte strings: comparing, ordering, copying, and big-endian words. Every function takes any slices.
 ghost use mathlib.Core.Path.{_≡_};
-ghost use Prim.Native.Nat.{ℕ, _+_, _*_, _≤_, _<_};
+ghost use Prim.Native.Nat.{ℕ, _+_, _*_, _≤_, _<_, min};
 ghost use lib.ListN.{length, getD, take, drop};
 ghost use lib.Seq.{sets};
 ghost use mathlib.Core.List.{[], _∷_};
@@ -84,8 +84,8 @@ pub fn same_bytes(a: &[u8], b: &[u8]) -> bool
     same_rest(a, b, i)
 }
 
-// Whether a comes before b in bytewise order; a prefix is lower.
-pub fn lower_bytes(a: &[u8], b: &[u8]) -> bool
+// Whether a comes before b in bytewise order, byte by byte; a prefix is lower.
+fn lower_rest(a: &[u8], b: &[u8]) -> bool
     ensures { λ r. ⌜ r ≡ lower (now (a .entry)) (now (b .entry)) ⌝ }
 {
     let mut i: usize = 0;
@@ -104,6 +104,52 @@ pub fn lower_bytes(a: &[u8], b: &[u8]) -> bool
         i += 1;
     }
     i < b.len()
+}
+
+fn shorter(a: usize, b: usize) -> usize
+    ensures { λ r. ⌜ r ≡ min a b ⌝ }
+{
+    if a < b {
+        return a;
+    }
+    b
+}
+
+// How many bytes two slices have in common from their start, two words at a time, of the first n. Strangers choose the keys, and may choose them the
+// same for long.
+fn common(s: &[u8], t: &[u8], n: usize) -> usize
+    requires { ⌜ n ≡ min (length (now s)) (length (now t)) ⌝ }
+    ensures { λ r. ⌜ (r ≤ n) × (lower (now (s .entry)) (now (t .entry)) ≡ lower (drop r (now (s .entry))) (drop r (now (t .entry)))) ⌝ }
+{
+    let mut i: usize = 0;
+    while 16 <= n - i {
+        let j = i + 8;
+        if whole_word(s, i) != whole_word(t, i) {
+            return i;
+        }
+        if whole_word(s, j) != whole_word(t, j) {
+            return i;
+        }
+        i = j + 8;
+    }
+    i
+}
+
+// Whether a comes before b in bytewise order, in which a prefix is lower: what they have in common is passed over, then the first word that differs decides.
+pub fn lower_bytes(a: &[u8], b: &[u8]) -> bool
+    ensures { λ r. ⌜ r ≡ lower (now (a .entry)) (now (b .entry)) ⌝ }
+{
+    let n = shorter(a.len(), b.len());
+    let mut i = common(a, b, n);
+    while 8 <= n - i {
+        let x = whole_word(a, i);
+        let y = whole_word(b, i);
+        if x != y {
+            return x < y;
+        }
+        i += 8;
+    }
+    lower_rest(&a[i..], &b[i..])
 }
 
 // Whether s begins with the bytes of p.

@@ -1,4 +1,5 @@
-pub mod Runs
 pub mod Rooms
 pub mod Lists
 pub mod Meaning
+pub mod Tidy
+pub mod Slot

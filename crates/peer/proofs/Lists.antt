@@ -8,43 +8,46 @@ use native.Mathlib.Nat.{not-suc-le-zero}
 use native.Mathlib.Omega.{arith}
 use lib.Dec.{leb}
 use lib.ListN.{length, getD, take, drop, set, length-take, length-drop, length-append, replicate}
-use lib.Seq.{sets, drop-cons, drop-drop, take-all, take-at}
+use lib.Seq.{sets, getD-drop, drop-drop, take-all, take-at}
 use borrow.Author.Tests.{le-leb, lt-leb, leb-true}
-use Rattle.octets.specs.Octets.{part, littleNumber}
+use Rattle.octets.specs.Octets.{part}
 use Rattle.octets.specs.Search.{every}
 use Rattle.octets.proofs.Bools.{and-l, and-r, and-off, not-both, either, cond-yes, cond-no}
 use Rattle.octets.proofs.Searching.{every-nil, every-cons, every-head, every-tail}
 use Rattle.octets.proofs.Parts.{part-is, part-size}
-use Rattle.peer.specs.Addresses.{sizeOf, whole, addressesFrom, addressesOf, usableSize, usable, keptOf, endOf, rooms, sizes}
-use Rattle.peer.proofs.Rooms.{length-rooms, length-sizes, rooms-none, sizes-none, rooms-more, sizes-more}
+use Rattle.peer.specs.Addresses.{two, entriesFrom, entries, addressSize, addressAt, addressesOf, usableSize, usable, keptOf, endOf, rooms, sizes}
+use Rattle.peer.proofs.Rooms.{length-rooms, length-sizes, rooms-none, sizes-none, rooms-more, sizes-more, Short, short-none}
 
 -- ---- one entry
-two-bytes : (a b : ℕ) (l : List ℕ) → a + b * 256 ≡ sizeOf (a ∷ b ∷ l)
-unfolding sizeOf littleNumber
-two-bytes a b l = omega arith
+abbrev sizeOf : List ℕ → ℕ
+sizeOf s = two s 0
 
-pub size-read : (s : List ℕ) (at : ℕ) → at + 2 ≤ length s → getD s at 0 + getD s (at + 1) 0 * 256 ≡ sizeOf (drop at s)
-size-read s at h =
-    let e : suc at ≡ at + 1 = omega arith in
-    let l : at < length s = omega arith in
-    let m : at + 1 < length s = omega arith in
-    two-bytes (getD s at 0) (getD s (at + 1) 0) (drop (suc (at + 1)) s)
-    ∙ sym (ap sizeOf (drop-cons s at 0 l ∙ ap (λ (x : List ℕ). getD s at 0 ∷ x) (ap (λ (k : ℕ). drop k s) e ∙ drop-cons s (at + 1) 0 m)))
+abbrev whole : List ℕ → Bool
+whole s = leb (addressSize s) (length s)
+
+pub size-read : (s : List ℕ) (at : ℕ) → getD s at 0 + getD s (at + 1) 0 * 256 ≡ two (drop at s) 0
+unfolding two
+size-read s at =
+    let z : at + 0 ≡ at = omega arith in
+    sym (ap₂ (λ (a b : ℕ). a + b * 256) (getD-drop at s 0 0 ∙ ap (λ (k : ℕ). getD s k 0) z) (getD-drop at s 1 0))
 
 module _ (s : List ℕ) (at : ℕ) (h : at ≤ length s) where
   pub end-short : length s - at < 2 → 0 ≡ endOf s at
-  unfolding endOf whole
+  unfolding endOf addressSize
   end-short l = sym (cond-no (leb (2 + sizeOf (drop at s)) (length (drop at s))) _ 0 (lt-leb (2 + sizeOf (drop at s)) (length (drop at s)) (omega (arith, length-drop at s))))
 
   pub end-cut : (n : ℕ) → n ≡ sizeOf (drop at s) → 2 ≤ length s - at → length s - at - 2 < n → 0 ≡ endOf s at
-  unfolding endOf whole
+  unfolding endOf addressSize
   end-cut n e g l = sym (cond-no (leb (2 + sizeOf (drop at s)) (length (drop at s))) _ 0 (lt-leb (2 + sizeOf (drop at s)) (length (drop at s)) (omega (arith, length-drop at s))))
 
   pub end-there : (n : ℕ) → n ≡ sizeOf (drop at s) → 2 ≤ length s - at → n ≤ length s - at - 2 → at + 2 + n ≡ endOf s at
-  unfolding endOf whole
+  unfolding endOf addressSize
   end-there n e g l =
-      ap (λ (k : ℕ). at + 2 + k) e
+      ends
       ∙ sym (cond-yes (leb (2 + sizeOf (drop at s)) (length (drop at s))) _ 0 (le-leb (2 + sizeOf (drop at s)) (length (drop at s)) (omega (arith, length-drop at s))))
+    where
+      ends : at + 2 + n ≡ at + (2 + sizeOf (drop at s))
+      ends = omega (arith, e)
 
   pub record Entry (e : ℕ) : Type 0 where
     pub stands : whole (drop at s) ≡ true
@@ -52,7 +55,7 @@ module _ (s : List ℕ) (at : ℕ) (h : at ≤ length s) where
     pub inside : e ≤ length s
 
   pub entry : (e : ℕ) → e ≡ endOf s at → (e ≡ 0 → ⊥) → Entry e
-  unfolding endOf whole
+  unfolding endOf addressSize
   entry e q z = ⊎-elim yes (λ w. absurd (z (q ∙ cond-no (whole (drop at s)) _ 0 w))) (either (whole (drop at s)))
     where
       fits : whole (drop at s) ≡ true → 2 + sizeOf (drop at s) ≤ length (drop at s)
@@ -60,14 +63,15 @@ module _ (s : List ℕ) (at : ℕ) (h : at ≤ length s) where
 
       yes : whole (drop at s) ≡ true → Entry e
       yes w =
-          let r : e ≡ at + 2 + sizeOf (drop at s) = q ∙ cond-yes (whole (drop at s)) (at + 2 + sizeOf (drop at s)) 0 w in
+          let x : e ≡ at + (2 + sizeOf (drop at s)) = q ∙ cond-yes (whole (drop at s)) (at + (2 + sizeOf (drop at s))) 0 w in
+          let r : e ≡ at + 2 + sizeOf (drop at s) = omega (arith, x) in
           record { stands = w; ends = r; inside = omega (arith, fits w, length-drop at s) }
 
   pub no-entry : (e : ℕ) → e ≡ endOf s at → e ≡ 0 → whole (drop at s) ≡ false
-  unfolding endOf
-  no-entry e q z = ⊎-elim (λ w. absurd (bad (q ∙ cond-yes (whole (drop at s)) (at + 2 + sizeOf (drop at s)) 0 w))) (λ w. w) (either (whole (drop at s)))
+  unfolding endOf addressSize
+  no-entry e q z = ⊎-elim (λ w. absurd (bad (q ∙ cond-yes (whole (drop at s)) (at + (2 + sizeOf (drop at s))) 0 w))) (λ w. w) (either (whole (drop at s)))
     where
-      bad : e ≡ at + 2 + sizeOf (drop at s) → ⊥
+      bad : e ≡ at + (2 + sizeOf (drop at s)) → ⊥
       bad r = omega arith
 
 -- ---- usable
@@ -100,8 +104,11 @@ unfolding usable
 usable-no a l h = rw h
 
 -- ---- the addresses from an entry on
+abbrev addressesFrom : ℕ → List ℕ → List (List ℕ)
+addressesFrom fuel s = entriesFrom addressSize addressAt fuel s
+
 whole-nil : whole [] ≡ false
-unfolding whole sizeOf littleNumber
+unfolding addressSize two
 whole-nil = refl
 
 nil-of : (s : List ℕ) → length s ≤ 0 → s ≡ []
@@ -109,13 +116,13 @@ nil-of [] h = refl
 nil-of (b ∷ s) h = absurd (not-suc-le-zero h)
 
 from-stop : (fuel : ℕ) (s : List ℕ) → whole s ≡ false → addressesFrom fuel s ≡ []
-unfolding addressesFrom
+unfolding entriesFrom
 from-stop zero s w = refl
 from-stop (suc fuel) s w = cond-no (whole s) _ [] w
 
 from-on : (fuel : ℕ) (s : List ℕ) → length s ≤ fuel → whole s ≡ true
     → addressesFrom fuel s ≡ part s 2 (2 + sizeOf s) ∷ addressesFrom (fuel - 1) (drop (2 + sizeOf s) s)
-unfolding addressesFrom
+unfolding entriesFrom addressSize addressAt
 from-on zero s h w = absurd (not-both (whole s) w (ap whole (nil-of s h) ∙ whole-nil))
 from-on (suc fuel) s h w = let e : suc fuel - 1 ≡ fuel = omega arith in rw e (cond-yes (whole s) _ [] w)
 
@@ -132,7 +139,7 @@ pub record Scan (list addrs lens : List ℕ) (count at : ℕ) : Type 0 where
   pub long : lens ≡ sizes 4 done
 
 pub start : (list addrs lens : List ℕ) → addrs ≡ replicate 512 0 → lens ≡ replicate 4 0 → Scan list addrs lens 0 0
-unfolding addressesOf
+unfolding addressesOf entries
 start list addrs lens e g = record {
   fuel = length list;
   done = [];
@@ -266,3 +273,8 @@ pub every-at : (l : List (List ℕ)) (k : ℕ) → every isUsable l ≡ true →
 every-at [] k h g = absurd (not-suc-le-zero g)
 every-at (a ∷ l) zero h g = every-head isUsable a l h
 every-at (a ∷ l) (suc k) h g = every-at l k (every-tail isUsable a l h) (omega arith)
+
+pub usable-short : (l : List (List ℕ)) → every isUsable l ≡ true → Short l
+usable-short [] h k = short-none k
+usable-short (a ∷ l) h zero = size-most (length a) (every-head isUsable a l h)
+usable-short (a ∷ l) h (suc k) = usable-short l (every-tail isUsable a l h) k

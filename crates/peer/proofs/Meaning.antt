@@ -1,13 +1,14 @@
 -- What stands in a peer: the id and the addresses that it was made of, and the lengths of its arrays. Assumes nothing.
-use Prim.Native.Nat.{ℕ, zero, suc, _+_, _<_, _≤_, min}
-use mathlib.Core.Path.{_≡_, refl, sym, ap, ap₂, _∙_}
+use Prim.Native.Nat.{ℕ, zero, suc, _+_, _*_, _<_, _≤_, min}
+use mathlib.Core.Path.{_≡_, refl, sym, ap, ap₂, subst, _∙_}
 use mathlib.Core.Logic.{⊎-elim}
 use mathlib.Core.Bool.{true, false, not, _||_}
 use mathlib.Core.List.{List, [], _∷_, _++_}
 use native.Mathlib.Omega.{arith}
 use lib.Dec.{leb}
 use borrow.Author.Tests.{le-leb, lt-leb, leb-true}
-use Rattle.octets.specs.Octets.{same}
+use Rattle.octets.specs.Octets.{part, same}
+use Rattle.octets.specs.Search.{every}
 use Rattle.octets.proofs.Bools.{and-l, and-r, and-on, and-off, or-l, or-r, or-off, not-both, either}
 use Rattle.octets.proofs.Strings.{same-yes}
 use Rattle.place.specs.Place.{placeOf}
@@ -16,8 +17,8 @@ use lib.Seq.{take-suc, take-all}
 use Rattle.peer.specs.declared.Peer.{Peer}
 use Rattle.peer.specs.Addresses.{usableSize, keptOf, padded, rooms, sizes}
 use Rattle.peer.specs.Peers.{idFits, badPeer, peerOf, idIn, addressIn, addressesTo, addressesIn}
-use Rattle.peer.proofs.Rooms.{length-padded, length-rooms, length-sizes, padded-front, room-part, size-in}
-use Rattle.peer.proofs.Lists.{kept-usable, kept-few, every-at, size-most}
+use Rattle.peer.proofs.Rooms.{Short, length-padded, length-rooms, length-sizes, padded-front, room-part, size-in, sizes-most}
+use Rattle.peer.proofs.Lists.{isUsable, kept-usable, kept-few, every-at, usable-short}
 
 -- ---- an id of 1 to 64 bytes, as the code finds it out
 pub fits-none : (id : List ℕ) → length id ≡ 0 → false ≡ idFits id
@@ -61,6 +62,38 @@ pub made : (id place addresses name addrs lens : List ℕ) (size count : ℕ)
 unfolding peerOf
 made id place addresses name addrs lens size count a b c d e = rw (a, b, c, d, e)
 
+-- ---- a peer whose rooms hold up to four addresses that fit
+pub record Laid (p : Peer) (l : List (List ℕ)) : Type 0 where
+  pub held : p .addrs ≡ rooms 4 l
+  pub sized : p .lens ≡ sizes 4 l
+  pub many : p .count ≡ length l
+  pub few : length l ≤ 4
+  pub short : Short l
+
+module _ (p : Peer) (l : List (List ℕ)) (h : Laid p l) where
+  pub laid-size : every isUsable l ≡ true → (k : ℕ) → k < p .count → usableSize (getD (p .lens) k 0) ≡ true
+  laid-size g k i =
+      ap (λ (s : List ℕ). usableSize (getD s k 0)) (h .sized)
+      ∙ ap usableSize (size-in 4 l k (omega (arith, h .many)) (omega (arith, h .many, h .few))) ∙ every-at l k g (omega (arith, h .many))
+
+  pub laid-most : (k : ℕ) → getD (p .lens) k 0 ≤ 128
+  laid-most k = subst (λ (s : List ℕ). getD s k 0 ≤ 128) (sym (h .sized)) (sizes-most 4 l (h .short) k)
+
+  one-said : (k : ℕ) → k < length l → addressIn p k ≡ getD l k []
+  unfolding addressIn
+  one-said k i =
+      ap₂ (λ (x z : List ℕ). part x (k * 128) (k * 128 + getD z k 0)) (h .held) (h .sized)
+      ∙ room-part 4 l k i (omega (arith, h .few)) (h .short k)
+
+  some-said : (n : ℕ) → n ≤ length l → addressesTo p n ≡ take n l
+  unfolding addressesTo
+  some-said zero i = refl
+  some-said (suc n) i = ap₂ (λ (x : List (List ℕ)) (a : List ℕ). x ++ (a ∷ [])) (some-said n (omega arith)) (one-said n i) ∙ sym (take-suc l n [] i)
+
+  pub laid-says : addressesIn p ≡ l
+  unfolding addressesIn
+  laid-says = ap (addressesTo p) (h .many) ∙ some-said (length l) (omega arith) ∙ take-all (length l) l (omega arith)
+
 module _ (id place addresses : List ℕ) where
   p : Peer
   p = peerOf id place addresses
@@ -92,10 +125,12 @@ module _ (id place addresses : List ℕ) where
   pub count-few : peerOf id place addresses .count ≤ 4
   count-few = omega (arith, count-is, kept-few addresses)
 
-  pub lens-usable : (k : ℕ) → k < peerOf id place addresses .count → usableSize (getD (peerOf id place addresses .lens) k 0) ≡ true
+  laid : Laid (peerOf id place addresses) (keptOf addresses)
   unfolding peerOf
-  lens-usable k h =
-      ap usableSize (size-in 4 (keptOf addresses) k h (omega (arith, kept-few addresses))) ∙ every-at (keptOf addresses) k (kept-usable addresses) h
+  laid = record { held = refl; sized = refl; many = refl; few = kept-few addresses; short = usable-short (keptOf addresses) (kept-usable addresses) }
+
+  pub lens-usable : (k : ℕ) → k < peerOf id place addresses .count → usableSize (getD (peerOf id place addresses .lens) k 0) ≡ true
+  lens-usable = laid-size (peerOf id place addresses) (keptOf addresses) laid (kept-usable addresses)
 
   -- the id, cut to 64 bytes; the whole of it where it is no longer than that
   pub id-said : idIn (peerOf id place addresses) ≡ take 64 id
@@ -106,17 +141,5 @@ module _ (id place addresses : List ℕ) where
   id-whole h = id-said ∙ take-all 64 id h
 
   -- the addresses: the first four usable ones
-  one-said : (k : ℕ) → k < length (keptOf addresses) → addressIn (peerOf id place addresses) k ≡ getD (keptOf addresses) k []
-  unfolding addressIn peerOf
-  one-said k h =
-      room-part 4 (keptOf addresses) k h (omega (arith, kept-few addresses)) (size-most _ (every-at (keptOf addresses) k (kept-usable addresses) h))
-
-  some-said : (n : ℕ) → n ≤ length (keptOf addresses) → addressesTo (peerOf id place addresses) n ≡ take n (keptOf addresses)
-  unfolding addressesTo
-  some-said zero h = refl
-  some-said (suc n) h =
-      ap₂ (λ (l : List (List ℕ)) (a : List ℕ). l ++ (a ∷ [])) (some-said n (omega arith)) (one-said n h) ∙ sym (take-suc (keptOf addresses) n [] h)
-
   pub addresses-said : addressesIn (peerOf id place addresses) ≡ keptOf addresses
-  unfolding addressesIn peerOf
-  addresses-said = some-said (length (keptOf addresses)) (omega arith) ∙ take-all (length (keptOf addresses)) (keptOf addresses) (omega arith)
+  addresses-said = laid-says (peerOf id place addresses) (keptOf addresses) laid

@@ -9,7 +9,7 @@ use lib.Seq.{sets, take-nil, take-all, take-append-seam, drop-append-add}
 use Rattle.octets.specs.Octets.{part}
 use Rattle.octets.proofs.Parts.{part-is}
 use Rattle.peer.specs.Addresses.{padded, rooms, sizes}
-use Rattle.peer.proofs.Runs.{sets-append-add, sets-append-left, sets-cons}
+use Rattle.octets.proofs.Stores.{sets-append-add, sets-append-left, sets-cons}
 
 -- ---- padded
 pub padded-none : (n : ℕ) → padded n [] ≡ replicate n 0
@@ -109,3 +109,24 @@ pub room-part : (n : ℕ) (l : List (List ℕ)) (k : ℕ) → k < length l → k
     → part (rooms n l) (k * 128) (k * 128 + getD (sizes n l) k 0) ≡ getD l k []
 room-part n l k h g f =
     part-is (rooms n l) (k * 128) (getD (sizes n l) k 0) ∙ ap (λ (m : ℕ). take m (drop (k * 128) (rooms n l))) (size-in n l k h g) ∙ room-in n l k h g f
+
+-- ---- addresses that fit into their rooms
+abbrev pub Short : List (List ℕ) → Type 0
+Short l = (k : ℕ) → length (getD l k []) ≤ 128
+
+pub short-none : Short []
+short-none k = omega arith
+
+pub short-more : (l : List (List ℕ)) (a : List ℕ) → Short l → length a ≤ 128 → Short (l ++ (a ∷ []))
+short-more [] a h g zero = g
+short-more [] a h g (suc k) = short-none k
+short-more (x ∷ l) a h g zero = h zero
+short-more (x ∷ l) a h g (suc k) = short-more l a (λ i. h (suc i)) g k
+
+pub sizes-most : (n : ℕ) (l : List (List ℕ)) → Short l → (k : ℕ) → getD (sizes n l) k 0 ≤ 128
+unfolding sizes
+sizes-most zero l h k = omega arith
+sizes-most (suc n) [] h zero = omega arith
+sizes-most (suc n) [] h (suc k) = sizes-most n [] short-none k
+sizes-most (suc n) (a ∷ l) h zero = h zero
+sizes-most (suc n) (a ∷ l) h (suc k) = sizes-most n l (λ i. h (suc i)) k

@@ -1,40 +1,39 @@
 -- Lists of addresses as they are handed in, and those that are kept: document 01, 'Distance and contacts'.
 -- A list is one byte string. Each address is a length of two bytes, the lowest first, and then its bytes.
-use Prim.Native.Nat.{ℕ, zero, suc, _+_, _-_}
+use Prim.Native.Nat.{ℕ, zero, suc, _+_, _*_, _-_}
 use mathlib.Core.Bool.{Bool, cond, _&&_}
 use mathlib.Core.List.{List, [], _∷_, _++_}
-use lib.ListN.{length, take, drop, replicate}
+use lib.ListN.{length, getD, take, drop, replicate}
 use lib.Dec.{leb}
-use Rattle.octets.specs.Octets.{part, littleNumber}
+use Rattle.octets.specs.Octets.{part}
+use Rattle.limits.specs.Limits.{mostAddress, mostAddresses}
 
--- "peer id 64, address 128, four addresses"
-abbrev pub idRoom : ℕ
-idRoom = 64
+-- two bytes as a number, the lower first
+unfoldable pub two : List ℕ → ℕ → ℕ
+two s at = getD s at 0 + getD s (at + 1) 0 * 256
 
-abbrev pub addressRoom : ℕ
-addressRoom = 128
+-- a string read entry after entry, each of its own size; one that runs past the end ends the list. k entries at most
+unfoldable pub entriesFrom : {A : Type 0} → (List ℕ → ℕ) → (List ℕ → A) → ℕ → List ℕ → List A
+entriesFrom size make zero s = []
+entriesFrom size make (suc k) s = cond (leb (size s) (length s)) (make s ∷ entriesFrom size make k (drop (size s) s)) []
 
-abbrev pub mostAddresses : ℕ
-mostAddresses = 4
+-- an entry has at least a byte, so there are no more than the string has
+unfoldable pub entries : {A : Type 0} → (List ℕ → ℕ) → (List ℕ → A) → List ℕ → List A
+entries size make s = entriesFrom size make (length s) s
 
--- the length that opens a list, and whether the entry that it opens stands there whole
-unfoldable pub sizeOf : List ℕ → ℕ
-sizeOf s = littleNumber (take 2 s)
+-- an address in a list: a two-byte length and its bytes
+unfoldable pub addressSize : List ℕ → ℕ
+addressSize s = 2 + two s 0
 
-unfoldable pub whole : List ℕ → Bool
-whole s = leb (2 + sizeOf s) (length s)
-
--- the addresses of a list; an entry that runs past the end ends it. An entry has two bytes or more, so there are fewer than bytes
-unfoldable pub addressesFrom : ℕ → List ℕ → List (List ℕ)
-addressesFrom zero s = []
-addressesFrom (suc fuel) s = cond (whole s) (part s 2 (2 + sizeOf s) ∷ addressesFrom fuel (drop (2 + sizeOf s) s)) []
+unfoldable pub addressAt : List ℕ → List ℕ
+addressAt s = part s 2 (addressSize s)
 
 unfoldable pub addressesOf : List ℕ → List (List ℕ)
-addressesOf s = addressesFrom (length s) s
+addressesOf s = entries addressSize addressAt s
 
 -- "usable (1 to 128 bytes; the first four usable)"
 unfoldable pub usableSize : ℕ → Bool
-usableSize n = leb 1 n && leb n addressRoom
+usableSize n = leb 1 n && leb n mostAddress
 
 unfoldable pub usable : List (List ℕ) → List (List ℕ)
 usable [] = []
@@ -45,7 +44,7 @@ keptOf s = take mostAddresses (usable (addressesOf s))
 
 -- where the entry at a place of a list ends; 0 where it isn't whole
 unfoldable pub endOf : List ℕ → ℕ → ℕ
-endOf s at = cond (whole (drop at s)) (at + 2 + sizeOf (drop at s)) 0
+endOf s at = cond (leb (addressSize (drop at s)) (length (drop at s))) (at + addressSize (drop at s)) 0
 
 -- ---- how they are held
 -- at most n bytes of s, and zeros up to n
@@ -55,8 +54,8 @@ padded n s = take n s ++ replicate (n - length s) 0
 -- n rooms of 128 bytes, an address in each as long as there are any; and the n lengths, 0 where there is none
 unfoldable pub rooms : ℕ → List (List ℕ) → List ℕ
 rooms zero l = []
-rooms (suc n) [] = padded addressRoom [] ++ rooms n []
-rooms (suc n) (a ∷ l) = padded addressRoom a ++ rooms n l
+rooms (suc n) [] = padded mostAddress [] ++ rooms n []
+rooms (suc n) (a ∷ l) = padded mostAddress a ++ rooms n l
 
 unfoldable pub sizes : ℕ → List (List ℕ) → List ℕ
 sizes zero l = []

@@ -40,7 +40,7 @@ fn front(s: &[u8], end: usize) -> &[u8]
 fn found(id: Span, connection: u64, count: usize, places: [usize; PLACES]) -> Walked
     ensures { λ r. ⌜ r ≡ foundOf id connection count places ⌝ }
 {
-    if connection <= message::MOST_CONNECTION {
+    if connection <= limits::MOST_CONNECTION {
         return Walked {
             id,
             connection,

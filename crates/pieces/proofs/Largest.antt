@@ -7,12 +7,14 @@ use mathlib.Core.Option.{some}
 use native.Mathlib.Omega.{arith}
 use lib.ListN.{length, replicate, length-append}
 use Rattle.octets.specs.Search.{every, allOf}
+use Rattle.limits.specs.Limits.{mostValue}
 use Rattle.wire.specs.Items.{num, bytes, digits, minimal, tagged, written1, written, single, repeated}
 use Rattle.wire_put.proofs.Putting.{bytes-length}
 use Rattle.message.specs.Message.{Peer, Record, Message, peerItems, encodePeer, recordItems, encodeRecord, heldItems, encode}
 use Rattle.pieces.specs.Writable.{addressFits, peerFits, recordFits, heldFits}
 use Rattle.pieces.specs.Claims.{GetValueBody, Claims}
 use Rattle.pieces.proofs.Sizes.{entry-most, record-entry-most, message-length, reply-most}
+use Rattle.pieces.specs.Sizes.{mostPeer, mostPeerField, mostRecord, mostRecordField, mostReply}
 
 zeros : ℕ → List ℕ
 zeros n = replicate n 0
@@ -22,7 +24,7 @@ full-peer : Peer
 full-peer = record { id = zeros 64; addrs = replicate 4 (zeros 128); connection = 3 }
 
 full-record : Record
-full-record = record { key = zeros 128; value = zeros 2048 }
+full-record = record { key = zeros 128; value = zeros mostValue }
 
 peer-fits : peerFits full-peer ≡ true
 unfolding full-peer zeros peerFits addressFits every allOf
@@ -32,11 +34,11 @@ record-fits : recordFits full-record ≡ true
 unfolding full-record zeros recordFits allOf
 record-fits = refl
 
-peer-size : length (encodePeer full-peer) ≡ 592
+peer-size : length (encodePeer full-peer) ≡ mostPeer
 unfolding full-peer zeros encodePeer peerItems written written1 tagged minimal digits single repeated
 peer-size = refl
 
-record-size : length (encodeRecord full-record) ≡ 2182
+record-size : length (encodeRecord full-record) ≡ mostRecord
 unfolding full-record zeros encodeRecord recordItems written written1 tagged minimal digits single
 record-size = refl
 
@@ -44,16 +46,16 @@ record-size = refl
 entry-size : (f n : ℕ) (b : List ℕ) → f < 16 → length b ≡ n → length (minimal n) ≡ 2 → length (written1 (bytes f b)) ≡ 3 + n
 entry-size f n b h e q = omega (arith, bytes-length f b h, ap (λ (k : ℕ). length (minimal k)) e, e, q)
 
-peer-entry : (f : ℕ) → f < 16 → length (written1 (bytes f (encodePeer full-peer))) ≡ 595
+peer-entry : (f : ℕ) → f < 16 → length (written1 (bytes f (encodePeer full-peer))) ≡ mostPeerField
 unfolding minimal digits
-peer-entry f h = entry-size f 592 (encodePeer full-peer) h peer-size refl
+peer-entry f h = entry-size f mostPeer (encodePeer full-peer) h peer-size refl
 
-record-entry : length (written1 (bytes 3 (encodeRecord full-record))) ≡ 2185
+record-entry : length (written1 (bytes 3 (encodeRecord full-record))) ≡ mostRecordField
 unfolding minimal digits
-record-entry = entry-size 3 2182 (encodeRecord full-record) (omega arith) record-size refl
+record-entry = entry-size 3 mostRecord (encodeRecord full-record) (omega arith) record-size refl
 
 -- ---- a reply with such a record and n such peers
-peers-size : (n : ℕ) → length (written (repeated 8 (map encodePeer (replicate n full-peer)))) ≡ 595 * n
+peers-size : (n : ℕ) → length (written (repeated 8 (map encodePeer (replicate n full-peer)))) ≡ mostPeerField * n
 unfolding repeated written
 peers-size zero = omega arith
 peers-size (suc n) = omega (arith, length-append (written1 (bytes 8 (encodePeer full-peer))) (written (repeated 8 (map encodePeer (replicate n full-peer)))), peer-entry 8 (omega arith), peers-size n)
@@ -66,7 +68,7 @@ peers-fit (suc n) = rw (peer-fits, peers-fit n)
 full-reply : Message
 full-reply = record { kind = 1; key = []; held = some full-record; closer = replicate 20 full-peer; providers = [] }
 
-held-size : length (written (heldItems (some full-record))) ≡ 2185
+held-size : length (written (heldItems (some full-record))) ≡ mostRecordField
 unfolding heldItems written
 held-size = ap length (append-nil (written1 (bytes 3 (encodeRecord full-record)))) ∙ record-entry
 
@@ -74,7 +76,7 @@ kind-size : length (written1 (num 1 1)) ≡ 2
 unfolding written1 tagged minimal digits
 kind-size = refl
 
-reply-size : length (encode full-reply) ≡ 14087
+reply-size : length (encode full-reply) ≡ mostReply
 unfolding full-reply single repeated written
 reply-size = omega (arith, message-length full-reply, kind-size, held-size, peers-size 20)
 

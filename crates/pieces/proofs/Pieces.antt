@@ -10,16 +10,17 @@ use lib.ListN.{length, take, length-append, length-take}
 use lib.Seq.{take-nil}
 use lib.Dec.{leb, ltb}
 use borrow.Author.Tests.{leb-true, leb-false, le-leb, lt-leb, lt-ltb, le-ltb}
+use Rattle.octets.proofs.Searching.{every-append-is}
 use Rattle.octets.specs.Search.{every, allOf}
 use Rattle.octets.proofs.Bools.{either, and-l, and-r, and-assoc, not-both}
+use Rattle.limits.specs.Limits.{mostId, mostAddress, mostKey, mostValue, mostConnection}
 use Rattle.wire.specs.Items.{num, bytes, minimal, tagged, written1, written, single, repeated, Put}
 use Rattle.wire_put.proofs.Digits.{minimal-one}
 use Rattle.wire_put.proofs.Putting.{put-on, number-length, bytes-short, single-empty, single-full, written-append, written-one, repeated-append, repeated-snoc}
-use Rattle.message.specs.Limits.{mostKey, mostValue, mostId, mostAddress, mostConnection}
 use Rattle.message.specs.Message.{Peer, Record, encodePeer, encodeRecord, heldItems, frame}
 use Rattle.pieces.specs.Writable.{addressFits, peerFits, recordFits, recordPiece, peerPiece, recordWith, peerWith}
 use Rattle.pieces.specs.Inner.{nth, nthBytes, nthOver, addressBytes, Fitting4}
-use Rattle.message.proofs.Hearing.{map-append}
+use Rattle.octets.proofs.Lists.{map-append}
 use Rattle.pieces.proofs.Sizes.{peer-bytes, record-bytes, fitting-record, fitting-peer, record-most, peer-most}
 
 -- ---- sizes of a field
@@ -34,7 +35,7 @@ field-size f b r e = omega (arith, length-append (tagged (f * 8 + 2) (length b))
 pub single-none : (f : ℕ) (b : List ℕ) → length b ≡ 0 → (0 ≡ length (written (single f b))) × (0 ≤ 3 + length b)
 single-none f b e = (ap length (sym (single-empty f b e)), omega arith)
 
-pub single-size : (f : ℕ) (b : List ℕ) → f < 16 → length b ≤ 2048 → (length b ≡ 0 → ⊥) → (r : ℕ) → r ≡ length (tagged (f * 8 + 2) (length b)) + length b
+pub single-size : (f : ℕ) (b : List ℕ) → f < 16 → length b ≤ mostValue → (length b ≡ 0 → ⊥) → (r : ℕ) → r ≡ length (tagged (f * 8 + 2) (length b)) + length b
     → (r ≡ length (written (single f b))) × (r ≤ 3 + length b)
 single-size f b h l z r e =
     let q = field-size f b r e in
@@ -102,12 +103,6 @@ nth-all (suc (suc (suc zero))) a b c d = rw (nth-yes 0 3 a (omega arith), nth-ye
 nth-all (suc (suc (suc (suc n)))) a b c d =
     let m : ℕ = suc (suc (suc (suc n))) in
     rw (nth-yes 0 m a (omega arith), nth-yes 1 m b (omega arith), nth-yes 2 m c (omega arith), nth-yes 3 m d (omega arith), take-nil {A = List ℕ} n)
-
--- for octets
-every-append-is : {A : Type 0} (p : A → Bool) (l m : List A) → every p (l ++ m) ≡ (every p l && every p m)
-unfolding every
-every-append-is p [] m = refl
-every-append-is p (x ∷ l) m = rw (every-append-is p l m) (and-assoc (p x) (every p l) (every p m))
 
 not-false : (b : Bool) → not b ≡ false → b ≡ true
 not-false true e = refl

@@ -11,12 +11,13 @@ use borrow.Author.Tests.{leb-true}
 use Rattle.octets.specs.Search.{every}
 use Rattle.octets.proofs.Bools.{all-head, all-rest, eq-or-ne}
 use Rattle.octets.proofs.Searching.{every-head, every-tail}
+use Rattle.limits.specs.Limits.{mostId, mostAddresses, mostKey, mostValue, mostKind, mostConnection}
 use Rattle.wire.specs.Items.{Item, num, bytes, written1, written, single, repeated}
 use Rattle.wire_put.proofs.Digits.{minimal-one, minimal-two}
 use Rattle.wire_put.proofs.Putting.{number-length, bytes-length, single-empty, single-full, written-append, written-one}
-use Rattle.message.specs.Limits.{mostKey, mostValue, mostId, mostAddresses, mostKind, mostConnection}
 use Rattle.message.specs.Message.{Peer, Record, Message, peerItems, encodePeer, recordItems, encodeRecord, heldItems, messageItems, encode}
 use Rattle.pieces.specs.Writable.{addressFits, peerFits, recordFits, heldFits}
+use Rattle.pieces.specs.Sizes.{longField, mostPeer, mostPeerField, mostRecord, mostRecordField, mostReply}
 
 -- ---- a field
 bytes-small : (f : ℕ) (b : List ℕ) (most : ℕ) → f < 16 → length b ≤ most → most < 128 → length (written1 (bytes f b)) ≤ 2 + most
@@ -58,7 +59,7 @@ fitting-peer p e =
     let e₃ = all-rest _ _ e₂ in
     record { id = leb-true _ _ (all-head _ _ e); few = leb-true _ _ (all-head _ _ e₁); addrs = all-head _ _ e₂; connection = leb-true _ _ (all-head _ _ e₃) }
 
-pub peer-most : (p : Peer) → peerFits p ≡ true → length (encodePeer p) ≤ 592
+pub peer-most : (p : Peer) → peerFits p ≡ true → length (encodePeer p) ≤ mostPeer
 peer-most p e =
     let f = fitting-peer p e in
     let i = single-most 1 (p .id) 66 (bytes-small 1 (p .id) 64 (omega arith) (f .id) (omega arith)) in
@@ -68,10 +69,10 @@ peer-most p e =
     (omega (arith, f .few, length-append (written (single 1 (p .id))) (written (repeated 2 (p .addrs)) ++ written1 (num 3 (p .connection))), length-append (written (repeated 2 (p .addrs))) (written1 (num 3 (p .connection)))))
 
 -- "a peer is then at most 595 bytes with tag and length"
-pub entry-most : (f : ℕ) (p : Peer) → f < 16 → peerFits p ≡ true → length (written1 (bytes f (encodePeer p))) ≤ 595
-entry-most f p h e = bytes-medium f (encodePeer p) 592 h (peer-most p e) (omega arith)
+pub entry-most : (f : ℕ) (p : Peer) → f < 16 → peerFits p ≡ true → length (written1 (bytes f (encodePeer p))) ≤ mostPeerField
+entry-most f p h e = bytes-medium f (encodePeer p) mostPeer h (peer-most p e) (omega arith)
 
-pub entries-most : (f : ℕ) (l : List Peer) → f < 16 → every peerFits l ≡ true → length (written (repeated f (map encodePeer l))) ≤ 595 * length l
+pub entries-most : (f : ℕ) (l : List Peer) → f < 16 → every peerFits l ≡ true → length (written (repeated f (map encodePeer l))) ≤ mostPeerField * length l
 unfolding repeated written
 entries-most f [] h e = omega arith
 entries-most f (p ∷ l) h e =
@@ -90,17 +91,17 @@ pub fitting-record : (r : Record) → recordFits r ≡ true → FittingRecord r
 unfolding recordFits
 fitting-record r e = record { key = leb-true _ _ (all-head _ _ e); value = leb-true _ _ (all-head _ _ (all-rest _ _ e)) }
 
-pub record-most : (r : Record) → recordFits r ≡ true → length (encodeRecord r) ≤ 2182
+pub record-most : (r : Record) → recordFits r ≡ true → length (encodeRecord r) ≤ mostRecord
 record-most r e =
     let f = fitting-record r e in
     let k = single-most 1 (r .key) 131 (bytes-medium 1 (r .key) 128 (omega arith) (f .key) (omega arith)) in
-    let v = single-most 2 (r .value) 2051 (bytes-medium 2 (r .value) 2048 (omega arith) (f .value) (omega arith)) in
+    let v = single-most 2 (r .value) (longField mostValue) (bytes-medium 2 (r .value) mostValue (omega arith) (f .value) (omega arith)) in
     rw (record-bytes r) (omega (arith, length-append (written (single 1 (r .key))) (written (single 2 (r .value)))))
 
-pub record-entry-most : (r : Record) → recordFits r ≡ true → length (written1 (bytes 3 (encodeRecord r))) ≤ 2185
-record-entry-most r e = bytes-medium 3 (encodeRecord r) 2182 (omega arith) (record-most r e) (omega arith)
+pub record-entry-most : (r : Record) → recordFits r ≡ true → length (written1 (bytes 3 (encodeRecord r))) ≤ mostRecordField
+record-entry-most r e = bytes-medium 3 (encodeRecord r) mostRecord (omega arith) (record-most r e) (omega arith)
 
-pub held-most : (o : Option Record) → heldFits o ≡ true → length (written (heldItems o)) ≤ 2185
+pub held-most : (o : Option Record) → heldFits o ≡ true → length (written (heldItems o)) ≤ mostRecordField
 unfolding heldItems heldFits written
 held-most none e = omega arith
 held-most (some r) e = rw (append-nil (written1 (bytes 3 (encodeRecord r)))) (record-entry-most r e)
@@ -126,7 +127,7 @@ message-length m =
 
 -- "the largest GET_VALUE reply body is 2 + 2,185 + 20 x 595 = 14,087": type, record and twenty peers
 pub reply-most : (m : Message) → m .kind ≤ mostKind → m .key ≡ [] → heldFits (m .held) ≡ true → every peerFits (m .closer) ≡ true → length (m .closer) ≤ 20 → m .providers ≡ []
-    → length (encode m) ≤ 14087
+    → length (encode m) ≤ mostReply
 unfolding single repeated written
 reply-most m k ek h c l ep =
     let a : length (written1 (num 1 (m .kind))) ≡ 2 = omega (arith, number-length 1 (m .kind) (omega arith), minimal-one (m .kind) (omega arith)) in

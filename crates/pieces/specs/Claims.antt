@@ -5,8 +5,8 @@ use mathlib.Core.List.{[]}
 use mathlib.Core.Bool.{true}
 use lib.ListN.{length}
 use Rattle.octets.specs.Search.{every}
+use Rattle.limits.specs.Limits.{mostKind}
 use Rattle.wire.specs.Items.{bytes, written1}
-use Rattle.message.specs.Limits.{mostKind}
 use Rattle.message.specs.Message.{Peer, Record, Message, encodePeer, encodeRecord, encode}
 use Rattle.pieces.specs.Writable.{peerFits, recordFits, heldFits}
 

@@ -1,3 +1,4 @@
+pub mod Sizes
 pub mod Writable
 pub mod Claims
 pub mod Inner

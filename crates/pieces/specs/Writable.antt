@@ -6,8 +6,8 @@ use mathlib.Core.Option.{Option, none, some}
 use lib.ListN.{length, take}
 use lib.Dec.{leb}
 use Rattle.octets.specs.Search.{every, allOf}
+use Rattle.limits.specs.Limits.{mostId, mostAddress, mostAddresses, mostKey, mostValue, mostBody, mostKind, mostConnection}
 use Rattle.wire.specs.Items.{bytes, written1}
-use Rattle.message.specs.Limits.{mostBody, mostKey, mostValue, mostId, mostAddress, mostAddresses, mostKind, mostConnection}
 use Rattle.message.specs.Message.{Peer, Record, Message, encodePeer, encodeRecord, encode}
 
 unfoldable pub addressFits : List ℕ → Bool

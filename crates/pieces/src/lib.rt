@@ -3,6 +3,7 @@ ghost use mathlib.Core.Path.{_≡_};
 ghost use mathlib.Core.Bool.{true, false};
 ghost use Prim.Native.Nat.{_+_, _*_, _≤_, _<_};
 ghost use lib.ListN.{length};
+ghost use Rattle.limits.specs.Limits.{mostValue, mostBody};
 ghost use Rattle.wire.specs.Items.{tagged, written, single, Put};
 ghost use Rattle.message.specs.Message.{encodePeer, encodeRecord};
 ghost use Rattle.pieces.specs.Writable.{peerFits, recordFits, recordPiece, peerPiece, recordWith, peerWith};
@@ -10,7 +11,7 @@ ghost use Rattle.pieces.specs.Inner.{nthBytes, nthOver, addressBytes, Fi
 
 // How many bytes a bytes field of n bytes has.
 fn field_len(field: u8, n: usize) -> usize
-    requires { ⌜ n ≤ 16384 ⌝ }
+    requires { ⌜ n ≤ mostBody ⌝ }
     ensures { λ r. ⌜ r ≡ length (tagged (field * 8 + 2) n) + n ⌝ }
 {
     wire_put::varint_len((field as u64) * 8 + 2) + wire_put::varint_len(n as u64) + n
@@ -18,7 +19,7 @@ fn field_len(field: u8, n: usize) -> usize
 
 // How many bytes a single bytes field has.
 fn single_len(field: u8, src: &[u8]) -> usize
-    requires { ⌜ (field < 16) × (length (now src) ≤ 2048) ⌝ }
+    requires { ⌜ (field < 16) × (length (now src) ≤ mostValue) ⌝ }
     ensures { λ r. ⌜ (r ≡ length (written (single field (now (src .entry))))) × (r ≤ 3 + length (now (src .entry))) ⌝ }
 {
     if src.len() == 0 {
@@ -31,10 +32,10 @@ fn single_len(field: u8, src: &[u8]) -> usize
 fn record_fits(key: &[u8], value: &[u8]) -> bool
     ensures { λ r. ⌜ r ≡ recordFits (recordWith (now (key .entry)) (now (value .entry))) ⌝ }
 {
-    if message::MOST_KEY < key.len() {
+    if limits::MOST_KEY < key.len() {
         return false;
     }
-    value.len() <= message::MOST_VALUE
+    value.len() <= limits::MOST_VALUE
 }
 
 fn record_body_len(key: &[u8], value: &[u8]) -> usize
@@ -74,14 +75,14 @@ fn address_over(k: usize, n: usize, src: &[u8]) -> bool
     if n <= k {
         return false;
     }
-    message::MOST_ADDRESS < src.len()
+    limits::MOST_ADDRESS < src.len()
 }
 
 // Whether a peer with the first n of four addresses may be written.
 fn peer_fits(id: &[u8], n: usize, a: &[u8], b: &[u8], c: &[u8], d: &[u8], connection: u8) -> bool
     ensures { λ r. ⌜ r ≡ peerFits (peerWith (now (id .entry)) n (now (a .entry)) (now (b .entry)) (now (c .entry)) (now (d .entry)) connection) ⌝ }
 {
-    if message::MOST_ID < id.len() {
+    if limits::MOST_ID < id.len() {
         return false;
     }
     if address_over(0, n, a) {

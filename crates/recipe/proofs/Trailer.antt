@@ -15,7 +15,8 @@ use Rattle.octets.specs.Search.{allOf}
 use Rattle.octets.proofs.Bools.{all-on, all-off, all-none, all-head, all-rest}
 use Rattle.octets.proofs.Parts.{bytes-drop, part-whole}
 use Rattle.octets.proofs.Numbers.{little-lt}
-use Rattle.recipe.specs.Limits.{trailerSize, valueMax, countMax, formatOne}
+use Rattle.limits.specs.Limits.{mostValue, mostSetpoints}
+use Rattle.recipe.specs.Limits.{trailerSize, formatOne}
 use Rattle.recipe.specs.Recipe.{fromEnd, distanceOf, countOf, formatOf, sequenceOf, roomOf, isList, isRecipe}
 
 -- ---- numbers with the lowest byte first, read from the last byte on, as `little` does
@@ -78,7 +79,7 @@ module _ (v : List ℕ) where
   format-test = eqb (formatOf v) formatOne ∷ list-test
 
   abbrev count-test : List Bool
-  count-test = leb (countOf v) countMax ∷ format-test
+  count-test = leb (countOf v) mostSetpoints ∷ format-test
 
   abbrev far-test : List Bool
   far-test = leb (distanceOf v) (length v) ∷ count-test
@@ -87,7 +88,7 @@ module _ (v : List ℕ) where
   near-test = leb trailerSize (distanceOf v) ∷ far-test
 
   abbrev long-test : List Bool
-  long-test = leb (length v) valueMax ∷ near-test
+  long-test = leb (length v) mostValue ∷ near-test
 
   pub short-value : length v < trailerSize → false ≡ isRecipe v
   unfolding isRecipe
@@ -98,12 +99,12 @@ module _ (v : List ℕ) where
     unfolding isRecipe
     pass-1 = all-on (leb trailerSize (length v)) long-test (le-leb trailerSize (length v) h)
 
-    pub long-value : valueMax < length v → false ≡ isRecipe v
-    long-value l = sym (pass-1 ∙ all-off (leb (length v) valueMax) near-test (lt-leb (length v) valueMax l))
+    pub long-value : mostValue < length v → false ≡ isRecipe v
+    long-value l = sym (pass-1 ∙ all-off (leb (length v) mostValue) near-test (lt-leb (length v) mostValue l))
 
-    module _ (l : length v ≤ valueMax) {d : ℕ} (ed : d ≡ littleNumber (fromEnd 16 12 v)) where
+    module _ (l : length v ≤ mostValue) {d : ℕ} (ed : d ≡ littleNumber (fromEnd 16 12 v)) where
       pass-2 : isRecipe v ≡ allOf near-test
-      pass-2 = pass-1 ∙ all-on (leb (length v) valueMax) near-test (le-leb (length v) valueMax l)
+      pass-2 = pass-1 ∙ all-on (leb (length v) mostValue) near-test (le-leb (length v) mostValue l)
 
       is-d : d ≡ distanceOf v
       unfolding distanceOf
@@ -127,12 +128,12 @@ module _ (v : List ℕ) where
           unfolding countOf
           is-n = en
 
-          pub many-points : countMax < n → false ≡ isRecipe v
-          many-points m = sym (pass-4 ∙ all-off (leb (countOf v) countMax) format-test (lt-leb (countOf v) countMax (omega (arith, is-n))))
+          pub many-points : mostSetpoints < n → false ≡ isRecipe v
+          many-points m = sym (pass-4 ∙ all-off (leb (countOf v) mostSetpoints) format-test (lt-leb (countOf v) mostSetpoints (omega (arith, is-n))))
 
-          module _ (m : n ≤ countMax) {f : ℕ} (ef : f ≡ littleNumber (fromEnd 10 8 v)) where
+          module _ (m : n ≤ mostSetpoints) {f : ℕ} (ef : f ≡ littleNumber (fromEnd 10 8 v)) where
             pass-5 : isRecipe v ≡ allOf format-test
-            pass-5 = pass-4 ∙ all-on (leb (countOf v) countMax) format-test (le-leb (countOf v) countMax (omega (arith, is-n)))
+            pass-5 = pass-4 ∙ all-on (leb (countOf v) mostSetpoints) format-test (le-leb (countOf v) mostSetpoints (omega (arith, is-n)))
 
             is-f : f ≡ formatOf v
             unfolding formatOf
@@ -157,9 +158,9 @@ pub recipe-least : (v : List ℕ) → isRecipe v ≡ true → trailerSize ≤ le
 unfolding isRecipe
 recipe-least v h = leb-true trailerSize (length v) (all-head (leb trailerSize (length v)) (long-test v) h)
 
-pub recipe-most : (v : List ℕ) → isRecipe v ≡ true → length v ≤ valueMax
+pub recipe-most : (v : List ℕ) → isRecipe v ≡ true → length v ≤ mostValue
 unfolding isRecipe
-recipe-most v h = leb-true (length v) valueMax (all-head (leb (length v) valueMax) (near-test v) (all-rest (leb trailerSize (length v)) (long-test v) h))
+recipe-most v h = leb-true (length v) mostValue (all-head (leb (length v) mostValue) (near-test v) (all-rest (leb trailerSize (length v)) (long-test v) h))
 
 -- ---- and its list
 pub recipe-list : (v : List ℕ) → isRecipe v ≡ true → isList (countOf v) (roomOf v) ≡ true
@@ -167,8 +168,8 @@ unfolding isRecipe
 recipe-list v h =
     all-head (isList (countOf v) (roomOf v)) []
     (all-rest (eqb (formatOf v) formatOne) (list-test v)
-    (all-rest (leb (countOf v) countMax) (format-test v)
+    (all-rest (leb (countOf v) mostSetpoints) (format-test v)
     (all-rest (leb (distanceOf v) (length v)) (count-test v)
     (all-rest (leb trailerSize (distanceOf v)) (far-test v)
-    (all-rest (leb (length v) valueMax) (near-test v)
+    (all-rest (leb (length v) mostValue) (near-test v)
     (all-rest (leb trailerSize (length v)) (long-test v) h))))))

@@ -1,15 +1,9 @@
--- The limits of a recipe: document 01, 'Recipe, read from its end', and document 02. src/lib.rt has the same numbers as constants.
+-- The limits of a recipe alone: document 01, 'Recipe, read from its end', and document 02. src/lib.rt has the same numbers as constants.
 use Prim.Native.Nat.{ℕ}
 
 -- the trailer, which is the shortest value
 abbrev pub trailerSize : ℕ
 trailerSize = 16
-
-abbrev pub valueMax : ℕ
-valueMax = 2048
-
-abbrev pub countMax : ℕ
-countMax = 200
 
 abbrev pub formatOne : ℕ
 formatOne = 1

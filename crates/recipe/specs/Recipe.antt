@@ -8,7 +8,8 @@ use lib.IntN.{ℤ, pos, negsuc, natAbs, _-ℤ_}
 use lib.Signed.{leZ}
 use Rattle.octets.specs.Octets.{part, lower, littleNumber}
 use Rattle.octets.specs.Search.{allOf}
-use Rattle.recipe.specs.Limits.{trailerSize, valueMax, countMax, formatOne, turnMax, trimMax, leapMax}
+use Rattle.limits.specs.Limits.{mostValue, mostSetpoints}
+use Rattle.recipe.specs.Limits.{trailerSize, formatOne, turnMax, trimMax, leapMax}
 use Rattle.recipe.specs.declared.Varint.{Varint}
 use Rattle.recipe.specs.declared.Varint.the-variants.{Is, Broken}
 use Rattle.recipe.specs.declared.Point.{Point}
@@ -121,10 +122,10 @@ unfoldable pub isRecipe : List ℕ → Bool
 isRecipe v =
     allOf
     (leb trailerSize (length v)
-    ∷ leb (length v) valueMax
+    ∷ leb (length v) mostValue
     ∷ leb trailerSize (distanceOf v)
     ∷ leb (distanceOf v) (length v)
-    ∷ leb (countOf v) countMax
+    ∷ leb (countOf v) mostSetpoints
     ∷ eqb (formatOf v) formatOne
     ∷ isList (countOf v) (roomOf v)
     ∷ [])

@@ -6,12 +6,8 @@ ghost use Rattle.octets.specs.Octets.{littleNumber};
 ghost use Rattle.recipe.specs.Recipe.{trimOf, zigzagOf, varint, point, noLeap, follows, isList, isRecipe, sequenceOf, outranks};
 ghost use Rattle.recipe.specs.Inner.{short, within};
 
-// The limits; specs/Limits.antt has the same.
+// The limits of a recipe alone; specs/Limits.antt has the same.
 pub const TRAILER: usize = 16;
-
-pub const VALUE_MAX: usize = 2048;
-
-pub const COUNT_MAX: u64 = 200;
 
 pub const FORMAT: u64 = 1;
 
@@ -212,7 +208,7 @@ pub fn check(value: &[u8]) -> bool
     if n < TRAILER {
         return false;
     }
-    if VALUE_MAX < n {
+    if limits::MOST_VALUE < n {
         return false;
     }
     let t = n - TRAILER;
@@ -227,7 +223,7 @@ pub fn check(value: &[u8]) -> bool
         return false;
     }
     let count = little(&value[a..b]);
-    if COUNT_MAX < count {
+    if limits::MOST_SETPOINTS < count {
         return false;
     }
     if little(&value[b..c]) != FORMAT {

@@ -1,27 +1,18 @@
--- What is found: the slot of a key, a free one, and what form says of each. Assumes nothing.
+-- What is found: the slot of a key, and what form says of a slot. Assumes nothing.
 use mathlib.Core.Path.{_≡_, refl}
 use mathlib.Core.Logic.{_⊎_, ⊎-elim}
-use mathlib.Core.Bool.{true, false, not, _&&_}
+use mathlib.Core.Bool.{true, not, _&&_}
 use mathlib.Core.List.{List}
 use Prim.Native.Nat.{ℕ, _<_}
-use borrow.Author.Tests.{not-true}
-use Rattle.octets.specs.Search.{all, first}
+use Rattle.octets.specs.Search.{all}
 use Rattle.octets.proofs.Bools.{and-l, and-r, and-i, or-e, not-both}
 use Rattle.octets.proofs.Searching.{all-at, first-is}
 use Rattle.octets.proofs.Strings.{same-eq, same-yes}
-use Rattle.record_slots.specs.Slots.{slotsOf, slot, used, keyOf, isRecord, holds, apart, fits, inForm, slotWith, isFree, freeSlot}
+use Rattle.record_slots.specs.Slots.{slotsOf, slot, used, keyOf, isRecord, holds, apart, fits, inForm, slotWith}
 
 pub with-holds : (t k : List ℕ) → slotWith t k < slotsOf t → holds t k (slotWith t k) ≡ true
 unfolding slotWith
 with-holds t k h = first-is (holds t k) (slotsOf t) .here h
-
-pub with-before : (t k : List ℕ) (j : ℕ) → j < slotWith t k → holds t k j ≡ false
-unfolding slotWith
-with-before t k j h = first-is (holds t k) (slotsOf t) .before j h
-
-pub free-unused : (t : List ℕ) → freeSlot t < slotsOf t → used (slot t (freeSlot t)) ≡ false
-unfolding freeSlot isFree
-free-unused t h = not-true (used (slot t (first (slotsOf t) (isFree t)))) (first-is (isFree t) (slotsOf t) .here h)
 
 pub holds-out : (t k : List ℕ) (j : ℕ) → holds t k j ≡ true → (used (slot t j) ≡ true) × (keyOf (slot t j) ≡ k)
 unfolding holds

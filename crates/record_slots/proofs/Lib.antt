@@ -1,4 +1,3 @@
-mod Nothing
 pub mod Laying
 pub mod Finding
-pub mod Ordering
+pub mod Keyed

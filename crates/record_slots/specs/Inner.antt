@@ -1,50 +1,9 @@
--- What the parts of the form test need of each other and promise each other. No reader of `Slots` needs these.
-use Prim.Native.Nat.{ℕ, _+_, _-_, _<_, _≤_}
-use mathlib.Core.Path.{_≡_}
-use mathlib.Core.Bool.{Bool, true, false, _&&_}
+-- What the parts of the form test promise each other. No reader of `Slots` needs this.
+use Prim.Native.Nat.{ℕ}
+use mathlib.Core.Bool.{Bool, not, _||_}
 use mathlib.Core.List.{List}
-use lib.Dec.{ltb}
-use lib.ListN.{length, getD}
-use Rattle.octets.specs.Octets.{lower}
-use Rattle.record_slots.specs.Limits.{slotsMax}
-use Rattle.record_slots.specs.Slots.{slotsOf, slot, used, keyOf, holds, fits}
+use Rattle.record_slots.specs.Slots.{slot, used, isRecord}
 
--- slot numbers in the order of their keys
--- the key of the q-th slot of an order
-abbrev pub keyIn : List ℕ → List ℕ → ℕ → List ℕ
-keyIn t o q = keyOf (slot t (getD o q 0))
-
--- each key is lower than those after it
-pub record Rising (t o : List ℕ) (held : ℕ) : Type 0 where
-  pub room : held ≤ length o
-  pub slots : (q : ℕ) → q < held → getD o q 0 < slotsOf t
-  pub rising : (p q : ℕ) → p < q → q < held → lower (keyIn t o p) (keyIn t o q) ≡ true
-
--- the place of a key: all before it are lower, and no other is
-pub record Between (t o : List ℕ) (held : ℕ) (k : List ℕ) (r : ℕ) : Type 0 where
-  pub most : r ≤ held
-  pub low : (q : ℕ) → q < r → lower (keyIn t o q) k ≡ true
-  pub high : (q : ℕ) → r ≤ q → q < held → lower (keyIn t o q) k ≡ false
-
-unfoldable pub standsAt : List ℕ → List ℕ → ℕ → ℕ → List ℕ → Bool
-standsAt t o held p k = ltb p held && holds t k (getD o p 0)
-
--- x is put in at place p, and those after it moved on
-pub record Inserted (o o′ : List ℕ) (held p x : ℕ) : Type 0 where
-  pub size : length o′ ≡ length o
-  pub before : (q : ℕ) → q < p → getD o′ q 0 ≡ getD o q 0
-  pub at : getD o′ p 0 ≡ x
-  pub after : (q : ℕ) → p < q → q ≤ held → getD o′ q 0 ≡ getD o (q - 1) 0
-
--- the order of the used slots before slot i
-pub record Ordered (t o : List ℕ) (held i : ℕ) : Type 0 where
-  pub sorted : Rising t o held
-  pub size : length o ≡ slotsMax
-  pub few : held ≤ i
-  pub each : (q : ℕ) → q < held → (getD o q 0 < i) × (used (slot t (getD o q 0)) ≡ true)
-  pub covers : (j : ℕ) → j < i → used (slot t j) ≡ true → (q : ℕ) × (q < held) × (getD o q 0 ≡ j)
-
--- slot i fits and has its place in the order, or it doesn't fit
-pub record Settled (t o : List ℕ) (i r : ℕ) : Type 0 where
-  pub fit : r ≤ slotsMax → (fits t i ≡ true) × Ordered t o r (i + 1)
-  pub unfit : slotsMax < r → fits t i ≡ false
+-- slot i is free, or what it holds keeps the limits of a record
+unfoldable pub sound : List ℕ → ℕ → Bool
+sound t i = not (used (slot t i)) || isRecord (slot t i)

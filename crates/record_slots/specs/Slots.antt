@@ -4,25 +4,21 @@ use Prim.Native.Nat.{ℕ, _+_, _-_, _*_, _/_, _%_, min}
 use mathlib.Core.Bool.{Bool, not, _&&_, _||_}
 use mathlib.Core.List.{List, [], _∷_, _++_}
 use lib.ListN.{length, getD, replicate}
-use lib.Dec.{leb, eqb}
+use lib.Dec.{leb}
 use Rattle.octets.specs.Octets.{part, same, startsWith}
 use Rattle.octets.specs.Search.{all, first, allOf}
-use Rattle.recipe.specs.Limits.{trailerSize, valueMax}
-use Rattle.record_slots.specs.Limits.{slotsMax, keyMin, keyMax, opening, keyAt, valueAt, slotSize}
+use Rattle.limits.specs.Limits.{mostKey, mostValue, mostRecords}
+use Rattle.recipe.specs.Limits.{trailerSize}
+use Rattle.record_slots.specs.Limits.{keyMin, opening, valueAt, slotSize}
+-- byte 0 is the length of the key, which stands from byte 8 on; a slot is free where it is 0
+unfoldable pub use Rattle.keyed_slots.specs.Slots.{used, keyOf}
 
 -- ---- the layout
 unfoldable pub slotsOf : List ℕ → ℕ
-slotsOf t = min (length t / slotSize) slotsMax
+slotsOf t = min (length t / slotSize) mostRecords
 
 unfoldable pub slot : List ℕ → ℕ → List ℕ
 slot t i = part t (i * slotSize) (i * slotSize + slotSize)
-
--- byte 0 is the length of the key; a slot is free where it is 0
-unfoldable pub used : List ℕ → Bool
-used s = not (eqb (getD s 0 0) 0)
-
-unfoldable pub keyOf : List ℕ → List ℕ
-keyOf s = part s keyAt (keyAt + getD s 0 0)
 
 -- bytes 2 and 3 are the length of the value, the low byte first
 unfoldable pub sizeOf : List ℕ → ℕ
@@ -39,17 +35,17 @@ header k v = k ∷ 0 ∷ v % 256 ∷ v / 256 ∷ 0 ∷ 0 ∷ 0 ∷ 0 ∷ []
 
 -- a record as its whole slot, zeros after the key and after the value
 unfoldable pub slotBytes : List ℕ → List ℕ → List ℕ
-slotBytes k v = header (length k) (length v) ++ (padded keyMax k ++ padded valueMax v)
+slotBytes k v = header (length k) (length v) ++ (padded mostKey k ++ padded mostValue v)
 
 -- ---- the form
 -- "the six bytes /wind/ open every record key, with 1 to 122 more"
 unfoldable pub isKey : List ℕ → Bool
-isKey k = allOf (leb keyMin (length k) ∷ leb (length k) keyMax ∷ startsWith k opening ∷ [])
+isKey k = allOf (leb keyMin (length k) ∷ leb (length k) mostKey ∷ startsWith k opening ∷ [])
 
 -- "a /wind/ key of 7 to 128 bytes and a value of 16 to 2,048". The document names no other rule for a used slot, so the bytes that aren't of the
 -- key, the value or their lengths aren't looked at; nor is the value tested for a recipe.
 unfoldable pub isRecord : List ℕ → Bool
-isRecord s = allOf (isKey (keyOf s) ∷ leb trailerSize (sizeOf s) ∷ leb (sizeOf s) valueMax ∷ [])
+isRecord s = allOf (isKey (keyOf s) ∷ leb trailerSize (sizeOf s) ∷ leb (sizeOf s) mostValue ∷ [])
 
 -- slot i holds a record of key k
 unfoldable pub holds : List ℕ → List ℕ → ℕ → Bool

@@ -11,9 +11,9 @@ use lib.Seq.{sets}
 use borrow.Author.Tests.{lt-ltb, le-ltb, ltb-true, ltb-false}
 use Rattle.octets.specs.Octets.{same}
 use Rattle.octets.proofs.Bools.{cond-yes, cond-no}
+use Rattle.limits.specs.Limits.{mostValue}
 use Rattle.refusal.specs.declared.Refusal.{Refusal}
 use Rattle.refusal.specs.declared.Refusal.the-variants.{OutOfForm, BreaksRules, BrokenRecipe, Outranked, NoRecordSlot}
-use Rattle.recipe.specs.Limits.{valueMax}
 use Rattle.recipe.specs.Recipe.{isRecipe, outranks}
 use Rattle.recipe.proofs.Trailer.{recipe-most}
 use Rattle.record_slots.specs.Limits.{valueAt, slotSize}
@@ -34,11 +34,11 @@ module _ (t k : List ℕ) {i n : ℕ} (ei : i ≡ slotWith t k) (en : n ≡ slot
   unfolding found
   look-none h = sym (cond-no (ltb (slotWith t k) (slotsOf t)) (heldAt t (slotWith t k)) NotHeld (le-ltb (slotWith t k) (slotsOf t) (omega arith)))
 
-  pub look-held : i < n → {s : List ℕ} {m : ℕ} → s ≡ slot t i → m ≡ min (sizeOf s) valueMax → Held (i * slotSize + valueAt) (i * slotSize + valueAt + m) ≡ found t k
+  pub look-held : i < n → {s : List ℕ} {m : ℕ} → s ≡ slot t i → m ≡ min (sizeOf s) mostValue → Held (i * slotSize + valueAt) (i * slotSize + valueAt + m) ≡ found t k
   unfolding found heldAt
   look-held h {s} {m} es em =
       let l : i < slotsOf t = omega arith in
-      let w : m ≡ length (valueOf (slot t i)) = em ∙ ap (λ (x : List ℕ). min (sizeOf x) valueMax) es ∙ sym (value-size (slot t i) (slot-long t i l)) in
+      let w : m ≡ length (valueOf (slot t i)) = em ∙ ap (λ (x : List ℕ). min (sizeOf x) mostValue) es ∙ sym (value-size (slot t i) (slot-long t i l)) in
       rw w (rw ei (sym (cond-yes (ltb (slotWith t k) (slotsOf t)) (heldAt t (slotWith t k)) NotHeld (lt-ltb (slotWith t k) (slotsOf t) (omega arith)))))
 
 module _ (t k : List ℕ) {b : Bool} (eb : b ≡ inForm t) where

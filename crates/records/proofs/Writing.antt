@@ -10,10 +10,10 @@ use Rattle.octets.specs.Octets.{same}
 use Rattle.octets.specs.Search.{allOf}
 use Rattle.octets.proofs.Bools.{all-on, all-off, all-none}
 use Rattle.octets.proofs.Stores.{sets-append}
-use Rattle.recipe.specs.Limits.{valueMax}
+use Rattle.limits.specs.Limits.{mostKey, mostValue}
 use Rattle.recipe.specs.Recipe.{outranks}
 use Rattle.refusal.specs.declared.Refusal.the-variants.{Outranked}
-use Rattle.record_slots.specs.Limits.{keyMax, keyAt, valueAt}
+use Rattle.record_slots.specs.Limits.{keyAt, valueAt}
 use Rattle.record_slots.specs.Slots.{padded, header, slotBytes}
 use Rattle.records.specs.Store.{heldPlan}
 use Rattle.records.specs.declared.Plan.the-variants.{Write, Keep, Refuse}
@@ -79,18 +79,18 @@ pad-write t at s n {x} {y} ex ey =
     ey ∙ ap (λ (l : List ℕ). sets l (at + length s) (replicate (n - length s) 0)) ex ∙ sym (sets-append t at s (replicate (n - length s) 0))
 
 -- the three stores of `write_slot`
-pub slot-write : (t : List ℕ) (at : ℕ) (k v h : List ℕ) {x y z : List ℕ} → length k ≤ keyMax → h ≡ header (length k) (length v)
-    → x ≡ sets t at h → y ≡ sets x (at + keyAt) (padded keyMax k) → z ≡ sets y (at + valueAt) (padded valueMax v) → z ≡ sets t at (slotBytes k v)
+pub slot-write : (t : List ℕ) (at : ℕ) (k v h : List ℕ) {x y z : List ℕ} → length k ≤ mostKey → h ≡ header (length k) (length v)
+    → x ≡ sets t at h → y ≡ sets x (at + keyAt) (padded mostKey k) → z ≡ sets y (at + valueAt) (padded mostValue v) → z ≡ sets t at (slotBytes k v)
 unfolding slotBytes
 slot-write t at k v h {x} {y} {z} lk eh ex ey ez =
     let hd : List ℕ = header (length k) (length v) in
     let l1 : at + length (header (length k) (length v)) ≡ at + keyAt = ap (λ (n : ℕ). at + n) (header-size (length k) (length v)) in
-    let l2 : at + keyAt + length (padded keyMax k) ≡ at + valueAt = omega (arith, padded-size keyMax k lk) in
+    let l2 : at + keyAt + length (padded mostKey k) ≡ at + valueAt = omega (arith, padded-size mostKey k lk) in
     let ex′ : x ≡ sets t at (header (length k) (length v)) = ex ∙ ap (λ (l : List ℕ). sets t at l) eh in
-    let a : sets t at (header (length k) (length v) ++ (padded keyMax k ++ padded valueMax v)) ≡ sets (sets t at (header (length k) (length v))) (at + keyAt) (padded keyMax k ++ padded valueMax v) =
-    sets-append t at (header (length k) (length v)) (padded keyMax k ++ padded valueMax v)
-    ∙ ap (λ (n : ℕ). sets (sets t at (header (length k) (length v))) n (padded keyMax k ++ padded valueMax v)) l1 in
-    let b : sets (sets t at (header (length k) (length v))) (at + keyAt) (padded keyMax k ++ padded valueMax v) ≡ sets (sets (sets t at (header (length k) (length v))) (at + keyAt) (padded keyMax k)) (at + valueAt) (padded valueMax v) =
-    sets-append (sets t at (header (length k) (length v))) (at + keyAt) (padded keyMax k) (padded valueMax v)
-    ∙ ap (λ (n : ℕ). sets (sets (sets t at (header (length k) (length v))) (at + keyAt) (padded keyMax k)) n (padded valueMax v)) l2 in
-    ez ∙ ap (λ (l : List ℕ). sets l (at + valueAt) (padded valueMax v)) (ey ∙ ap (λ (l : List ℕ). sets l (at + keyAt) (padded keyMax k)) ex′) ∙ sym (a ∙ b)
+    let a : sets t at (header (length k) (length v) ++ (padded mostKey k ++ padded mostValue v)) ≡ sets (sets t at (header (length k) (length v))) (at + keyAt) (padded mostKey k ++ padded mostValue v) =
+    sets-append t at (header (length k) (length v)) (padded mostKey k ++ padded mostValue v)
+    ∙ ap (λ (n : ℕ). sets (sets t at (header (length k) (length v))) n (padded mostKey k ++ padded mostValue v)) l1 in
+    let b : sets (sets t at (header (length k) (length v))) (at + keyAt) (padded mostKey k ++ padded mostValue v) ≡ sets (sets (sets t at (header (length k) (length v))) (at + keyAt) (padded mostKey k)) (at + valueAt) (padded mostValue v) =
+    sets-append (sets t at (header (length k) (length v))) (at + keyAt) (padded mostKey k) (padded mostValue v)
+    ∙ ap (λ (n : ℕ). sets (sets (sets t at (header (length k) (length v))) (at + keyAt) (padded mostKey k)) n (padded mostValue v)) l2 in
+    ez ∙ ap (λ (l : List ℕ). sets l (at + valueAt) (padded mostValue v)) (ey ∙ ap (λ (l : List ℕ). sets l (at + keyAt) (padded mostKey k)) ex′) ∙ sym (a ∙ b)

@@ -1,6 +1,5 @@
 // The record store, on flat bytes that the host lends: finding a record, and putting one. Its slots and its form are passed on.
 use record_slots::KEY_AT;
-use record_slots::KEY_MAX;
 use record_slots::SLOT;
 use record_slots::VALUE_AT;
 pub use record_slots::in_form;
@@ -10,8 +9,8 @@ ghost use mathlib.Core.Path.{_≡_};
 ghost use Prim.Native.Nat.{_+_, _*_, _<_, _≤_, min};
 ghost use lib.ListN.{length, replicate};
 ghost use lib.Seq.{sets};
-ghost use Rattle.recipe.specs.Limits.{valueMax};
-ghost use Rattle.record_slots.specs.Limits.{slotSize, keyMax};
+ghost use Rattle.limits.specs.Limits.{mostKey, mostValue};
+ghost use Rattle.record_slots.specs.Limits.{slotSize};
 ghost use Rattle.record_slots.specs.Slots.{slotsOf, slot, sizeOf, valueOf, padded, header, slotBytes};
 ghost use Rattle.records.specs.Store.{found, findOf, heldPlan, planOf, offerAnswer, offerAfter, putAnswer, putAfter};
 ghost use Rattle.records.specs.Inner.{Fitting};
@@ -37,13 +36,13 @@ fn size_of(s: &[u8]) -> usize
 // How many bytes of the value a slot has: what its header says, or all there is room for.
 fn held_size(s: &[u8]) -> usize
     requires { ⌜ length (now s) ≡ slotSize ⌝ }
-    ensures { λ r. ⌜ r ≡ min (sizeOf (now (s .entry))) valueMax ⌝ }
+    ensures { λ r. ⌜ r ≡ min (sizeOf (now (s .entry))) mostValue ⌝ }
 {
     let n = size_of(s);
-    if n < recipe::VALUE_MAX {
+    if n < limits::MOST_VALUE {
         return n;
     }
-    recipe::VALUE_MAX
+    limits::MOST_VALUE
 }
 
 fn value_of(s: &[u8]) -> &[u8]
@@ -148,7 +147,7 @@ fn put_padded(buf: &mut [u8], at: usize, src: &[u8], n: usize)
 }
 
 fn header_of(k: usize, v: usize) -> [u8; 8]
-    requires { ⌜ (k ≤ keyMax) × (v ≤ valueMax) ⌝ }
+    requires { ⌜ (k ≤ mostKey) × (v ≤ mostValue) ⌝ }
     ensures { λ r. ⌜ r ≡ header k v ⌝ }
 {
     [k as u8, 0, (v % 256) as u8, (v / 256) as u8, 0, 0, 0, 0]
@@ -161,8 +160,8 @@ fn write_slot(store: &mut [u8], at: usize, key: &[u8], value: &[u8])
 {
     let head = header_of(key.len(), value.len());
     octets::copy(store, at, &head);
-    put_padded(store, at + KEY_AT, key, KEY_MAX);
-    put_padded(store, at + VALUE_AT, value, recipe::VALUE_MAX);
+    put_padded(store, at + KEY_AT, key, limits::MOST_KEY);
+    put_padded(store, at + VALUE_AT, value, limits::MOST_VALUE);
 }
 
 // What a put answers.

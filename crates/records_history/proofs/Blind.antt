@@ -12,8 +12,9 @@ use Rattle.octets.specs.Search.{all, allOf}
 use Rattle.octets.proofs.Bools.{all-head, not-both, same-way, to-false}
 use Rattle.octets.proofs.Searching.{all-at, all-intro}
 use Rattle.octets.proofs.Parts.{part-part}
-use Rattle.recipe.specs.Limits.{trailerSize, valueMax}
-use Rattle.records.specs.Limits.{slotsMax, keyMax, keyAt, valueAt, slotSize}
+use Rattle.limits.specs.Limits.{mostKey, mostValue, mostRecords}
+use Rattle.recipe.specs.Limits.{trailerSize}
+use Rattle.records.specs.Limits.{keyAt, valueAt, slotSize}
 use Rattle.records.specs.Store.{slotsOf, slot, used, keyOf, sizeOf, isKey, isRecord, holds, apart, fits, inForm}
 use Rattle.record_slots.proofs.Laying.{slot-long, key-most}
 use Rattle.record_slots.proofs.Finding.{holds-out, holds-in, form-record, form-apart}
@@ -39,7 +40,7 @@ module _ (a b : List ℕ) (alike : take valueAt a ≡ take valueAt b) where
     key-is = all-head (isKey (keyOf a)) _ is
 
     -- a key of over 128 bytes would reach into the value, and is none
-    key-in : getD a 0 0 ≤ keyMax
+    key-in : getD a 0 0 ≤ mostKey
     unfolding keyOf
     key-in =
         let n : length (keyOf a) ≡ min (getD a 0 0) (slotSize - keyAt) = simp (length-take, length-drop) (omega arith) in
@@ -50,7 +51,7 @@ module _ (a b : List ℕ) (alike : take valueAt a ≡ take valueAt b) where
     key-same =
         cut a (getD a 0 0) key-in ∙ ap₂ (λ (x : List ℕ) (n : ℕ). part x keyAt (keyAt + n)) alike (byte 0 (omega arith)) ∙ sym (cut b (getD b 0 0) (omega (arith, key-in, byte 0 (omega arith))))
       where
-        cut : (x : List ℕ) (n : ℕ) → n ≤ keyMax → part x keyAt (keyAt + n) ≡ part (take valueAt x) keyAt (keyAt + n)
+        cut : (x : List ℕ) (n : ℕ) → n ≤ mostKey → part x keyAt (keyAt + n) ≡ part (take valueAt x) keyAt (keyAt + n)
         cut x n l =
             let z : 0 + (keyAt + n) ≡ keyAt + n = omega arith in
             sym (part-part x 0 valueAt keyAt (keyAt + n) (omega arith) ∙ ap (λ (e : ℕ). part x keyAt e) z)
@@ -58,7 +59,7 @@ module _ (a b : List ℕ) (alike : take valueAt a ≡ take valueAt b) where
     record-same : isRecord b ≡ true
     unfolding isRecord
     record-same =
-        sym (ap₂ (λ (k : List ℕ) (n : ℕ). allOf (isKey k ∷ leb trailerSize n ∷ leb n valueMax ∷ [])) key-same size-same) ∙ is
+        sym (ap₂ (λ (k : List ℕ) (n : ℕ). allOf (isKey k ∷ leb trailerSize n ∷ leb n mostValue ∷ [])) key-same size-same) ∙ is
 
 -- ---- two stores of such slots
 module _ (s t : List ℕ) (n : slotsOf s ≡ slotsOf t) (alike : (i : ℕ) → i < slotsOf s → take valueAt (slot s i) ≡ take valueAt (slot t i)) (form : inForm s ≡ true) where
@@ -92,7 +93,7 @@ module _ (s t : List ℕ) (n : slotsOf s ≡ slotsOf t) (alike : (i : ℕ) → i
 
 slots-same : (s t : List ℕ) → length s ≡ length t → slotsOf s ≡ slotsOf t
 unfolding slotsOf
-slots-same s t e = ap (λ (n : ℕ). min (n / slotSize) slotsMax) e
+slots-same s t e = ap (λ (n : ℕ). min (n / slotSize) mostRecords) e
 
 head : (x : List ℕ) (i : ℕ) → take valueAt (part x (i * slotSize) (i * slotSize + slotSize)) ≡ part x (i * slotSize) (i * slotSize + valueAt)
 head x i =

@@ -1,32 +1,28 @@
 -- What a store holds once a slot of it is written anew. Assumes nothing.
-use mathlib.Core.Path.{_≡_, refl, sym, ap, ap₂, _∙_}
-use mathlib.Core.Logic.{⊎-elim}
+use mathlib.Core.Path.{_≡_, refl, sym, ap, _∙_}
 use mathlib.Core.Bool.{true}
 use mathlib.Core.List.{List, _++_, append-assoc}
-use Prim.Native.Nat.{ℕ, _+_, _*_, _-_, _/_, _<_, _≤_, min}
+use Prim.Native.Nat.{ℕ, _+_, _*_, _-_, _<_, _≤_}
 use native.Mathlib.Omega.{arith}
-use lib.Dec.{ltb}
 use lib.ListN.{length, take, drop, replicate, length-append}
-use lib.Seq.{sets, length-sets, take-at, drop-at}
-use borrow.Author.Tests.{ltb-true, ltb-false}
+use lib.Seq.{sets, take-at, drop-at}
 use Rattle.octets.specs.Octets.{part}
-use Rattle.octets.proofs.Bools.{either}
-use Rattle.octets.proofs.Parts.{part-part}
-use Rattle.octets.proofs.Stores.{take-sets, drop-sets, part-sets}
-use Rattle.recipe.specs.Limits.{valueMax}
-use Rattle.records.specs.Limits.{slotsMax, keyMax, keyAt, valueAt, slotSize}
+use Rattle.limits.specs.Limits.{mostKey, mostValue}
+use Rattle.keyed_slots.specs.Slots as keyed
+use Rattle.keyed_slots.proofs.Laying.{is-used}
+use Rattle.keyed_slots.proofs.Writing as writing
+use Rattle.records.specs.Limits.{keyAt, valueAt, slotSize}
 use Rattle.records.specs.Store.{slotsOf, slot, used, keyOf, sizeOf, valueOf, padded, header, slotBytes}
 use Rattle.records.proofs.Writing.{padded-size, header-size}
-use Rattle.record_slots.proofs.Laying.{slot-in, is-used}
 
 -- ---- the bytes of a slot, read back
-module _ (k v : List ℕ) (lk : length k ≤ keyMax) (lv : length v ≤ valueMax) where
+module _ (k v : List ℕ) (lk : length k ≤ mostKey) (lv : length v ≤ mostValue) where
   pub bytes-size : length (slotBytes k v) ≡ slotSize
   unfolding slotBytes
   bytes-size =
       let a = header-size (length k) (length v) in
-      let b = padded-size keyMax k lk in
-      let c = padded-size valueMax v lv in
+      let b = padded-size mostKey k lk in
+      let c = padded-size mostValue v lv in
       simp (length-append) (omega arith)
 
   pub bytes-used : 1 ≤ length k → used (slotBytes k v) ≡ true
@@ -37,21 +33,21 @@ module _ (k v : List ℕ) (lk : length k ≤ keyMax) (lv : length v ≤ valueMax
   unfolding slotBytes header keyOf padded
   bytes-key =
       let e : keyAt + length k - keyAt ≡ length k = omega arith in
-      rw e (ap (λ (x : List ℕ). take (length k) x) (append-assoc k (replicate (keyMax - length k) 0) (padded valueMax v))
-      ∙ take-at k (replicate (keyMax - length k) 0 ++ padded valueMax v) (length k) refl)
+      rw e (ap (λ (x : List ℕ). take (length k) x) (append-assoc k (replicate (mostKey - length k) 0) (padded mostValue v))
+      ∙ take-at k (replicate (mostKey - length k) 0 ++ padded mostValue v) (length k) refl)
 
   pub bytes-count : sizeOf (slotBytes k v) ≡ length v
   unfolding slotBytes header sizeOf
   bytes-count = omega arith
 
-  rest : drop valueAt (slotBytes k v) ≡ padded valueMax v
+  rest : drop valueAt (slotBytes k v) ≡ padded mostValue v
   unfolding slotBytes
   rest =
       let a = header-size (length k) (length v) in
-      let b = padded-size keyMax k lk in
-      let e : length (header (length k) (length v) ++ padded keyMax k) ≡ valueAt = simp (length-append) (omega arith) in
-      ap (λ (x : List ℕ). drop valueAt x) (sym (append-assoc (header (length k) (length v)) (padded keyMax k) (padded valueMax v)))
-      ∙ drop-at (header (length k) (length v) ++ padded keyMax k) (padded valueMax v) valueAt e
+      let b = padded-size mostKey k lk in
+      let e : length (header (length k) (length v) ++ padded mostKey k) ≡ valueAt = simp (length-append) (omega arith) in
+      ap (λ (x : List ℕ). drop valueAt x) (sym (append-assoc (header (length k) (length v)) (padded mostKey k) (padded mostValue v)))
+      ∙ drop-at (header (length k) (length v) ++ padded mostKey k) (padded mostValue v) valueAt e
 
   pub bytes-value : valueOf (slotBytes k v) ≡ v
   unfolding valueOf padded
@@ -59,40 +55,18 @@ module _ (k v : List ℕ) (lk : length k ≤ keyMax) (lv : length v ≤ valueMax
       let e : valueAt + length v - valueAt ≡ length v = omega arith in
       ap (λ (n : ℕ). part (slotBytes k v) valueAt (valueAt + n)) bytes-count
       ∙ ap (λ (n : ℕ). take n (drop valueAt (slotBytes k v))) e ∙ ap (λ (x : List ℕ). take (length v) x) rest
-      ∙ take-at v (replicate (valueMax - length v) 0) (length v) refl
+      ∙ take-at v (replicate (mostValue - length v) 0) (length v) refl
 
 -- ---- a slot written
 module _ (t s : List ℕ) (i : ℕ) (h : i < slotsOf t) (es : length s ≡ slotSize) where
   pub written-slots : slotsOf (sets t (i * slotSize) s) ≡ slotsOf t
-  unfolding slotsOf
-  written-slots = ap (λ (n : ℕ). min (n / slotSize) slotsMax) (length-sets t (i * slotSize) s)
+  unfolding keyed.slotsOf slotsOf
+  written-slots = writing.written-slots slotSize t s i h es
 
   pub written-same : slot (sets t (i * slotSize) s) i ≡ s
-  unfolding slot
-  written-same =
-      ap (λ (n : ℕ). part (sets t (i * slotSize) s) (i * slotSize) (i * slotSize + n)) (sym es)
-      ∙ part-sets t (i * slotSize) s (omega (arith, slot-in t i h))
-
-  -- a part before the slot, and one after it
-  part-before : (a e : ℕ) → e ≤ i * slotSize → part (sets t (i * slotSize) s) a e ≡ part t a e
-  part-before a e l =
-      sym (front (sets t (i * slotSize) s)) ∙ ap (λ (x : List ℕ). part x a e) (take-sets (e - 0) t (i * slotSize) s (omega arith)) ∙ front t
-    where
-      front : (x : List ℕ) → part (part x 0 e) a e ≡ part x a e
-      front x =
-          let p : 0 + a ≡ a = omega arith in
-          let q : 0 + e ≡ e = omega arith in
-          part-part x 0 e a e (omega arith) ∙ ap₂ (λ (m n : ℕ). part x m n) p q
-
-  part-after : (a e : ℕ) → i * slotSize + slotSize ≤ a → part (sets t (i * slotSize) s) a e ≡ part t a e
-  part-after a e l = ap (λ (x : List ℕ). take (e - a) x) (drop-sets a t (i * slotSize) s (omega arith))
+  unfolding keyed.slotsOf keyed.slot slotsOf slot
+  written-same = writing.written-same slotSize t s i h es
 
   pub written-other : (j : ℕ) → (j ≡ i → ⊥) → slot (sets t (i * slotSize) s) j ≡ slot t j
-  unfolding slot
-  written-other j ne = ⊎-elim (λ q. low (ltb-true j i q)) (λ q. high (ltb-false j i q)) (either (ltb j i))
-    where
-      low : j < i → part (sets t (i * slotSize) s) (j * slotSize) (j * slotSize + slotSize) ≡ part t (j * slotSize) (j * slotSize + slotSize)
-      low l = part-before (j * slotSize) (j * slotSize + slotSize) (omega arith)
-
-      high : i ≤ j → part (sets t (i * slotSize) s) (j * slotSize) (j * slotSize + slotSize) ≡ part t (j * slotSize) (j * slotSize + slotSize)
-      high l = part-after (j * slotSize) (j * slotSize + slotSize) (omega arith)
+  unfolding keyed.slotsOf keyed.slot slotsOf slot
+  written-other = writing.written-other slotSize t s i h es

@@ -14,6 +14,7 @@ use Rattle.octets.specs.Octets.{same}
 use Rattle.octets.specs.Search.{every, some as someBelow}
 use Rattle.octets.proofs.Bools.{either, to-false, not-both}
 use Rattle.octets.proofs.Searching.{some-at, some-intro, every-nil, every-cons}
+use Rattle.limits.specs.Limits.{mostNear}
 use Rattle.contacts.specs.Table.{slot, place}
 use Rattle.wire.specs.Items.{Put, written, repeated}
 use Rattle.wire_put.proofs.Putting.{put-start, put-is, put-on}
@@ -23,6 +24,7 @@ use Rattle.pieces.proofs.Pieces.{entries-more}
 use Rattle.entries.specs.Entries.{contactEntry}
 use Rattle.replies.specs.Inner.{entriesTo, liesAmong, entryBytes}
 use Rattle.entries.proofs.Entries.{contact-fits}
+use Rattle.pieces.specs.Sizes.{mostPeerField, mostPeerFields}
 
 module _ (t near : List ℕ) where
   map-snoc : (l : List ℕ) (i : ℕ) → map (λ i. contactEntry (slot t i)) (l ++ (i ∷ [])) ≡ map (λ i. contactEntry (slot t i)) l ++ (contactEntry (slot t i) ∷ [])
@@ -45,13 +47,13 @@ module _ (t near : List ℕ) where
   pub record Summing (n sum k : ℕ) : Type 0 where
     pub within : k ≤ n
     pub done : sum ≡ length (entryBytes (entriesTo t near k))
-    pub few : sum ≤ 595 * k
+    pub few : sum ≤ mostPeerField * k
 
   pub sum-none : (n : ℕ) → Summing n 0 0
   unfolding entryBytes entriesTo repeated written
   sum-none n = record { within = omega arith; done = refl; few = omega arith }
 
-  pub sum-one : (n sum k r : ℕ) → Summing n sum k → k < n → n ≤ length near → (r ≡ length (peerPiece 8 (contactEntry (slot t (getD near k 0))))) × (r ≤ 595) → Summing n (sum + r) (k + 1)
+  pub sum-one : (n sum k r : ℕ) → Summing n sum k → k < n → n ≤ length near → (r ≡ length (peerPiece 8 (contactEntry (slot t (getD near k 0))))) × (r ≤ mostPeerField) → Summing n (sum + r) (k + 1)
   sum-one n sum k r s h l e =
       record {
         within = omega arith;
@@ -59,7 +61,7 @@ module _ (t near : List ℕ) where
         few = omega (arith, s .few, e .1);
       }
 
-  pub sum-all : (n sum k : ℕ) → Summing n sum k → n ≤ k → n ≤ 20 → (sum ≡ length (entryBytes (entriesTo t near n))) × (sum ≤ 11900)
+  pub sum-all : (n sum k : ℕ) → Summing n sum k → n ≤ k → n ≤ 20 → (sum ≡ length (entryBytes (entriesTo t near n))) × (sum ≤ mostPeerFields)
   sum-all n sum k s h l =
       let e : k ≡ n = omega (arith, s .within) in
       (s .done ∙ ap (λ (i : ℕ). length (entryBytes (entriesTo t near i))) e, omega (arith, s .few))

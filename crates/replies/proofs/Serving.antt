@@ -12,6 +12,7 @@ use borrow.Author.Tests.{leb-true, le-leb, lt-leb, ltb-true}
 use Rattle.octets.specs.Octets.{part, same}
 use Rattle.octets.proofs.Bools.{either, not-both, and-r, and-off, and-on}
 use Rattle.octets.proofs.Parts.{part-size}
+use Rattle.limits.specs.Limits.{mostKey, mostValue}
 use Rattle.refusal.specs.declared.Refusal.{Refusal}
 use Rattle.refusal.specs.declared.Refusal.the-variants.{BreaksRules, BrokenRecipe}
 use Rattle.recipe.specs.Recipe.{isRecipe}
@@ -24,22 +25,15 @@ use Rattle.records.specs.declared.Answer.the-variants as store
 use Rattle.records.specs.declared.Found.the-variants as looked
 use Rattle.record_slots.proofs.Laying.{slot-in, slot-long, value-size, key-least, key-most}
 use Rattle.records.proofs.Putting.{plan-key, plan-recipe}
-use Rattle.message.specs.Limits.{mostKey}
 use Rattle.message.specs.Message.{Message}
 use Rattle.pieces.specs.Writable.{recordWith}
 use Rattle.replies.specs.Replies.{putValueReply}
-use Rattle.replies.specs.Verdicts.{keyFits, keyed, putVerdict, putAfter, Dealt, byVerdict, Gives, Framed, Told}
+use Rattle.replies.specs.Lent.{lent}
+use Rattle.message.specs.Kinds.{keyFits}
+use Rattle.replies.specs.Verdicts.{keyed, putVerdict, putAfter, Dealt, putDealt, Gives, Framed, Told}
 use Rattle.replies.specs.declared.Answered.the-variants.{Reply, Refused}
 
 -- ---- keys
-pub key-none : (key : List ℕ) → length key ≡ 0 → false ≡ keyFits key
-unfolding keyFits
-key-none key e = sym (and-off (leb 1 (length key)) (leb (length key) mostKey) (lt-leb 1 (length key) (omega arith)))
-
-pub key-some : (key : List ℕ) → (length key ≡ 0 → ⊥) → leb (length key) mostKey ≡ keyFits key
-unfolding keyFits
-key-some key h = sym (and-on (leb 1 (length key)) (leb (length key) mostKey) (le-leb 1 (length key) (omega (arith, h))))
-
 module _ (key : List ℕ) (b : Bool) (e : b ≡ keyFits key) where
   pub fits-most : b ≡ true → length key ≤ 128
   unfolding keyFits
@@ -58,7 +52,7 @@ module _ (k key : List ℕ) (a z : ℕ) where
   pub record Lies : Type 0 where
     pub ordered : a ≤ z
     pub ends : z ≤ length k
-    pub short : z ≤ a + 2048
+    pub short : z ≤ a + mostValue
 
   at-slot : (i : ℕ) → i < slotsOf k → heldAt k i ≡ looked.Held a z → Lies
   unfolding heldAt
@@ -77,7 +71,7 @@ module _ (k key : List ℕ) (a z : ℕ) where
       go true q e = at-slot (slotWith k key) (ltb-true (slotWith k key) (slotsOf k) q) e
       go false q e = absurd (let w : _≡_ {A = ℕ} 0 1 = cc in omega arith)
 
-  pub value-short : Lies → length (part k a z) ≤ 2048
+  pub value-short : Lies → length (part k a z) ≤ mostValue
   value-short l =
       let e : a + (z - a) ≡ z = omega (arith, l .ordered) in
       let q : length (part k a (a + (z - a))) ≡ z - a = part-size k a (z - a) (omega (arith, l .ends, l .ordered)) in
@@ -104,16 +98,16 @@ module _ (k key value : List ℕ) where
       omega arith
 
   -- what is taken is within the limits
-  pub taken-fits : offerAnswer k key value ≡ store.Taken → (1 ≤ length key) × (length key ≤ 128) × (length value ≤ 2048)
+  pub taken-fits : offerAnswer k key value ≡ store.Taken → (1 ≤ length key) × (length key ≤ 128) × (length value ≤ mostValue)
   taken-fits e =
       let y = is-key e in
       let v : isRecipe value ≡ true = ⊎-elim (λ q. q) (λ q. absurd (no-recipe y q e)) (either (isRecipe value)) in
       (omega (arith, key-least key y), key-most key y, recipe-most value v)
 
 -- ---- PUT_VALUE
-module _ (k key rkey value y : List ℕ) (b : Bool) (e : b ≡ same rkey key) where
+module _ (t k key rkey value y : List ℕ) (b : Bool) (e : b ≡ same rkey key) where
   abbrev D : Dealt
-  D = byVerdict (putVerdict key (some (recordWith rkey value)) k) k (putAfter key (some (recordWith rkey value)) k) y
+  D = putDealt key (some (recordWith rkey value)) (lent t k y)
 
   pub put-other : not b ≡ true → Gives D (Refused BreaksRules) k y
   unfolding putVerdict putAfter recordWith
@@ -133,7 +127,7 @@ module _ (k key rkey value y : List ℕ) (b : Bool) (e : b ≡ same rkey key) wh
 
     pub put-taken : offerAnswer k key value ≡ store.Taken → (y₁ : List ℕ) (r : ℕ) → Framed (putValueReply key value) y y₁ r → Gives D (Reply r) k₁ y₁
     unfolding putVerdict putAfter recordWith
-    put-taken t y₁ r f = rw (← e, yes, t) (record { told = ap Reply (f .size); records = ek; reply = f .same })
+    put-taken a y₁ r f = rw (← e, yes, a) (record { told = ap Reply (f .size); records = ek; reply = f .same })
 
     stays : (r : Refusal) → offerAnswer k key value ≡ store.Refused r → offerAfter k key value ≡ k
     unfolding offerAnswer offerAfter answerOf afterOf

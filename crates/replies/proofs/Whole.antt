@@ -11,9 +11,10 @@ use borrow.Author.Tests.{le-leb}
 use Rattle.octets.specs.Octets.{part, same}
 use Rattle.octets.proofs.Bools.{cond-ind, all-none, all-one-more, same-way}
 use Rattle.octets.proofs.Searching.{some-at, some-intro}
+use Rattle.limits.specs.Limits.{mostValue, mostNear}
 use Rattle.place.specs.Place.{isPlace, placeOf}
 use Rattle.contacts.specs.Table.{slotsOf, slot, place}
-use Rattle.contacts.specs.Near.{nearestCount, sorted, nearestSlots, filled, nearestOf}
+use Rattle.contacts.specs.Near.{sorted, nearestSlots, filled, nearestOf}
 use Rattle.contacts.specs.declared.Closest.{Closest}
 use Rattle.contacts.proofs.Sorting.{take-filled, length-filled}
 use Rattle.peer.specs.declared.Peer as peers
@@ -31,6 +32,7 @@ use Rattle.entries.specs.Entries.{peerEntry}
 use Rattle.replies.specs.Replies.{closerPeers, listed, lastEntry, findNodeReply, getValueReply, putValueReply, pingReply}
 use Rattle.replies.specs.Inner.{entriesTo, liesAmong, entryBytes, replyWith}
 use Rattle.replies.specs.Verdicts.{Framed}
+use Rattle.pieces.specs.Sizes.{mostPeerField, mostRecordField, mostPeerFields}
 
 -- ---- a body after its prefix
 two-bytes : (kind : ℕ) → kind ≤ 5 → length (written1 (num 1 kind)) ≡ 2
@@ -94,17 +96,17 @@ ping-bytes : encode pingReply ≡ written1 (num 1 5) ++ []
 unfolding pingReply
 ping-bytes = message-bytes pingReply ∙ rw (no-key, no-held, no-peers 8, no-peers 9)
 
-pub record-fits : (key value : List ℕ) → length key ≤ 128 → length value ≤ 2048 → recordFits (recordWith key value) ≡ true
+pub record-fits : (key value : List ℕ) → length key ≤ 128 → length value ≤ mostValue → recordFits (recordWith key value) ≡ true
 unfolding recordFits recordWith
-record-fits key value h l = all-one-more _ _ (le-leb (length key) 128 h) (all-one-more _ _ (le-leb (length value) 2048 l) all-none)
+record-fits key value h l = all-one-more _ _ (le-leb (length key) 128 h) (all-one-more _ _ (le-leb (length value) mostValue l) all-none)
 
-pub record-piece-most : (key value : List ℕ) → length key ≤ 128 → length value ≤ 2048 → length (recordPiece (recordWith key value)) ≤ 2185
+pub record-piece-most : (key value : List ℕ) → length key ≤ 128 → length value ≤ mostValue → length (recordPiece (recordWith key value)) ≤ mostRecordField
 unfolding recordPiece
 record-piece-most key value h l = rw (record-fits key value h l) (record-entry-most (recordWith key value) (record-fits key value h l))
 
 -- ---- the replies, from their pieces
 module _ (buf b₁ : List ℕ) (r₁ : ℕ) (b₂ : List ℕ) (r₂ s : ℕ) where
-  pub closer-done : (kind : ℕ) (l : List Peer) (e : ℕ) → kind ≤ 5 → (e ≡ length (entryBytes l)) × (e ≤ 11900)
+  pub closer-done : (kind : ℕ) (l : List Peer) (e : ℕ) → kind ≤ 5 → (e ≡ length (entryBytes l)) × (e ≤ mostPeerFields)
       → Put buf 0 (minimal (2 + e) ++ written1 (num 1 kind)) b₁ r₁ → Put b₁ r₁ (entryBytes l) b₂ r₂ → s ≡ length (minimal (2 + e)) + (2 + e)
       → Framed (replyWith kind none l) buf b₂ s
   closer-done kind l e h q p₁ p₂ es =
@@ -118,7 +120,7 @@ ping-done buf b₁ r₁ s p es =
     framed pingReply 2 n 5 [] ping-bytes buf b₁ r₁ b₁ r₁ p (put-start b₁ r₁) s es
 
 module _ (buf b₁ : List ℕ) (r₁ : ℕ) (b₂ : List ℕ) (r₂ : ℕ) (b₃ : List ℕ) (r₃ s : ℕ) where
-  pub last-done : (l : List Peer) (e o : ℕ) (p : Peer) → (e ≡ length (entryBytes l)) × (e ≤ 11900) → (o ≡ length (peerPiece 8 p)) × (o ≤ 595) × (peerFits p ≡ true)
+  pub last-done : (l : List Peer) (e o : ℕ) (p : Peer) → (e ≡ length (entryBytes l)) × (e ≤ mostPeerFields) → (o ≡ length (peerPiece 8 p)) × (o ≤ mostPeerField) × (peerFits p ≡ true)
       → Put buf 0 (minimal (2 + e + o) ++ written1 (num 1 4)) b₁ r₁ → Put b₁ r₁ (entryBytes l) b₂ r₂ → Put b₂ r₂ (peerPiece 8 p) b₃ r₃ → s ≡ length (minimal (2 + e + o)) + (2 + e + o)
       → Framed (replyWith 4 none (l ++ (p ∷ []))) buf b₃ s
   last-done l e o p q qo p₁ p₂ p₃ es =
@@ -129,7 +131,7 @@ module _ (buf b₁ : List ℕ) (r₁ : ℕ) (b₂ : List ℕ) (r₂ : ℕ) (b₃
       framed (replyWith 4 none (l ++ (p ∷ []))) (2 + e + o) n 4 (entryBytes l ++ peerPiece 8 p) b buf b₁ r₁ b₃ r₃ p₁
       (put-on b₁ r₁ (entryBytes l) b₂ r₂ (peerPiece 8 p) b₃ r₃ p₂ p₃) s es
 
-  pub held-done : (key value : List ℕ) (l : List Peer) (h e : ℕ) → length key ≤ 128 → length value ≤ 2048 → h ≡ length (recordPiece (recordWith key value)) → (e ≡ length (entryBytes l)) × (e ≤ 11900)
+  pub held-done : (key value : List ℕ) (l : List Peer) (h e : ℕ) → length key ≤ 128 → length value ≤ mostValue → h ≡ length (recordPiece (recordWith key value)) → (e ≡ length (entryBytes l)) × (e ≤ mostPeerFields)
       → Put buf 0 (minimal (2 + h + e) ++ written1 (num 1 1)) b₁ r₁ → Put b₁ r₁ (recordPiece (recordWith key value)) b₂ r₂ → Put b₂ r₂ (entryBytes l) b₃ r₃ → s ≡ length (minimal (2 + h + e)) + (2 + h + e)
       → Framed (replyWith 1 (some (recordWith key value)) l) buf b₃ s
   held-done key value l h e hk hv eh q p₁ p₂ p₃ es =
@@ -139,7 +141,7 @@ module _ (buf b₁ : List ℕ) (r₁ : ℕ) (b₂ : List ℕ) (r₂ : ℕ) (b₃
       framed (replyWith 1 (some (recordWith key value)) l) (2 + h + e) n 1 (recordPiece (recordWith key value) ++ entryBytes l) b buf b₁ r₁ b₃ r₃ p₁
       (put-on b₁ r₁ (recordPiece (recordWith key value)) b₂ r₂ (entryBytes l) b₃ r₃ p₂ p₃) s es
 
-  pub echo-done : (key value : List ℕ) (v h : ℕ) → 1 ≤ length key → length key ≤ 128 → length value ≤ 2048 → v ≡ length (minimal (length key)) → h ≡ length (recordPiece (recordWith key value))
+  pub echo-done : (key value : List ℕ) (v h : ℕ) → 1 ≤ length key → length key ≤ 128 → length value ≤ mostValue → v ≡ length (minimal (length key)) → h ≡ length (recordPiece (recordWith key value))
       → Put buf 0 (minimal (2 + (1 + v + length key) + h) ++ written1 (num 1 0)) b₁ r₁ → Put b₁ r₁ (written1 (bytes 2 key)) b₂ r₂ → Put b₂ r₂ (recordPiece (recordWith key value)) b₃ r₃
       → s ≡ length (minimal (2 + (1 + v + length key) + h)) + (2 + (1 + v + length key) + h)
       → Framed (putValueReply key value) buf b₃ s
@@ -154,8 +156,8 @@ module _ (buf b₁ : List ℕ) (r₁ : ℕ) (b₂ : List ℕ) (r₂ : ℕ) (b₃
 pub nearest-few : (t x : List ℕ) → length (nearestSlots t x) ≤ 20
 unfolding nearestSlots
 nearest-few t x =
-    cond-ind (λ (l : List ℕ). length l ≤ 20) (isPlace x) (take nearestCount (sorted t x (slotsOf t))) []
-    (λ e. omega (arith, length-take nearestCount (sorted t x (slotsOf t)))) (λ e. omega arith)
+    cond-ind (λ (l : List ℕ). length l ≤ 20) (isPlace x) (take mostNear (sorted t x (slotsOf t))) []
+    (λ e. omega (arith, length-take mostNear (sorted t x (slotsOf t)))) (λ e. omega arith)
 
 module _ (t x : List ℕ) (near : Closest) (e : near ≡ nearestOf t x) where
   near-count : near .n ≡ length (nearestSlots t x)

@@ -1,3 +1,4 @@
+pub mod Lent
 pub mod Replies
 pub mod Verdicts
 pub mod Inner

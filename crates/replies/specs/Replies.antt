@@ -4,6 +4,7 @@ use mathlib.Core.Bool.{Bool, cond}
 use mathlib.Core.List.{List, [], _∷_, _++_, map}
 use mathlib.Core.Option.{Option, none, some}
 use lib.ListN.{length, getD}
+use Rattle.message.specs.Kinds.{putValue, getValue, findNode, ping}
 use Rattle.octets.specs.Octets.{part, same}
 use Rattle.octets.specs.Search.{some as someBelow}
 use Rattle.place.specs.Place.{placeOf}
@@ -15,19 +16,6 @@ use Rattle.records.specs.declared.Found.{Found}
 use Rattle.records.specs.declared.Found.the-variants as looked
 use Rattle.records.specs.Store.{found}
 use Rattle.message.specs.Message.{Peer, Record, Message}
-
--- ---- the types of messages
-abbrev pub putValue : ℕ
-putValue = 0
-
-abbrev pub getValue : ℕ
-getValue = 1
-
-abbrev pub findNode : ℕ
-findNode = 4
-
-abbrev pub ping : ℕ
-ping = 5
 
 -- ---- closer peers
 -- "closerPeers are the 20 nearest contacts", nearest first, the doubtful passed over: those of the table t nearest to the place x

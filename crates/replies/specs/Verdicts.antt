@@ -1,4 +1,4 @@
--- What a request comes to by its key and record, and what that does to the records and the reply buffer: document 01, 'Answers to requests', refusals 8 to 11.
+-- What a request comes to by its key and record, and what that does to lent memory: document 01, 'Answers to requests', refusals 8 to 11.
 use Prim.Native.Nat.{ℕ}
 use mathlib.Core.Path.{_≡_}
 use mathlib.Core.Bool.{Bool, cond, _&&_}
@@ -7,14 +7,15 @@ use mathlib.Core.Option.{Option, none, some}
 use lib.ListN.{length}
 use lib.Seq.{sets}
 use lib.Dec.{leb}
+use Rattle.message.specs.Kinds.{keyFits}
 use Rattle.octets.specs.Octets.{same}
 use Rattle.refusal.specs.declared.Refusal.{Refusal}
 use Rattle.refusal.specs.declared.Refusal.the-variants.{BreaksRules}
 use Rattle.records.specs.declared.Answer as stored
 use Rattle.records.specs.declared.Answer.the-variants as store
 use Rattle.records.specs.Store.{offerAnswer, offerAfter}
-use Rattle.message.specs.Limits.{mostKey}
 use Rattle.message.specs.Message.{Record, Message, encode, frame}
+use Rattle.replies.specs.Lent.{Lent, withRecords, withReply}
 use Rattle.replies.specs.Replies.{putValueReply}
 use Rattle.replies.specs.declared.Answered.{Answered}
 use Rattle.replies.specs.declared.Answered.the-variants.{Reply, Refused}
@@ -23,10 +24,6 @@ use Rattle.replies.specs.declared.Answered.the-variants.{Reply, Refused}
 pub data Verdict : Type 0 where
   replies : Message → Verdict
   refuses : Refusal → Verdict
-
--- "key of 1 to 128 bytes, else 8"
-unfoldable pub keyFits : List ℕ → Bool
-keyFits key = leb 1 (length key) && leb (length key) mostKey
 
 unfoldable pub keyed : List ℕ → Message → Verdict
 keyed key m = cond (keyFits key) (replies m) (refuses BreaksRules)
@@ -46,28 +43,32 @@ unfoldable pub putAfter : List ℕ → Option Record → List ℕ → List ℕ
 putAfter key none k = k
 putAfter key (some r) k = cond (same (r .key) key) (offerAfter k key (r .value)) k
 
--- ---- the answer, the records and the reply buffer
+-- ---- the answer, and what is left of lent memory
 pub record Dealt : Type 0 where
   pub told : Answered
-  pub records : List ℕ
-  pub reply : List ℕ
+  pub left : Lent
 
 -- a refused request changes nothing. A reply is written with its length prefix; "bytes after a reply stay"
-abbrev pub refused : Refusal → List ℕ → List ℕ → Dealt
-refused r k y = record { told = Refused r; records = k; reply = y }
+abbrev pub refused : Refusal → Lent → Dealt
+refused r l = record { told = Refused r; left = l }
 
-abbrev pub replied : Message → List ℕ → List ℕ → Dealt
-replied m k y = record { told = Reply (length (frame (encode m))); records = k; reply = sets y 0 (frame (encode m)) }
+abbrev pub replied : Message → Lent → Dealt
+replied m l = record { told = Reply (length (frame (encode m))); left = withReply l (sets (l .reply) 0 (frame (encode m))) }
 
-abbrev pub byVerdict : Verdict → List ℕ → List ℕ → List ℕ → Dealt
-byVerdict (replies m) k after y = replied m after y
-byVerdict (refuses r) k after y = refused r k y
+-- the verdict, what a reply leaves beside its bytes, and what there was
+abbrev pub byVerdict : Verdict → (after : Lent) → (before : Lent) → Dealt
+byVerdict (replies m) after before = replied m after
+byVerdict (refuses r) after before = refused r before
+
+-- a PUT_VALUE of this key and record
+abbrev pub putDealt : List ℕ → Option Record → Lent → Dealt
+putDealt key held l = byVerdict (putVerdict key held (l .records)) (withRecords l (putAfter key held (l .records))) l
 
 -- the answer r, the records k and the reply buffer y are those that d says
 pub record Gives (d : Dealt) (r : Answered) (k y : List ℕ) : Type 0 where
   pub told : r ≡ d .told
-  pub records : k ≡ d .records
-  pub reply : y ≡ d .reply
+  pub records : k ≡ d .left .records
+  pub reply : y ≡ d .left .reply
 
 -- ---- a reply alone
 -- the message m stands in a buffer with its length prefix, and r is how many bytes that takes

@@ -4,26 +4,20 @@ use peer::Peer;
 use records::Found;
 use refusal::Refusal;
 ghost use mathlib.Core.Path.{_≡_};
-ghost use mathlib.Core.List.{[], _∷_, _++_};
+ghost use mathlib.Core.List.{List, [], _∷_, _++_};
 ghost use mathlib.Core.Bool.{true};
 ghost use mathlib.Core.Option.{none, some};
-ghost use Prim.Native.Nat.{_+_, _<_, _≤_};
+ghost use Prim.Native.Nat.{ℕ, _+_, _<_, _≤_};
 ghost use lib.ListN.{length};
+ghost use Rattle.limits.specs.Limits.{mostKey, mostValue, mostBody, mostKind, mostNear};
 ghost use Rattle.wire.specs.Items.{Put, minimal, num, written1};
 ghost use Rattle.pieces.specs.Writable.{recordWith};
 ghost use Rattle.entries.specs.Entries.{peerEntry};
 ghost use Rattle.replies.specs.Replies.{getValueReply, findNodeReply, putValueReply, pingReply};
-ghost use Rattle.replies.specs.Verdicts.{Gives, keyFits, keyed, putVerdict, putAfter, byVerdict, Framed, Told};
+ghost use Rattle.replies.specs.Lent.{lent};
+ghost use Rattle.replies.specs.Verdicts.{Gives, keyed, putDealt, Framed, Told};
 ghost use Rattle.replies.specs.Inner.{entriesTo, liesAmong, entryBytes, replyWith};
-
-// The types of requests.
-pub const PUT_VALUE: u64 = 0;
-
-pub const GET_VALUE: u64 = 1;
-
-pub const FIND_NODE: u64 = 4;
-
-pub const PING: u64 = 5;
+ghost use Rattle.pieces.specs.Sizes.{mostPeerFields};
 
 pub enum Answered {
     // The reply stands at the reply buffer's start: so many bytes, with its length prefix.
@@ -33,8 +27,8 @@ pub enum Answered {
 
 // How many bytes the first n contacts of a list of slots take as entries.
 fn entries_len(table: &[u8], near: &[usize], n: usize) -> usize
-    requires { ⌜ (n ≤ 20) × (n ≤ length (now near)) ⌝ }
-    ensures { λ r. ⌜ (r ≡ length (entryBytes (entriesTo (now (table .entry)) (now (near .entry)) n))) × (r ≤ 11900) ⌝ }
+    requires { ⌜ (n ≤ mostNear) × (n ≤ length (now near)) ⌝ }
+    ensures { λ r. ⌜ (r ≡ length (entryBytes (entriesTo (now (table .entry)) (now (near .entry)) n))) × (r ≤ mostPeerFields) ⌝ }
 {
     let mut sum: usize = 0;
     let mut k: usize = 0;
@@ -47,7 +41,7 @@ fn entries_len(table: &[u8], near: &[usize], n: usize) -> usize
 
 // Writes the first n contacts of a list of slots as entries.
 fn put_entries(buf: &mut [u8], from: usize, table: &[u8], near: &[usize], n: usize) -> usize
-    requires { ⌜ (n ≤ 20) × (n ≤ length (now near)) ⌝ }
+    requires { ⌜ (n ≤ mostNear) × (n ≤ length (now near)) ⌝ }
     ensures { λ r. ⌜ Put (now (buf .entry)) from (entryBytes (entriesTo (now (table .entry)) (now (near .entry)) n)) (now (buf .exit)) r ⌝ }
 {
     let mut to = from;
@@ -84,7 +78,7 @@ fn begin(reply: &mut [u8], size: usize, kind: u64) -> usize
 
 // How many bytes a body of so many bytes takes with its prefix.
 fn framed_len(size: usize) -> usize
-    requires { ⌜ size ≤ 16384 ⌝ }
+    requires { ⌜ size ≤ mostBody ⌝ }
     ensures { λ r. ⌜ r ≡ length (minimal size) + size ⌝ }
 {
     wire_put::varint_len(size as u64) + size
@@ -92,7 +86,7 @@ fn framed_len(size: usize) -> usize
 
 // A reply of closer peers alone.
 fn reply_closer(reply: &mut [u8], kind: u64, table: &[u8], near: &[usize], n: usize) -> usize
-    requires { ⌜ (n ≤ 20) × (n ≤ length (now near)) × (kind ≤ 5) ⌝ }
+    requires { ⌜ (n ≤ mostNear) × (n ≤ length (now near)) × (kind ≤ mostKind) ⌝ }
     ensures { λ r. ⌜ Framed (replyWith kind none (entriesTo (now (table .entry)) (now (near .entry)) n)) (now (reply .entry)) (now (reply .exit)) r ⌝ }
 {
     let size = 2 + entries_len(table, near, n);
@@ -103,11 +97,11 @@ fn reply_closer(reply: &mut [u8], kind: u64, table: &[u8], near: &[usize], n: us
 
 // FIND_NODE's reply with a last entry.
 fn reply_last(reply: &mut [u8], table: &[u8], near: &[usize], n: usize, p: Peer) -> usize
-    requires { ⌜ (n ≤ 20) × (n ≤ length (now near)) ⌝ }
+    requires { ⌜ (n ≤ mostNear) × (n ≤ length (now near)) ⌝ }
     ensures { λ r. ⌜ Framed (replyWith 4 none (entriesTo (now (table .entry)) (now (near .entry)) n ++ (peerEntry p ∷ []))) (now (reply .entry)) (now (reply .exit)) r ⌝ }
 {
     let size = 2 + entries_len(table, near, n) + entries::own_len(p);
-    let a = begin(reply, size, FIND_NODE);
+    let a = begin(reply, size, message::FIND_NODE);
     let b = put_entries(reply, a, table, near, n);
     entries::put_own(reply, b, p);
     framed_len(size)
@@ -122,11 +116,11 @@ fn reply_held(
     near: &[usize],
     n: usize,
 ) -> usize
-    requires { ⌜ (n ≤ 20) × (n ≤ length (now near)) × (length (now key) ≤ 128) × (length (now value) ≤ 2048) ⌝ }
+    requires { ⌜ (n ≤ mostNear) × (n ≤ length (now near)) × (length (now key) ≤ mostKey) × (length (now value) ≤ mostValue) ⌝ }
     ensures { λ r. ⌜ Framed (replyWith 1 (some (recordWith (now (key .entry)) (now (value .entry)))) (entriesTo (now (table .entry)) (now (near .entry)) n)) (now (reply .entry)) (now (reply .exit)) r ⌝ }
 {
     let size = 2 + pieces::record_len(key, value) + entries_len(table, near, n);
-    let a = begin(reply, size, GET_VALUE);
+    let a = begin(reply, size, message::GET_VALUE);
     let b = pieces::put_record(reply, a, key, value);
     put_entries(reply, b, table, near, n);
     framed_len(size)
@@ -134,12 +128,12 @@ fn reply_held(
 
 // PUT_VALUE's reply: the request's key and record.
 fn echo(reply: &mut [u8], key: &[u8], value: &[u8]) -> usize
-    requires { ⌜ (1 ≤ length (now key)) × (length (now key) ≤ 128) × (length (now value) ≤ 2048) ⌝ }
+    requires { ⌜ (1 ≤ length (now key)) × (length (now key) ≤ mostKey) × (length (now value) ≤ mostValue) ⌝ }
     ensures { λ r. ⌜ Framed (putValueReply (now (key .entry)) (now (value .entry))) (now (reply .entry)) (now (reply .exit)) r ⌝ }
 {
     let key_len = 1 + wire_put::varint_len(key.len() as u64) + key.len();
     let size = 2 + key_len + pieces::record_len(key, value);
-    let a = begin(reply, size, PUT_VALUE);
+    let a = begin(reply, size, message::PUT_VALUE);
     let b = wire_put::put_bytes(reply, a, 2, key);
     pieces::put_record(reply, b, key, value);
     framed_len(size)
@@ -149,18 +143,8 @@ fn echo(reply: &mut [u8], key: &[u8], value: &[u8]) -> usize
 pub fn echo_ping(reply: &mut [u8]) -> usize
     ensures { λ r. ⌜ Framed pingReply (now (reply .entry)) (now (reply .exit)) r ⌝ }
 {
-    begin(reply, 2, PING);
+    begin(reply, 2, message::PING);
     framed_len(2)
-}
-
-// Whether a key has 1 to 128 bytes.
-fn key_fits(key: &[u8]) -> bool
-    ensures { λ r. ⌜ r ≡ keyFits (now (key .entry)) ⌝ }
-{
-    if key.len() == 0 {
-        return false;
-    }
-    key.len() <= message::MOST_KEY
 }
 
 // FIND_NODE's reply: the nearest of the contacts that aren't doubtful, and a last entry where the target is our place or the requester's and isn't there yet.
@@ -172,7 +156,7 @@ fn find_node(reply: &mut [u8], me: Peer, who: Peer, key: &[u8], table: &[u8]) ->
     let at = near.at;
     let n = near.n;
     if lies_among(table, &at, n, &target) {
-        return reply_closer(reply, FIND_NODE, table, &at, n);
+        return reply_closer(reply, message::FIND_NODE, table, &at, n);
     }
     let mine = me.place;
     if octets::same_bytes(&target, &mine) {
@@ -182,12 +166,12 @@ fn find_node(reply: &mut [u8], me: Peer, who: Peer, key: &[u8], table: &[u8]) ->
     if octets::same_bytes(&target, &theirs) {
         return reply_last(reply, table, &at, n, who);
     }
-    reply_closer(reply, FIND_NODE, table, &at, n)
+    reply_closer(reply, message::FIND_NODE, table, &at, n)
 }
 
 // GET_VALUE's reply: the nearest of the contacts that aren't doubtful, and the record if it is held.
 fn get_value(reply: &mut [u8], key: &[u8], table: &[u8], records: &[u8]) -> usize
-    requires { ⌜ length (now key) ≤ 128 ⌝ }
+    requires { ⌜ length (now key) ≤ mostKey ⌝ }
     ensures { λ r. ⌜ Framed (getValueReply (now (table .entry)) (now (records .entry)) (now (key .entry))) (now (reply .entry)) (now (reply .exit)) r ⌝ }
 {
     let target = place::place_of(key);
@@ -196,8 +180,8 @@ fn get_value(reply: &mut [u8], key: &[u8], table: &[u8], records: &[u8]) -> usiz
     let n = near.n;
     match records::look(records, key) {
         Found::Held { start, end } => reply_held(reply, key, &records[start..end], table, &at, n),
-        Found::NotHeld => reply_closer(reply, GET_VALUE, table, &at, n),
-        Found::Refused(_) => reply_closer(reply, GET_VALUE, table, &at, n),
+        Found::NotHeld => reply_closer(reply, message::GET_VALUE, table, &at, n),
+        Found::Refused(_) => reply_closer(reply, message::GET_VALUE, table, &at, n),
     }
 }
 
@@ -205,7 +189,7 @@ fn get_value(reply: &mut [u8], key: &[u8], table: &[u8], records: &[u8]) -> usiz
 pub fn answer_find(reply: &mut [u8], me: Peer, who: Peer, key: &[u8], table: &[u8]) -> Answered
     ensures { λ r. ⌜ Told (keyed (now (key .entry)) (findNodeReply me who (now (table .entry)) (now (key .entry)))) (now (reply .entry)) (now (reply .exit)) r ⌝ }
 {
-    if key_fits(key) {
+    if message::key_fits(key) {
         return Answered::Reply(find_node(reply, me, who, key, table));
     }
     Answered::Refused(Refusal::BreaksRules)
@@ -215,13 +199,13 @@ pub fn answer_find(reply: &mut [u8], me: Peer, who: Peer, key: &[u8], table: &[u
 pub fn answer_get(reply: &mut [u8], key: &[u8], table: &[u8], records: &[u8]) -> Answered
     ensures { λ r. ⌜ Told (keyed (now (key .entry)) (getValueReply (now (table .entry)) (now (records .entry)) (now (key .entry)))) (now (reply .entry)) (now (reply .exit)) r ⌝ }
 {
-    if key_fits(key) {
+    if message::key_fits(key) {
         return Answered::Reply(get_value(reply, key, table, records));
     }
     Answered::Refused(Refusal::BreaksRules)
 }
 
-// Answers PUT_VALUE with a record: stores it, unless the store refuses it.
+// Answers PUT_VALUE with a record: stores it, unless the store refuses it. Whatever contacts t are lent beside.
 pub fn answer_put(
     reply: &mut [u8],
     records: &mut [u8],
@@ -229,7 +213,7 @@ pub fn answer_put(
     record_key: &[u8],
     value: &[u8],
 ) -> Answered
-    ensures { λ r. ⌜ Gives (byVerdict (putVerdict (now (key .entry)) (some (recordWith (now (record_key .entry)) (now (value .entry)))) (now (records .entry))) (now (records .entry)) (putAfter (now (key .entry)) (some (recordWith (now (record_key .entry)) (now (value .entry)))) (now (records .entry))) (now (reply .entry))) r (now (records .exit)) (now (reply .exit)) ⌝ }
+    ensures { λ r. ⌜ ((t : List ℕ) → Gives (putDealt (now (key .entry)) (some (recordWith (now (record_key .entry)) (now (value .entry)))) (lent t (now (records .entry)) (now (reply .entry)))) r (now (records .exit)) (now (reply .exit))) ⌝ }
 {
     if !octets::same_bytes(record_key, key) {
         return Answered::Refused(Refusal::BreaksRules);

@@ -11,10 +11,10 @@ use borrow.Author.Tests.{le-leb, leb-true}
 use Rattle.octets.specs.Search.{every, allOf, lastOf}
 use Rattle.octets.proofs.Bools.{all-head, all-rest}
 use Rattle.octets.proofs.Searching.{every-head, every-tail}
+use Rattle.limits.specs.Limits.{mostBody, mostKind, mostConnection}
 use Rattle.wire.specs.Items.{Item, num, items, values, parts, single, repeated}
 use Rattle.wire_put.specs.Claims.{AllGood}
 use Rattle.wire_put.proofs.RoundTrip.{read-back, good-append, good-well, values-append, parts-append, Short, parts-short, single-good, repeated-good, values-single, values-repeated, single-other, single-same, repeated-other, repeated-same}
-use Rattle.message.specs.Limits.{mostBody, mostKind, mostConnection}
 use Rattle.message.specs.Message.{Peer, Record, Message, recordOf, connectionOf, peerOf, merged, messageOf, wellFormed, wellMessage, decode, peerItems, encodePeer, recordItems, encodeRecord, heldItems, messageItems, encode}
 use Rattle.pieces.specs.Writable.{peerFits, writable}
 use Rattle.round_trip.specs.Claims.{RoundTrip}

@@ -10,15 +10,17 @@ use borrow.Author.Tests.{le-leb, lt-leb, lt-ltb, le-ltb, ltb-true, ltb-false, eq
 use Rattle.octets.proofs.Bools.{and-l, and-r, and-on, and-off, either, cond-yes, cond-no}
 use Rattle.place.specs.Place.{bucketOf}
 use Rattle.contacts.specs.Table.{slotsOf, slot, putSlot, mark}
+use Rattle.refusal.specs.declared.Refusal.the-variants.{NoContactSlot, NoLongerFits}
 use Rattle.peer.specs.declared.Peer.{Peer}
+use Rattle.peer.specs.Peers.{tidied}
 use Rattle.sightings.specs.declared.Sighting.{Sighting}
-use Rattle.sightings.specs.declared.Sighting.the-variants.{Moved, Joined, Full, NoSlot}
+use Rattle.sightings.specs.declared.Sighting.the-variants as seen
 use Rattle.sightings.specs.declared.Settled.{Settled}
-use Rattle.sightings.specs.declared.Settled.the-variants.{Kept, Swapped, Stale}
+use Rattle.sightings.specs.declared.Settled.the-variants as settle
 use Rattle.sightings.specs.declared.Removed.{Removed}
-use Rattle.sightings.specs.declared.Removed.the-variants.{Gone, NotHeld}
+use Rattle.sightings.specs.declared.Removed.the-variants as remove
 use Rattle.sightings.specs.declared.Doubted.{Doubted}
-use Rattle.sightings.specs.declared.Doubted.the-variants as doubted
+use Rattle.sightings.specs.declared.Doubted.the-variants as doubt
 use Rattle.contact_order.specs.Order.{heldAt, freeAt, headAt, tailOf, held}
 use Rattle.sightings.specs.Order.{contactBytes, moveToTail, moveAndRenew, dropped, join, doubtAt}
 use Rattle.sightings.specs.Sightings.{newcomer, sightingOf, afterSighting, seenTable, fits, settlementOf, afterSettling, settledTable, removalOf, afterRemoval, removedTable, markingOf, afterMarking, markedTable}
@@ -47,55 +49,60 @@ module _ (t o : List ℕ) (p : Peer) (b k : ℕ) (e : b ≡ bucketOf (p .place) 
 
   -- an answer, and what it does
   abbrev pub New : Sighting → List ℕ → Type 0
-  New r u = (r ≡ newcomer t o (p .place)) × (u ≡ afterSighting t o p r)
+  New r u = (r ≡ newcomer t o p) × (u ≡ afterSighting t o p r)
 
-  pub new-full : (h : ℕ) → 20 ≤ k → h ≡ headAt t o b → New (Full h) t
+  pub new-full : (h : ℕ) → 20 ≤ k → h ≡ headAt t o b → New (seen.Probe h) t
   unfolding newcomer afterSighting
   new-full h l f = (
     sym (cond-yes (leb 20 (tailOf t o (bucketOf (p .place) o))) _ _ (le-leb 20 (tailOf t o (bucketOf (p .place) o)) (omega (arith, tail-is)))
-        ∙ ap (λ (x : ℕ). Full x) (sym (f ∙ ap (headAt t o) e))),
+        ∙ ap (λ (x : ℕ). seen.Probe x) (sym (f ∙ ap (headAt t o) e))),
     refl,
   )
 
-  room : k < 20 → newcomer t o (p .place) ≡ cond (ltb (freeAt t) (slotsOf t)) (Joined (freeAt t)) NoSlot
+  room : k < 20 → newcomer t o p ≡ cond (ltb (freeAt t) (slotsOf t)) (seen.Joined (freeAt t)) (seen.Refused NoContactSlot)
   unfolding newcomer
   room l = cond-no (leb 20 (tailOf t o (bucketOf (p .place) o))) _ _ (lt-leb 20 (tailOf t o (bucketOf (p .place) o)) (omega (arith, tail-is)))
 
   module _ (n i : ℕ) (l : k < 20) (q : n ≡ slotsOf t) (f : i ≡ freeAt t) where
-    pub new-none : n ≤ i → New NoSlot t
+    pub new-none : n ≤ i → New (seen.Refused NoContactSlot) t
     unfolding afterSighting
     new-none h = (sym (room l ∙ cond-no (ltb (freeAt t) (slotsOf t)) _ _ (le-ltb (freeAt t) (slotsOf t) (omega arith))), refl)
 
     pub new-in : i < n → i < slotsOf t
     new-in h = omega arith
 
-    pub new-joined : (u : List ℕ) → i < n → u ≡ putSlot t i (contactBytes (k + 1) p) → New (Joined i) u
+    pub new-joined : (u : List ℕ) → i < n → u ≡ putSlot t i (contactBytes (k + 1) p) → New (seen.Joined i) u
     unfolding afterSighting
     new-joined u h w = (
-      sym (room l ∙ cond-yes (ltb (freeAt t) (slotsOf t)) _ _ (lt-ltb (freeAt t) (slotsOf t) (omega arith)) ∙ ap (λ (x : ℕ). Joined x) (sym f)),
+      sym (room l ∙ cond-yes (ltb (freeAt t) (slotsOf t)) _ _ (lt-ltb (freeAt t) (slotsOf t) (omega arith)) ∙ ap (λ (x : ℕ). seen.Joined x) (sym f)),
       join-at-done t o p b k i u e g w,
     )
 
 -- ---- any peer is seen
 module _ (t o : List ℕ) (p : Peer) (n i : ℕ) (q : n ≡ slotsOf t) (e : i ≡ heldAt t (p .place)) where
   abbrev pub Seen : Sighting → List ℕ → Type 0
-  Seen r u = (r ≡ sightingOf t o (p .place)) × (u ≡ seenTable t o p)
+  Seen r u = (r ≡ sightingOf t o p) × (u ≡ seenTable t o p)
 
-  done : (r : Sighting) (u : List ℕ) → r ≡ sightingOf t o (p .place) → u ≡ afterSighting t o p r → Seen r u
+  done : (r : Sighting) (u : List ℕ) → r ≡ sightingOf t o p → u ≡ afterSighting t o p r → Seen r u
   unfolding seenTable
   done r u f g = (f, g ∙ ap (afterSighting t o p) f)
 
   pub seen-in : i < n → i < slotsOf t
   seen-in l = omega arith
 
-  pub seen-held : (u : List ℕ) → i < n → u ≡ moveAndRenew t o i p → Seen (Moved i) u
+  pub seen-held : (u : List ℕ) → i < n → u ≡ moveAndRenew t o i p → Seen (seen.Moved i) u
   unfolding sightingOf afterSighting
   seen-held u l h =
-      done (Moved i) u (sym (cond-yes (held t (p .place)) _ _ (held-yes t (p .place) n i q e l) ∙ ap (λ (x : ℕ). Moved x) (sym e))) h
+      done (seen.Moved i) u (sym (cond-yes (held t (p .place)) _ _ (held-yes t (p .place) n i q e l) ∙ ap (λ (x : ℕ). seen.Moved x) (sym e))) h
 
-  pub seen-fresh : (r : Sighting) (u : List ℕ) → n ≤ i → (r ≡ newcomer t o (p .place)) × (u ≡ afterSighting t o p r) → Seen r u
+  pub seen-fresh : (r : Sighting) (u : List ℕ) → n ≤ i → (r ≡ newcomer t o p) × (u ≡ afterSighting t o p r) → Seen r u
   unfolding sightingOf
   seen-fresh r u l h = done r u (h .0 ∙ sym (cond-no (held t (p .place)) _ _ (held-no t (p .place) n i q e l))) (h .1)
+
+-- as the code does it: q is p tidied
+pub seen-tidied : (t o : List ℕ) (p q : Peer) (r : Sighting) (u : List ℕ) → q ≡ tidied p → (r ≡ sightingOf t o q) × (u ≡ seenTable t o q)
+    → (r ≡ sightingOf t o (tidied p)) × (u ≡ seenTable t o (tidied p))
+seen-tidied t o p q r u w e = (e .0 ∙ ap (sightingOf t o) w, e .1 ∙ ap (seenTable t o) w)
 
 -- ---- settling fits, test by test
 module _ (t o head p : List ℕ) (n h : ℕ) (q : n ≡ slotsOf t) (e : h ≡ heldAt t head) where
@@ -179,24 +186,24 @@ module _ (t o head p : List ℕ) (y : fits t o head p ≡ true) where
 -- ---- settle
 module _ (t o head : List ℕ) (p : Peer) (answered : Bool) where
   abbrev pub Settles : Settled → List ℕ → Type 0
-  Settles r u = (r ≡ settlementOf t o head (p .place) answered) × (u ≡ settledTable t o head p answered)
+  Settles r u = (r ≡ settlementOf t o head p answered) × (u ≡ settledTable t o head p answered)
 
-  settled : (r : Settled) (u : List ℕ) → r ≡ settlementOf t o head (p .place) answered → u ≡ afterSettling t o head p r → Settles r u
+  settled : (r : Settled) (u : List ℕ) → r ≡ settlementOf t o head p answered → u ≡ afterSettling t o head p r → Settles r u
   unfolding settledTable
   settled r u f g = (f, g ∙ ap (afterSettling t o head p) f)
 
-  pub settle-stale : fits t o head (p .place) ≡ false → Settles Stale t
+  pub settle-stale : fits t o head (p .place) ≡ false → Settles (settle.Refused NoLongerFits) t
   unfolding settlementOf afterSettling
-  settle-stale e = settled Stale t (sym (cond-no (fits t o head (p .place)) _ _ e)) refl
+  settle-stale e = settled (settle.Refused NoLongerFits) t (sym (cond-no (fits t o head (p .place)) _ _ e)) refl
 
   module _ (y : fits t o head (p .place) ≡ true) (i : ℕ) (e : i ≡ heldAt t head) where
     pub settle-in : i < slotsOf t
     settle-in = omega (arith, fits-held t o head (p .place) y)
 
-    pub settle-kept : (u : List ℕ) → answered ≡ true → u ≡ moveToTail t o i → Settles Kept u
+    pub settle-kept : (u : List ℕ) → answered ≡ true → u ≡ moveToTail t o i → Settles settle.Kept u
     unfolding settlementOf afterSettling
     settle-kept u a g =
-        settled Kept u (sym (cond-yes (fits t o head (p .place)) _ _ y ∙ cond-yes answered _ _ a)) (g ∙ ap (moveToTail t o) e)
+        settled settle.Kept u (sym (cond-yes (fits t o head (p .place)) _ _ y ∙ cond-yes answered _ _ a)) (g ∙ ap (moveToTail t o) e)
 
     module _ (u : List ℕ) (g : u ≡ dropped t o i) where
       pub settle-free : freeAt u < slotsOf u
@@ -207,10 +214,10 @@ module _ (t o head : List ℕ) (p : Peer) (answered : Bool) where
           subst (λ (x : List ℕ). tailOf x o (bucketOf (p .place) o) < 255) (sym g)
           (omega (arith, drop-tail t o i settle-in (bucketOf (p .place) o), fits-full t o head (p .place) y))
 
-      pub settle-swapped : (v : List ℕ) → answered ≡ false → v ≡ join u o p → Settles Swapped v
+      pub settle-swapped : (v : List ℕ) → answered ≡ false → v ≡ join u o p → Settles settle.Swapped v
       unfolding settlementOf afterSettling
       settle-swapped v a w =
-          settled Swapped v (sym (cond-yes (fits t o head (p .place)) _ _ y ∙ cond-no answered _ _ a)) (w ∙ ap (λ (x : List ℕ). join x o p) (g ∙ ap (dropped t o) e))
+          settled settle.Swapped v (sym (cond-yes (fits t o head (p .place)) _ _ y ∙ cond-no answered _ _ a)) (w ∙ ap (λ (x : List ℕ). join x o p) (g ∙ ap (dropped t o) e))
 
 -- ---- doubt
 module _ (t p : List ℕ) (n i : ℕ) (q : n ≡ slotsOf t) (e : i ≡ heldAt t p) where
@@ -224,13 +231,13 @@ module _ (t p : List ℕ) (n i : ℕ) (q : n ≡ slotsOf t) (e : i ≡ heldAt t 
   pub doubt-in : i < n → i < slotsOf t
   doubt-in l = omega arith
 
-  pub doubt-held : (u : List ℕ) → i < n → u ≡ doubtAt t i → Doubts doubted.Marked u
+  pub doubt-held : (u : List ℕ) → i < n → u ≡ doubtAt t i → Doubts doubt.Marked u
   unfolding markingOf afterMarking
-  doubt-held u l g = doubts doubted.Marked u (sym (cond-yes (held t p) _ _ (held-yes t p n i q e l))) (g ∙ ap (doubtAt t) e)
+  doubt-held u l g = doubts doubt.Marked u (sym (cond-yes (held t p) _ _ (held-yes t p n i q e l))) (g ∙ ap (doubtAt t) e)
 
-  pub doubt-none : n ≤ i → Doubts doubted.NotHeld t
+  pub doubt-none : n ≤ i → Doubts (doubt.Refused NoLongerFits) t
   unfolding markingOf afterMarking
-  doubt-none l = doubts doubted.NotHeld t (sym (cond-no (held t p) _ _ (held-no t p n i q e l))) refl
+  doubt-none l = doubts (doubt.Refused NoLongerFits) t (sym (cond-no (held t p) _ _ (held-no t p n i q e l))) refl
 
 -- ---- remove
 module _ (t o p : List ℕ) (n i : ℕ) (q : n ≡ slotsOf t) (e : i ≡ heldAt t p) where
@@ -244,10 +251,10 @@ module _ (t o p : List ℕ) (n i : ℕ) (q : n ≡ slotsOf t) (e : i ≡ heldAt 
   pub remove-in : i < n → i < slotsOf t
   remove-in l = omega arith
 
-  pub remove-held : (u : List ℕ) → i < n → u ≡ dropped t o i → Removes Gone u
+  pub remove-held : (u : List ℕ) → i < n → u ≡ dropped t o i → Removes remove.Gone u
   unfolding removalOf afterRemoval
-  remove-held u l g = removes Gone u (sym (cond-yes (held t p) _ _ (held-yes t p n i q e l))) (g ∙ ap (dropped t o) e)
+  remove-held u l g = removes remove.Gone u (sym (cond-yes (held t p) _ _ (held-yes t p n i q e l))) (g ∙ ap (dropped t o) e)
 
-  pub remove-none : n ≤ i → Removes NotHeld t
+  pub remove-none : n ≤ i → Removes (remove.Refused NoLongerFits) t
   unfolding removalOf afterRemoval
-  remove-none l = removes NotHeld t (sym (cond-no (held t p) _ _ (held-no t p n i q e l))) refl
+  remove-none l = removes (remove.Refused NoLongerFits) t (sym (cond-no (held t p) _ _ (held-no t p n i q e l))) refl

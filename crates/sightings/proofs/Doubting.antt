@@ -6,7 +6,7 @@ use mathlib.Core.List.{List}
 use native.Mathlib.Omega.{arith}
 use lib.ListN.{length, getD, take, length-set}
 use lib.Seq.{drop-set-lt, getD-set-same, getD-set-other}
-use Rattle.contacts.specs.Table.{mark, doubt, place}
+use Rattle.contacts.specs.Table.{slotSize, mark, doubt, place}
 use Rattle.contact_order.specs.Order.{withMark, withDoubt, lowered}
 use Rattle.contact_order.proofs.Closing.{lowered-is}
 
@@ -31,7 +31,7 @@ module _ (d : ℕ) (s : List ℕ) where
       no : _≡_ {A = ℕ} 0 1 → ⊥
       no e = omega arith
 
-  pub doubt-doubt : length s ≡ 616 → doubt (withDoubt d s) ≡ d
+  pub doubt-doubt : length s ≡ slotSize → doubt (withDoubt d s) ≡ d
   unfolding doubt withDoubt
   doubt-doubt h = getD-set-same s 1 d 0 (omega arith)
 

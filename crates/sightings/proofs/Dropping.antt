@@ -10,7 +10,7 @@ use lib.Seq.{drop-set-lt, getD-set-same}
 use Rattle.octets.proofs.Bools.{not-both}
 use Rattle.place.specs.Place.{bucketOf}
 use Rattle.contact_table.proofs.Cuts.{mark-used, used-mark}
-use Rattle.contacts.specs.Table.{slotsOf, slot, mark, used, place}
+use Rattle.contacts.specs.Table.{slotSize, slotsOf, slot, mark, used, place}
 use Rattle.contact_order.specs.Order.{ofBucket, freeAt, tailOf, withMark, lowered, leave}
 use Rattle.sightings.specs.Order.{freeBytes, dropped}
 use Rattle.contact_order.proofs.Slots.{slots-put, slot-put, slot-other, slot-long}
@@ -23,7 +23,7 @@ pub place-mark : (m : ℕ) (s : List ℕ) → place (withMark m s) ≡ place s
 unfolding place withMark
 place-mark m s = ap (take 32) (drop-set-lt 8 s 0 m (omega arith))
 
-pub mark-mark : (m : ℕ) (s : List ℕ) → length s ≡ 616 → mark (withMark m s) ≡ m
+pub mark-mark : (m : ℕ) (s : List ℕ) → length s ≡ slotSize → mark (withMark m s) ≡ m
 unfolding mark withMark
 mark-mark m s h = getD-set-same s 0 m 0 (omega arith)
 
@@ -32,7 +32,7 @@ unfolding used mark freeBytes
 none-free = refl
 
 -- one of bucket b after others have moved was so before, and has not moved back
-module _ (o : List ℕ) (b c m : ℕ) (s : List ℕ) (h : length s ≡ 616) where
+module _ (o : List ℕ) (b c m : ℕ) (s : List ℕ) (h : length s ≡ slotSize) where
   was : ofBucket o b (withMark (mark s - 1) s) ≡ true → (ofBucket o b s ≡ true) × (mark (withMark (mark s - 1) s) ≤ mark s)
   was f =
       let e : mark (withMark (mark s - 1) s) ≡ mark s - 1 = mark-mark (mark s - 1) s h in

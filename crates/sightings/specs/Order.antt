@@ -1,26 +1,24 @@
--- What moves in the contact table: document 01, 'Distance and contacts'. Who stands where, and the order closing up, are passed on.
+-- What moves in the contact table: document 01, 'Distance and contacts'. Who stands where, the order closing up, and a contact as its slot's bytes are passed on.
 use Prim.Native.Nat.{ℕ, _+_}
 use mathlib.Core.Bool.{cond}
-use mathlib.Core.List.{List, [], _∷_, _++_}
+use mathlib.Core.List.{List, _∷_}
 use lib.ListN.{replicate}
 use lib.Seq.{sets}
 use lib.Dec.{eqb}
 use Rattle.place.specs.Place.{bucketOf}
+use Rattle.contact_table.specs.Table.{countAt, addressesAt}
 use Rattle.contacts.specs.Table.{slotSize, slot, putSlot, place}
 use Rattle.peer.specs.declared.Peer.{Peer}
+unfoldable pub use Rattle.peer.specs.Peers.{contactBytes}
 unfoldable pub use Rattle.contact_order.specs.Order.{ofBucket, isAt, isHead, markIn, heldAt, freeAt, headAt, tailOf, withMark, withDoubt, lowered, each, closeUp, leave}
 
 -- ---- a slot's bytes
--- a contact as its whole slot; it joins unmarked
-unfoldable pub contactBytes : ℕ → Peer → List ℕ
-contactBytes m p = (m ∷ 0 ∷ p .size ∷ p .count ∷ []) ++ (p .lens ++ (p .place ++ (p .id ++ p .addrs)))
-
 unfoldable pub freeBytes : List ℕ
 freeBytes = replicate slotSize 0
 
 -- "takes the new addresses if any is usable"
 unfoldable pub withAddresses : Peer → List ℕ → List ℕ
-withAddresses p s = sets (sets s 3 (p .count ∷ p .lens)) 104 (p .addrs)
+withAddresses p s = sets (sets s countAt (p .count ∷ p .lens)) addressesAt (p .addrs)
 
 unfoldable pub renewed : Peer → List ℕ → List ℕ
 renewed p s = cond (eqb (p .count) 0) s (withAddresses p s)

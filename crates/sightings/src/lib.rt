@@ -2,46 +2,55 @@
 ghost use mathlib.Core.Path.{_≡_};
 ghost use Prim.Native.Nat.{_+_, _*_, _<_};
 ghost use Rattle.place.specs.Place.{bucketOf};
+ghost use Rattle.peer.specs.Peers.{tidied};
 ghost use Rattle.contacts.specs.Table.{slotsOf, slot, putSlot, place};
 ghost use Rattle.contact_order.specs.Order.{freeAt, tailOf};
 ghost use Rattle.sightings.specs.Order.{contactBytes, freeBytes, withAddresses, moveToTail, moveAndRenew, dropped, join};
 ghost use Rattle.sightings.specs.Sightings.{sightingOf, newcomer, seenTable, afterSighting, fits, settlementOf, settledTable, removalOf, removedTable, markingOf, markedTable};
-use contacts::SLOT;
+use contact_table::ADDRESSES_AT;
+use contact_table::COUNT_AT;
+use contact_table::DOUBT_AT;
+use contact_table::ID_AT;
+use contact_table::PLACE_AT;
+use contact_table::SIZES_AT;
+use contact_table::SLOT;
 use peer::Peer;
+use refusal::Refusal;
 
 // The most contacts of a bucket.
-pub const BUCKET: u8 = 20;
+pub const BUCKET: u8 = limits::BUCKET as u8;
 
-// What came of a sighting.
+// The answers of the calls, here and in contact_calls, which alone gives refusals 0, 12 and 18: it tests the form, judges ids and is told of clients.
 pub enum Sighting {
-    // the contact in this slot moved to its bucket's tail
+    // the peer was held in this slot, and moved to its bucket's tail
     Moved(usize),
-    // the peer joined the tail, in this slot
+    // the peer joined its bucket's tail, in this slot
     Joined(usize),
-    // the bucket is full; its head, in this slot, is to be probed
-    Full(usize),
-    // the bucket has room, but every slot is used
-    NoSlot,
+    // refusal 13: the bucket is full; its head, in this slot, is to be probed
+    Probe(usize),
+    // refusals 0, 12, 14 and 18
+    Refused(Refusal),
 }
 
-// What came of settling.
 pub enum Settled {
-    // the head answered and stays
+    // the head answered, and moved to the tail
     Kept,
-    // the head was silent, and the newcomer has come in
+    // the head was silent, and the newcomer has come in for it
     Swapped,
-    // it no longer fits the table
-    Stale,
+    // refusals 0, 12, 15 and 18
+    Refused(Refusal),
 }
 
 pub enum Removed {
     Gone,
-    NotHeld,
+    // refusals 0, 12 and 15
+    Refused(Refusal),
 }
 
 pub enum Doubted {
     Marked,
-    NotHeld,
+    // refusals 0, 12 and 15
+    Refused(Refusal),
 }
 
 // A contact is written as its whole slot.
@@ -56,10 +65,10 @@ fn write_slot(table: &mut [u8], i: usize, m: u8, p: Peer)
     let addrs = p.addrs;
     let at = i * SLOT;
     octets::copy(table, at, &head);
-    octets::copy(table, at + 4, &lens);
-    octets::copy(table, at + 8, &place);
-    octets::copy(table, at + 40, &id);
-    octets::copy(table, at + 104, &addrs);
+    octets::copy(table, at + SIZES_AT, &lens);
+    octets::copy(table, at + PLACE_AT, &place);
+    octets::copy(table, at + ID_AT, &id);
+    octets::copy(table, at + ADDRESSES_AT, &addrs);
 }
 
 // A freed slot is cleared to zeros.
@@ -67,7 +76,7 @@ fn clear_slot(table: &mut [u8], i: usize)
     requires { ⌜ i < slotsOf (now table) ⌝ }
     ensures { λ _. ⌜ now (table .exit) ≡ putSlot (now (table .entry)) i freeBytes ⌝ }
 {
-    let none = [0u8; 616];
+    let none = [0u8; SLOT];
     octets::copy(table, i * SLOT, &none);
 }
 
@@ -79,9 +88,9 @@ fn put_addresses(table: &mut [u8], i: usize, p: Peer)
     let lens = p.lens;
     let addrs = p.addrs;
     let at = i * SLOT;
-    table[at + 3] = p.count;
-    octets::copy(table, at + 4, &lens);
-    octets::copy(table, at + 104, &addrs);
+    table[at + COUNT_AT] = p.count;
+    octets::copy(table, at + SIZES_AT, &lens);
+    octets::copy(table, at + ADDRESSES_AT, &addrs);
 }
 
 // The contact in slot i goes to its bucket's tail, and is doubtful no more.
@@ -94,7 +103,7 @@ fn move_to_tail(table: &mut [u8], ours: &[u8], i: usize)
     contact_order::leave_order(table, ours, i);
     let at = i * SLOT;
     table[at] = tail;
-    table[at + 1] = 0;
+    table[at + DOUBT_AT] = 0;
 }
 
 // The same, and it takes the new addresses if there are any.
@@ -120,33 +129,34 @@ fn drop_slot(table: &mut [u8], ours: &[u8], i: usize)
 
 // A peer that isn't held is seen.
 fn seen_new(table: &mut [u8], ours: &[u8], p: Peer) -> Sighting
-    ensures { λ r. ⌜ (r ≡ newcomer (now (table .entry)) (now (ours .entry)) (p .place)) × (now (table .exit) ≡ afterSighting (now (table .entry)) (now (ours .entry)) p r) ⌝ }
+    ensures { λ r. ⌜ (r ≡ newcomer (now (table .entry)) (now (ours .entry)) p) × (now (table .exit) ≡ afterSighting (now (table .entry)) (now (ours .entry)) p r) ⌝ }
 {
     let place = p.place;
     let b = place::bucket(&place, ours);
     let tail = contact_order::tail_of(table, ours, b);
     if BUCKET <= tail {
-        return Sighting::Full(contact_order::head_at(table, ours, b));
+        return Sighting::Probe(contact_order::head_at(table, ours, b));
     }
     let i = contact_order::free_at(table);
     if contacts::slots(table) <= i {
-        return Sighting::NoSlot;
+        return Sighting::Refused(Refusal::NoContactSlot);
     }
     write_slot(table, i, tail + 1, p);
     Sighting::Joined(i)
 }
 
-// A peer is seen.
+// A peer is seen, with its usable addresses.
 pub fn seen(table: &mut [u8], ours: &[u8], p: Peer) -> Sighting
-    ensures { λ r. ⌜ (r ≡ sightingOf (now (table .entry)) (now (ours .entry)) (p .place)) × (now (table .exit) ≡ seenTable (now (table .entry)) (now (ours .entry)) p) ⌝ }
+    ensures { λ r. ⌜ (r ≡ sightingOf (now (table .entry)) (now (ours .entry)) (tidied p)) × (now (table .exit) ≡ seenTable (now (table .entry)) (now (ours .entry)) (tidied p)) ⌝ }
 {
-    let place = p.place;
+    let q = peer::tidied(p);
+    let place = q.place;
     let i = contact_order::held_at(table, &place);
     if i < contacts::slots(table) {
-        move_and_renew(table, ours, i, p);
+        move_and_renew(table, ours, i, q);
         return Sighting::Moved(i);
     }
-    seen_new(table, ours, p)
+    seen_new(table, ours, q)
 }
 
 // The bucket is full, the contact at the place head is still its head, and the newcomer is of that bucket and not held.
@@ -185,11 +195,11 @@ fn join_tail(table: &mut [u8], ours: &[u8], p: Peer)
 
 // The head of a full bucket has been probed: it stays if it answered, else the newcomer comes in for it.
 pub fn settle(table: &mut [u8], ours: &[u8], head: &[u8], p: Peer, answered: bool) -> Settled
-    ensures { λ r. ⌜ (r ≡ settlementOf (now (table .entry)) (now (ours .entry)) (now (head .entry)) (p .place) answered) × (now (table .exit) ≡ settledTable (now (table .entry)) (now (ours .entry)) (now (head .entry)) p answered) ⌝ }
+    ensures { λ r. ⌜ (r ≡ settlementOf (now (table .entry)) (now (ours .entry)) (now (head .entry)) p answered) × (now (table .exit) ≡ settledTable (now (table .entry)) (now (ours .entry)) (now (head .entry)) p answered) ⌝ }
 {
     let place = p.place;
     if !still_fits(table, ours, head, &place) {
-        return Settled::Stale;
+        return Settled::Refused(Refusal::NoLongerFits);
     }
     let i = contact_order::held_at(table, head);
     if answered {
@@ -207,7 +217,7 @@ pub fn remove(table: &mut [u8], ours: &[u8], p: &[u8]) -> Removed
 {
     let i = contact_order::held_at(table, p);
     if contacts::slots(table) <= i {
-        return Removed::NotHeld;
+        return Removed::Refused(Refusal::NoLongerFits);
     }
     drop_slot(table, ours, i);
     Removed::Gone
@@ -219,8 +229,8 @@ pub fn doubt(table: &mut [u8], p: &[u8]) -> Doubted
 {
     let i = contact_order::held_at(table, p);
     if contacts::slots(table) <= i {
-        return Doubted::NotHeld;
+        return Doubted::Refused(Refusal::NoLongerFits);
     }
-    table[i * SLOT + 1] = 1;
+    table[i * SLOT + DOUBT_AT] = 1;
     Doubted::Marked
 }

@@ -10,12 +10,13 @@ use Rattle.octets.proofs.Bools.{not-both, cond-yes, cond-no, cond-ind}
 use Rattle.place.specs.Place.{bucketOf}
 use Rattle.contacts.specs.Table.{slotsOf, slot, used}
 use Rattle.contacts.specs.Form.{inForm}
+use Rattle.refusal.specs.declared.Refusal.the-variants.{NoContactSlot, NoLongerFits}
 use Rattle.peer.specs.declared.Peer.{Peer}
 use Rattle.peer.specs.Peers.{idIn, addressesIn}
 use Rattle.sightings.specs.declared.Sighting.{Sighting}
-use Rattle.sightings.specs.declared.Sighting.the-variants.{Moved, Joined, Full, NoSlot}
-use Rattle.sightings.specs.declared.Settled.the-variants.{Stale}
-use Rattle.sightings.specs.declared.Removed.the-variants.{NotHeld}
+use Rattle.sightings.specs.declared.Sighting.the-variants as seen
+use Rattle.sightings.specs.declared.Settled.the-variants as settle
+use Rattle.sightings.specs.declared.Removed.the-variants as remove
 use Rattle.sightings.specs.Order.{isHead, freeAt, headAt, tailOf}
 use Rattle.sightings.specs.Sightings.{held, newcomer, sightingOf, seenTable, fits, settlementOf, removalOf, removedTable}
 use Rattle.contact_order.proofs.Tests.{free-there}
@@ -28,41 +29,41 @@ use Rattle.sightings_kept.proofs.Doubts.{doubt-marks-one, doubt-not-hel
 
 -- ---- where a slot is free, nobody is refused for want of one
 forWant : Sighting → Bool
-forWant (Moved i) = false
-forWant (Joined i) = false
-forWant (Full h) = false
-forWant NoSlot = true
+forWant (seen.Moved i) = false
+forWant (seen.Joined i) = false
+forWant (seen.Probe h) = false
+forWant (seen.Refused r) = true
 
-pub never-for-want : (t o q : List ℕ) → freeAt t < slotsOf t → sightingOf t o q ≡ NoSlot → ⊥
+pub never-for-want : (t o : List ℕ) (q : Peer) → freeAt t < slotsOf t → sightingOf t o q ≡ seen.Refused NoContactSlot → ⊥
 unfolding sightingOf newcomer forWant
 never-for-want t o q l e = not-both (forWant (sightingOf t o q)) (ap forWant e) wanted
   where
     wanted : forWant (sightingOf t o q) ≡ false
     wanted =
-        cond-ind (λ (r : Sighting). forWant r ≡ false) (held t q) _ _ (λ _. refl)
-        (λ _. cond-ind (λ (r : Sighting). forWant r ≡ false) (leb 20 (tailOf t o (bucketOf q o))) _ _ (λ _. refl)
-        (λ _. ap forWant (cond-yes (ltb (freeAt t) (slotsOf t)) (Joined (freeAt t)) NoSlot (lt-ltb (freeAt t) (slotsOf t) l))))
+        cond-ind (λ (r : Sighting). forWant r ≡ false) (held t (q .place)) _ _ (λ _. refl)
+        (λ _. cond-ind (λ (r : Sighting). forWant r ≡ false) (leb 20 (tailOf t o (bucketOf (q .place) o))) _ _ (λ _. refl)
+        (λ _. ap forWant (cond-yes (ltb (freeAt t) (slotsOf t)) (seen.Joined (freeAt t)) (seen.Refused NoContactSlot) (lt-ltb (freeAt t) (slotsOf t) l))))
 
 module _ (t o : List ℕ) (y : inForm t o ≡ true) (p : Peer) (new : held t (p .place) ≡ false) where
   full-named : 20 ≤ holds t o (bucketOf (p .place) o)
-      → (h : ℕ) × (sightingOf t o (p .place) ≡ Full h) × (h < slotsOf t) × (isHead o (bucketOf (p .place) o) (slot t h) ≡ true) × (seenTable t o p ≡ t)
+      → (h : ℕ) × (sightingOf t o p ≡ seen.Probe h) × (h < slotsOf t) × (isHead o (bucketOf (p .place) o) (slot t h) ≡ true) × (seenTable t o p ≡ t)
   full-named l =
-      let e = full-refused t o (p .place) y new l in
+      let e = full-refused t o p y new l in
       let h = head-there t o y (bucketOf (p .place) o) (omega arith) in
       (headAt t o (bucketOf (p .place) o), e, h .0, h .1, full-changes-nothing t o p _ e)
 
   module _ (room : holds t o (bucketOf (p .place) o) < 20) where
-    joins-in : Fair o p → (j : ℕ) → j < slotsOf t → used (slot t j) ≡ false → (sightingOf t o (p .place) ≡ Joined (freeAt t)) × NewSeen t o (p .place) (idIn p) (addressesIn p) (freeAt t) (seenTable t o p)
+    joins-in : Fair o p → (j : ℕ) → j < slotsOf t → used (slot t j) ≡ false → (sightingOf t o p ≡ seen.Joined (freeAt t)) × NewSeen t o (p .place) (idIn p) (addressesIn p) (freeAt t) (seenTable t o p)
     joins-in G j l free = seen-new t o p G new (omega (arith, tail-is-count t o y (bucketOf (p .place) o))) (free-there t j l free)
 
-    left-out : ((j : ℕ) → j < slotsOf t → used (slot t j) ≡ true) → (sightingOf t o (p .place) ≡ NoSlot) × (seenTable t o p ≡ t)
-    left-out every = let e = none-left t o (p .place) y new room every in (e, no-slot-changes-nothing t o p e)
+    left-out : ((j : ℕ) → j < slotsOf t → used (slot t j) ≡ true) → (sightingOf t o p ≡ seen.Refused NoContactSlot) × (seenTable t o p ≡ t)
+    left-out every = let e = none-left t o p y new room every in (e, no-slot-changes-nothing t o p e)
 
-stale-answer : (t o head : List ℕ) (p : Peer) (answered : Bool) → fits t o head (p .place) ≡ false → settlementOf t o head (p .place) answered ≡ Stale
+stale-answer : (t o head : List ℕ) (p : Peer) (answered : Bool) → fits t o head (p .place) ≡ false → settlementOf t o head p answered ≡ settle.Refused NoLongerFits
 unfolding settlementOf
 stale-answer t o head p answered f = cond-no (fits t o head (p .place)) _ _ f
 
-not-held-answer : (t p : List ℕ) → held t p ≡ false → removalOf t p ≡ NotHeld
+not-held-answer : (t p : List ℕ) → held t p ≡ false → removalOf t p ≡ remove.Refused NoLongerFits
 unfolding removalOf
 not-held-answer t p h = cond-no (held t p) _ _ h
 
@@ -77,7 +78,7 @@ claims t o y = record {
   removeHashed = λ p h. remove-hashed t o p y h;
   doubtHashed = λ p h. doubt-hashed t p h;
   counted = tail-is-count t o y;
-  moved = λ p G h. (held-never-refused t o (p .place) h, seen-held t o p G y h);
+  moved = λ p G h. (held-never-refused t o p h, seen-held t o p G y h);
   full = full-named t o y;
   joined = λ p G new room. joins-in t o y p new room G;
   noSlot = left-out t o y;

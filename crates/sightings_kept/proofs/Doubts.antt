@@ -15,15 +15,17 @@ use Rattle.octets.proofs.Strings.{same-eq}
 use Rattle.octets.proofs.Searching.{first-same, largest-same}
 use Rattle.place.specs.Place.{placeOf, bucketOf}
 use Rattle.contact_table.proofs.Cuts.{doubt-yes}
-use Rattle.contacts.specs.Table.{slotsOf, slot, mark, used, doubtful, place, id}
+use Rattle.contacts.specs.Table.{slotSize, slotsOf, slot, mark, used, doubtful, place, id}
 use Rattle.contacts.specs.Form.{inForm}
 use Rattle.contacts.specs.Claims.{GivesFirst}
 use Rattle.contacts.proofs.Claims as contacts
+use Rattle.refusal.specs.declared.Refusal.the-variants.{NoContactSlot, NoLongerFits}
+use Rattle.peer.specs.declared.Peer.{Peer}
 use Rattle.sightings.specs.declared.Doubted.{Doubted}
-use Rattle.sightings.specs.declared.Doubted.the-variants as doubted
-use Rattle.sightings.specs.declared.Settled.the-variants.{Kept, Swapped, Stale}
+use Rattle.sightings.specs.declared.Doubted.the-variants as doubt
+use Rattle.sightings.specs.declared.Settled.the-variants as settle
 use Rattle.sightings.specs.declared.Sighting.{Sighting}
-use Rattle.sightings.specs.declared.Sighting.the-variants.{Moved, Joined, Full, NoSlot}
+use Rattle.sightings.specs.declared.Sighting.the-variants as seen
 use Rattle.sightings.specs.Order.{ofBucket, isAt, isHead, markIn, heldAt, freeAt, headAt, tailOf, withDoubt, doubtAt}
 use Rattle.sightings.specs.Sightings.{held, newcomer, sightingOf, fits, settlementOf, markingOf, afterMarking, markedTable}
 use Rattle.contact_order.proofs.Slots.{slot-long, put-outside}
@@ -51,7 +53,7 @@ module _ (t : List ℕ) (i : ℕ) (l : i < slotsOf t) where
       no : _≡_ {A = ℕ} 1 0 → ⊥
       no z = omega arith
 
-      past : drop (slotsOf t * 616) (doubtAt t i) ≡ drop (slotsOf t * 616) t
+      past : drop (slotsOf t * slotSize) (doubtAt t i) ≡ drop (slotsOf t * slotSize) t
       past = unfold doubtAt in put-outside t i (withDoubt 1 (slot t i)) l (doubt-long 1 (slot t i) ∙ slot-long t i l)
 
   -- ---- nobody looks at the mark: who is held, the free slot, the heads and the tails stay
@@ -83,17 +85,18 @@ module _ (t : List ℕ) (i : ℕ) (l : i < slotsOf t) where
     unfolding held
     same-held p = ap₂ ltb (same-held-at p) (doubt-slots t i l)
 
-    same-newcomer : (p : List ℕ) → newcomer (doubtAt t i) o p ≡ newcomer t o p
+    same-newcomer : (p : Peer) → newcomer (doubtAt t i) o p ≡ newcomer t o p
     unfolding newcomer
     same-newcomer p =
-        ap₂ (λ (k h : ℕ). cond (leb 20 k) (Full h) (cond (ltb (freeAt (doubtAt t i)) (slotsOf (doubtAt t i))) (Joined (freeAt (doubtAt t i))) NoSlot)) (same-tail (bucketOf p o)) (same-head-at (bucketOf p o))
-        ∙ ap₂ (λ (f n : ℕ). cond (leb 20 (tailOf t o (bucketOf p o))) (Full (headAt t o (bucketOf p o))) (cond (ltb f n) (Joined f) NoSlot)) same-free-at (doubt-slots t i l)
+        ap₂ (λ (k h : ℕ). cond (leb 20 k) (seen.Probe h) (cond (ltb (freeAt (doubtAt t i)) (slotsOf (doubtAt t i))) (seen.Joined (freeAt (doubtAt t i))) (seen.Refused NoContactSlot)))
+        (same-tail (bucketOf (p .place) o)) (same-head-at (bucketOf (p .place) o))
+        ∙ ap₂ (λ (f n : ℕ). cond (leb 20 (tailOf t o (bucketOf (p .place) o))) (seen.Probe (headAt t o (bucketOf (p .place) o))) (cond (ltb f n) (seen.Joined f) (seen.Refused NoContactSlot))) same-free-at (doubt-slots t i l)
 
-    same-sighting : (p : List ℕ) → sightingOf (doubtAt t i) o p ≡ sightingOf t o p
+    same-sighting : (p : Peer) → sightingOf (doubtAt t i) o p ≡ sightingOf t o p
     unfolding sightingOf
     same-sighting p =
-        ap₂ (λ (h : Bool) (k : ℕ). cond h (Moved k) (newcomer (doubtAt t i) o p)) (same-held p) (same-held-at p)
-        ∙ ap (λ (s : Sighting). cond (held t p) (Moved (heldAt t p)) s) (same-newcomer p)
+        ap₂ (λ (h : Bool) (k : ℕ). cond h (seen.Moved k) (newcomer (doubtAt t i) o p)) (same-held (p .place)) (same-held-at (p .place))
+        ∙ ap (λ (s : Sighting). cond (held t (p .place)) (seen.Moved (heldAt t (p .place))) s) (same-newcomer p)
 
     same-fits : (head p : List ℕ) → fits (doubtAt t i) o head p ≡ fits t o head p
     unfolding fits
@@ -104,15 +107,15 @@ module _ (t : List ℕ) (i : ℕ) (l : i < slotsOf t) where
 
 -- ---- the theorems
 module _ (t p : List ℕ) where
-  pub doubt-marks-one : held t p ≡ true → (markingOf t p ≡ doubted.Marked) × OnlyMarked t (heldAt t p) (markedTable t p)
+  pub doubt-marks-one : held t p ≡ true → (markingOf t p ≡ doubt.Marked) × OnlyMarked t (heldAt t p) (markedTable t p)
   unfolding markedTable markingOf afterMarking
   doubt-marks-one h =
-      let e : markingOf t p ≡ doubted.Marked = cond-yes (held t p) _ _ h in
+      let e : markingOf t p ≡ doubt.Marked = cond-yes (held t p) _ _ h in
       (e, subst (λ (r : Doubted). OnlyMarked t (heldAt t p) (afterMarking t p r)) (sym e) (only-marked t (heldAt t p) (held-lt t p h)))
 
-  pub doubt-not-held : held t p ≡ false → (markingOf t p ≡ doubted.NotHeld) × (markedTable t p ≡ t)
+  pub doubt-not-held : held t p ≡ false → (markingOf t p ≡ doubt.Refused NoLongerFits) × (markedTable t p ≡ t)
   unfolding markedTable markingOf afterMarking
-  doubt-not-held h = let e : markingOf t p ≡ doubted.NotHeld = cond-no (held t p) _ _ h in (e, ap (afterMarking t p) e)
+  doubt-not-held h = let e : markingOf t p ≡ doubt.Refused NoLongerFits = cond-no (held t p) _ _ h in (e, ap (afterMarking t p) e)
 
   -- what holds of the table and of any marked one holds after doubt
   either-way : (P : List ℕ → Type 0) → P t → ((i : ℕ) → i < slotsOf t → P (doubtAt t i)) → P (markedTable t p)
@@ -122,15 +125,15 @@ module _ (t p : List ℕ) where
       (λ h. subst (λ (r : Doubted). P (afterMarking t p r)) (sym (cond-no (held t p) _ _ h)) f) (either (held t p))
 
   -- "Bucket order, probes and room ignore the mark": what a sighting comes to, whose head is named, and whether a settling fits
-  pub doubt-ignored : (o q : List ℕ) → sightingOf (markedTable t p) o q ≡ sightingOf t o q
+  pub doubt-ignored : (o : List ℕ) (q : Peer) → sightingOf (markedTable t p) o q ≡ sightingOf t o q
   doubt-ignored o q = either-way (λ (u : List ℕ). sightingOf u o q ≡ sightingOf t o q) refl (λ i l. same-sighting t i l o q)
 
   pub doubt-fits : (o head q : List ℕ) → fits (markedTable t p) o head q ≡ fits t o head q
   doubt-fits o head q = either-way (λ (u : List ℕ). fits u o head q ≡ fits t o head q) refl (λ i l. same-fits t i l o head q)
 
-  pub doubt-settles : (o head q : List ℕ) (answered : Bool) → settlementOf (markedTable t p) o head q answered ≡ settlementOf t o head q answered
+  pub doubt-settles : (o head : List ℕ) (q : Peer) (answered : Bool) → settlementOf (markedTable t p) o head q answered ≡ settlementOf t o head q answered
   unfolding settlementOf
-  doubt-settles o head q answered = ap (λ (f : Bool). cond f (cond answered Kept Swapped) Stale) (doubt-fits o head q)
+  doubt-settles o head q answered = ap (λ (f : Bool). cond f (cond answered settle.Kept settle.Swapped) (settle.Refused NoLongerFits)) (doubt-fits o head (q .place))
 
   pub doubt-hashed : Hashed t → Hashed (markedTable t p)
   doubt-hashed h = either-way Hashed h (λ i l. one i l)

@@ -7,7 +7,7 @@ use mathlib.Core.List.{List, [], _∷_, _++_}
 use native.Mathlib.Nat.{not-suc-le-zero}
 use native.Mathlib.Omega.{arith}
 use lib.Dec.{ltb, leb, eqb}
-use lib.ListN.{length, getD, take, set, length-set, length-append, List·getD-append}
+use lib.ListN.{length, getD, take, set, length-set, List·getD-append}
 use lib.Seq.{sets, length-sets, getD-append-add, getD-set-same, take-at, drop-at}
 use borrow.Author.Tests.{ltb-true, leb-false}
 use Rattle.octets.specs.Octets.{part}
@@ -15,11 +15,12 @@ use Rattle.octets.proofs.Bools.{not-both, to-false, eq-or-ne, cond-ind}
 use Rattle.octets.proofs.Parts.{part-part}
 use Rattle.octets.proofs.Stores.{take-sets, drop-sets, getD-sets-before}
 use Rattle.place.specs.Place.{bucketOf}
-use Rattle.contacts.specs.Table.{slotsOf, slot, putSlot, mark, used, doubt, doubtful, idSize, addressCount, addressSize, place}
+use Rattle.contacts.specs.Table.{slotSize, slotsOf, slot, putSlot, mark, used, doubt, doubtful, idSize, addressCount, addressSize, place}
 use Rattle.contacts.specs.Form.{inForm}
 use Rattle.contact_form.specs.Claims.{Fields}
 use Rattle.contact_form.proofs.FormFacts.{form-elim, form-intro}
 use Rattle.peer.specs.declared.Peer.{Peer}
+use Rattle.peer.proofs.Slot.{bytes-length}
 use Rattle.peer.specs.Peers.{peerOf}
 use Rattle.peer.proofs.Lists.{size-most, size-least}
 use Rattle.peer.proofs.Meaning.{id-length, addrs-length, lens-length, place-is, size-is, count-few, lens-usable}
@@ -66,9 +67,8 @@ fair-peer o id pl addresses least most long other = record {
 
 -- ---- the bytes of a contact
 module _ (o : List ℕ) (p : Peer) (G : Fair o p) (m : ℕ) where
-  pub bytes-long : length (contactBytes m p) ≡ 616
-  unfolding contactBytes
-  bytes-long = simp length-append (omega (arith, G .lensLong, G .placeLong, G .idLong, G .addrsLong))
+  pub bytes-long : length (contactBytes m p) ≡ slotSize
+  bytes-long = bytes-length m p (G .lensLong) (G .placeLong) (G .idLong) (G .addrsLong)
 
   pub bytes-mark : mark (contactBytes m p) ≡ m
   unfolding mark contactBytes
@@ -106,7 +106,7 @@ module _ (o : List ℕ) (p : Peer) (G : Fair o p) (m : ℕ) where
       ap (take 32) (drop-at (p .lens) (p .place ++ (p .id ++ p .addrs)) 4 (G .lensLong)) ∙ take-at (p .place) (p .id ++ p .addrs) 32 (G .placeLong)
 
 -- ---- a slot with new addresses
-module _ (o : List ℕ) (p : Peer) (G : Fair o p) (s : List ℕ) (h : length s ≡ 616) where
+module _ (o : List ℕ) (p : Peer) (G : Fair o p) (s : List ℕ) (h : length s ≡ slotSize) where
   addr-byte : (k : ℕ) → k < 104 → getD (withAddresses p s) k 0 ≡ getD (sets s 3 (p .count ∷ p .lens)) k 0
   unfolding withAddresses
   addr-byte k l = getD-sets-before (sets s 3 (p .count ∷ p .lens)) 104 (p .addrs) k l
@@ -133,7 +133,7 @@ module _ (o : List ℕ) (p : Peer) (G : Fair o p) (s : List ℕ) (h : length s �
       ∙ part-part (sets s 3 (p .count ∷ p .lens)) 0 104 8 40 (omega arith)
       ∙ ap (take 32) (drop-sets 8 s 3 (p .count ∷ p .lens) (omega (arith, G .lensLong)))
 
-  pub addr-long : length (withAddresses p s) ≡ 616
+  pub addr-long : length (withAddresses p s) ≡ slotSize
   unfolding withAddresses
   addr-long = length-sets _ 104 (p .addrs) ∙ length-sets s 3 (p .count ∷ p .lens) ∙ h
 
@@ -170,7 +170,7 @@ module _ (t o : List ℕ) (i : ℕ) (l : i < slotsOf t) (F : Ordered t o) (u : u
   tail-few : tailOf t o (bucketOf (place (slot t i)) o) ≤ 20
   tail-few = tail-le t o (bucketOf (place (slot t i)) o) 20 (λ j lj g. F .sound j lj (of-used o _ (slot t j) g) .0 .ranked)
 
-  again : (s : List ℕ) → length s ≡ 616 → place s ≡ place (slot t i) → Fields s → mark s ≡ tailOf t o (bucketOf (place (slot t i)) o) → Ordered (putSlot (leave t o i) i s) o
+  again : (s : List ℕ) → length s ≡ slotSize → place s ≡ place (slot t i) → Fields s → mark s ≡ tailOf t o (bucketOf (place (slot t i)) o) → Ordered (putSlot (leave t o i) i s) o
   unfolding dropped
   again s long e f m =
       let ld : i < slotsOf (dropped t o i) = subst (λ (n : ℕ). i < n) (sym (drop-slots t o i l)) l in
@@ -223,7 +223,7 @@ module _ (t o : List ℕ) (i : ℕ) (l : i < slotsOf t) (F : Ordered t o) (u : u
 
 -- ---- a mark of doubt: every slot keeps its place and its rank
 module _ (t : List ℕ) (i : ℕ) (l : i < slotsOf t) where
-  doubted-long : length (withDoubt 1 (slot t i)) ≡ 616
+  doubted-long : length (withDoubt 1 (slot t i)) ≡ slotSize
   doubted-long = doubt-long 1 (slot t i) ∙ slot-long t i l
 
   pub doubt-slots : slotsOf (doubtAt t i) ≡ slotsOf t
@@ -302,7 +302,7 @@ remove-form t o p F =
     still = F
 
 module _ (t o : List ℕ) (p : Peer) (G : Fair o p) (F : Ordered t o) where
-  new-form : held t (p .place) ≡ false → Ordered (afterSighting t o p (newcomer t o (p .place))) o
+  new-form : held t (p .place) ≡ false → Ordered (afterSighting t o p (newcomer t o p)) o
   unfolding newcomer afterSighting
   new-form h =
       cond-ind (λ (r : Sighting). Ordered (afterSighting t o p r) o) (leb 20 (tailOf t o (bucketOf (p .place) o))) _ _ (λ e. F)

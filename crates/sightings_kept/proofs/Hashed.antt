@@ -7,8 +7,9 @@ use mathlib.Core.List.{List}
 use lib.Dec.{leb, ltb}
 use borrow.Author.Tests.{leb-false, ltb-true}
 use Rattle.octets.proofs.Bools.{not-both, either, eq-or-ne, cond-yes, cond-no}
+use Rattle.limits.specs.Limits.{bucketSize}
 use Rattle.place.specs.Place.{placeOf, bucketOf}
-use Rattle.contacts.specs.Table.{bucketSize, slotsOf, slot, used, place, id}
+use Rattle.contacts.specs.Table.{slotsOf, slot, used, place, id}
 use Rattle.contacts.specs.Form.{inForm}
 use Rattle.contact_form.proofs.FormFacts.{form-elim}
 use Rattle.peer.specs.declared.Peer.{Peer}

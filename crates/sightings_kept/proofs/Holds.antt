@@ -10,57 +10,21 @@ use lib.Dec.{ltb, leb, eqb}
 use borrow.Author.Tests.{lt-ltb, ltb-true, le-leb, lt-leb, leb-true, leb-false, eq-eqb, ne-eqb, eqb-true}
 use Rattle.octets.specs.Search.{count}
 use Rattle.octets.proofs.Bools.{and-l, and-r, and-i, and-on, and-off, not-both, to-false, either, eq-or-ne, cond-yes, cond-no}
-use Rattle.octets.proofs.Searching.{count-zero, first-is, first-lt}
+use Rattle.octets.proofs.Searching.{first-is, first-lt}
+use Rattle.octets.proofs.Counting.{bit, bit-on, bit-off, count-none, count-one, count-add, count-same}
 use Rattle.place.specs.Place.{bucketOf}
 use Rattle.contacts.specs.Table.{slotsOf, slot, mark, used}
 use Rattle.contacts.specs.Form.{inForm}
 use Rattle.contact_form.proofs.FormFacts.{form-elim}
-use Rattle.sightings.specs.declared.Sighting.the-variants.{Joined, Full, NoSlot}
+use Rattle.refusal.specs.declared.Refusal.the-variants.{NoContactSlot}
+use Rattle.peer.specs.declared.Peer.{Peer}
+use Rattle.sightings.specs.declared.Sighting.the-variants as seen
 use Rattle.sightings.specs.Order.{ofBucket, isHead, heldAt, freeAt, headAt, tailOf}
 use Rattle.sightings.specs.Sightings.{held, newcomer, sightingOf, fits}
 use Rattle.sightings_kept.specs.Promises.{holds, StillFits}
 use Rattle.contact_order.proofs.Tests.{of-make, of-mark, at-used, at-place, held-is, free-is, free-there, tail-ge, tail-at}
 use Rattle.sightings.proofs.Calls.{fits-held, fits-head, fits-bucket, fits-full, fits-new}
 use Rattle.sightings_kept.proofs.Ordered.{Ordered, from-form}
-
--- ---- counting. for octets
-abbrev bit : Bool → ℕ
-bit b = cond b 1 0
-
-bit-on : (b : Bool) → b ≡ true → bit b ≡ 1
-bit-on b e = ap bit e
-
-bit-off : (b : Bool) → b ≡ false → bit b ≡ 0
-bit-off b e = ap bit e
-
-module _ (p : ℕ → Bool) where
-  count-suc : (n : ℕ) → count (suc n) p ≡ count n p + bit (p n)
-  unfolding count
-  count-suc n = refl
-
-  count-none : (n : ℕ) → ((i : ℕ) → i < n → p i ≡ false) → count n p ≡ 0
-  count-none zero h = count-zero p
-  count-none (suc n) h = omega (arith, count-suc n, bit-off (p n) (h n (omega arith)), count-none n (λ i l. h i (omega arith)))
-
-  count-one : (n j : ℕ) → j < n → p j ≡ true → ((i : ℕ) → i < n → p i ≡ true → i ≡ j) → count n p ≡ 1
-  count-one zero j l e h = absurd (not-suc-le-zero l)
-  count-one (suc n) j l e h =
-      ⊎-elim (λ q. omega (arith, count-suc n, bit-on (p n) (subst (λ (k : ℕ). p k ≡ true) q e), count-none n (λ i li. to-false (p i) (λ y. far i li q (h i (omega arith) y)))))
-      (λ lt. omega (arith, count-suc n, bit-off (p n) (to-false (p n) (λ y. near lt (h n (omega arith) y))), count-one n j lt e (λ i li y. h i (omega arith) y))) (eq-or-lt-of-le (le-of-suc-le-suc l))
-    where
-      far : (i : ℕ) → i < n → j ≡ n → i ≡ j → ⊥
-      far i li q r = omega arith
-
-      near : j < n → n ≡ j → ⊥
-      near lt r = omega arith
-
-count-add : (p q r : ℕ → Bool) (n : ℕ) → ((i : ℕ) → i < n → bit (p i) ≡ bit (q i) + bit (r i)) → count n p ≡ count n q + count n r
-count-add p q r zero h = omega (arith, count-zero p, count-zero q, count-zero r)
-count-add p q r (suc n) h = omega (arith, count-suc p n, count-suc q n, count-suc r n, h n (omega arith), count-add p q r n (λ i l. h i (omega arith)))
-
-count-same : (p q : ℕ → Bool) (n : ℕ) → ((i : ℕ) → i < n → p i ≡ q i) → count n p ≡ count n q
-count-same p q zero h = count-zero p ∙ sym (count-zero q)
-count-same p q (suc n) h = omega (arith, count-suc p n, count-suc q n, ap bit (h n (omega arith)), count-same p q n (λ i l. h i (omega arith)))
 
 module _ (t o : List ℕ) (F : Ordered t o) (b : ℕ) where
   -- of the bucket, with a mark of at most x; with the mark x
@@ -120,25 +84,25 @@ pub tail-is-count : (t o : List ℕ) → inForm t o ≡ true → (b : ℕ) → t
 tail-is-count t o y b = sym (held-count t o (from-form t o (form-elim t o y)) b)
 
 -- what a peer not held is answered: 13 where its bucket holds 20, naming the slot of the bucket's head; else it joins, or 14
-module _ (t o p : List ℕ) (y : inForm t o ≡ true) (new : held t p ≡ false) where
-  pub full-refused : 20 ≤ holds t o (bucketOf p o) → sightingOf t o p ≡ Full (headAt t o (bucketOf p o))
+module _ (t o : List ℕ) (p : Peer) (y : inForm t o ≡ true) (new : held t (p .place) ≡ false) where
+  pub full-refused : 20 ≤ holds t o (bucketOf (p .place) o) → sightingOf t o p ≡ seen.Probe (headAt t o (bucketOf (p .place) o))
   unfolding sightingOf newcomer
   full-refused h =
-      cond-no (held t p) _ _ new
-      ∙ cond-yes (leb 20 (tailOf t o (bucketOf p o))) _ _ (le-leb 20 (tailOf t o (bucketOf p o)) (omega (arith, tail-is-count t o y (bucketOf p o))))
+      cond-no (held t (p .place)) _ _ new
+      ∙ cond-yes (leb 20 (tailOf t o (bucketOf (p .place) o))) _ _ (le-leb 20 (tailOf t o (bucketOf (p .place) o)) (omega (arith, tail-is-count t o y (bucketOf (p .place) o))))
 
-  module _ (room : holds t o (bucketOf p o) < 20) where
-    not-full : sightingOf t o p ≡ cond (ltb (freeAt t) (slotsOf t)) (Joined (freeAt t)) NoSlot
+  module _ (room : holds t o (bucketOf (p .place) o) < 20) where
+    not-full : sightingOf t o p ≡ cond (ltb (freeAt t) (slotsOf t)) (seen.Joined (freeAt t)) (seen.Refused NoContactSlot)
     unfolding sightingOf newcomer
     not-full =
-        cond-no (held t p) _ _ new
-        ∙ cond-no (leb 20 (tailOf t o (bucketOf p o))) _ _ (lt-leb 20 (tailOf t o (bucketOf p o)) (omega (arith, tail-is-count t o y (bucketOf p o))))
+        cond-no (held t (p .place)) _ _ new
+        ∙ cond-no (leb 20 (tailOf t o (bucketOf (p .place) o))) _ _ (lt-leb 20 (tailOf t o (bucketOf (p .place) o)) (omega (arith, tail-is-count t o y (bucketOf (p .place) o))))
 
     -- some slot is free, or every slot is used
-    pub one-left : (j : ℕ) → j < slotsOf t → used (slot t j) ≡ false → sightingOf t o p ≡ Joined (freeAt t)
+    pub one-left : (j : ℕ) → j < slotsOf t → used (slot t j) ≡ false → sightingOf t o p ≡ seen.Joined (freeAt t)
     one-left j l free = not-full ∙ cond-yes (ltb (freeAt t) (slotsOf t)) _ _ (lt-ltb (freeAt t) (slotsOf t) (free-there t j l free))
 
-    pub none-left : ((j : ℕ) → j < slotsOf t → used (slot t j) ≡ true) → sightingOf t o p ≡ NoSlot
+    pub none-left : ((j : ℕ) → j < slotsOf t → used (slot t j) ≡ true) → sightingOf t o p ≡ seen.Refused NoContactSlot
     none-left every = not-full ∙ cond-no (ltb (freeAt t) (slotsOf t)) _ _ (to-false (ltb (freeAt t) (slotsOf t)) (λ f. taken (ltb-true (freeAt t) (slotsOf t) f)))
       where
         taken : freeAt t < slotsOf t → ⊥

@@ -11,7 +11,7 @@ use borrow.Author.Tests.{ltb-true, ltb-false}
 use Rattle.octets.proofs.Bools.{not-both, to-false, either, eq-or-ne}
 use Rattle.place.specs.Place.{bucketOf}
 use Rattle.contact_table.proofs.Cuts.{mark-used}
-use Rattle.contacts.specs.Table.{slotsOf, slot, putSlot, mark, used, place}
+use Rattle.contacts.specs.Table.{slotSize, slotsOf, slot, putSlot, mark, used, place}
 use Rattle.contact_form.specs.Claims.{Fields}
 use Rattle.sightings.specs.Order.{ofBucket, tailOf, withMark, lowered, dropped}
 use Rattle.contact_order.proofs.Slots.{slot-long, slots-put, slot-put, slot-other}
@@ -22,7 +22,7 @@ use Rattle.sightings.proofs.Doubting.{doubt-mark}
 use Rattle.sightings_kept.proofs.Ordered.{Ordered, fields-by, mark-byte}
 
 -- one slot behind a mark m, which is not 0: what it keeps
-module _ (o : List ℕ) (c m : ℕ) (s : List ℕ) (h : length s ≡ 616) (pos : 1 ≤ m) where
+module _ (o : List ℕ) (c m : ℕ) (s : List ℕ) (h : length s ≡ slotSize) (pos : 1 ≤ m) where
   low-cases : (lowered o c m s ≡ s) ⊎ ((m < mark s) × (ofBucket o c s ≡ true) × (lowered o c m s ≡ withMark (mark s - 1) s))
   low-cases =
       ⊎-elim (λ l. ⊎-elim (λ f. inr (ltb-true m (mark s) l, f, lowered-on o c m s (ltb-true m (mark s) l) f)) (λ f. inl (lowered-far o c m s f)) (either (ofBucket o c s)))
@@ -245,7 +245,7 @@ module _ (t o : List ℕ) (i : ℕ) (l : i < slotsOf t) (F : Ordered t o) (u : u
           was n a c = ⊎-elim (λ e. omega (arith, ltb-true 1 (mark (slot t i)) e, under (ltb-true 1 (mark (slot t i)) e))) (λ e. omega (arith, ltb-false 1 (mark (slot t i)) e)) (either (ltb 1 (mark (slot t i))))
 
 -- ---- a contact enters a free slot at the tail
-module _ (t o : List ℕ) (i : ℕ) (l : i < slotsOf t) (F : Ordered t o) (z : used (slot t i) ≡ false) (s : List ℕ) (long : length s ≡ 616) (b : ℕ) (at : bucketOf (place s) o ≡ b) (near : b < 256) (ok : Fields s) (tail : mark s ≡ tailOf t o b + 1) (new : (j : ℕ) → j < slotsOf t → used (slot t j) ≡ true → place (slot t j) ≡ place s → ⊥) where
+module _ (t o : List ℕ) (i : ℕ) (l : i < slotsOf t) (F : Ordered t o) (z : used (slot t i) ≡ false) (s : List ℕ) (long : length s ≡ slotSize) (b : ℕ) (at : bucketOf (place s) o ≡ b) (near : b < 256) (ok : Fields s) (tail : mark s ≡ tailOf t o b + 1) (new : (j : ℕ) → j < slotsOf t → used (slot t j) ≡ true → place (slot t j) ≡ place s → ⊥) where
   is-s : slot (putSlot t i s) i ≡ s
   is-s = slot-put t i s l long
 

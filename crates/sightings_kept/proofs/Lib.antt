@@ -7,3 +7,4 @@ pub mod Holds
 pub mod Hashed
 pub mod Doubts
 pub mod Claims
+pub mod Tidied

@@ -9,7 +9,7 @@ use lib.Seq.{sets, sets-eq, drop-drop, drop-at, getD-drop, drop-set-lt, take-app
 use Rattle.octets.specs.Octets.{part}
 use Rattle.octets.proofs.Parts.{part-is, part-part}
 use Rattle.octets.proofs.Stores.{take-sets, drop-sets, getD-sets-before}
-use Rattle.contacts.specs.Table.{mark, used, idSize, addressCount, addressSize, place, id, address, addressesTo, addresses}
+use Rattle.contacts.specs.Table.{slotSize, mark, used, idSize, addressCount, addressSize, place, id, address, addressesTo, addresses}
 use Rattle.peer.specs.declared.Peer.{Peer}
 use Rattle.peer.specs.Peers.{idIn, addressIn, addressesIn}
 use Rattle.peer.specs.Peers as peers
@@ -118,17 +118,17 @@ module _ (o : List ℕ) (p : Peer) (G : Fair o p) (m : ℕ) where
   bytes-addresses = agree (contactBytes m p) p (p .count) one
 
 -- ---- a slot that took a peer's addresses
-module _ (o : List ℕ) (p : Peer) (G : Fair o p) (s : List ℕ) (h : length s ≡ 616) where
+module _ (o : List ℕ) (p : Peer) (G : Fair o p) (s : List ℕ) (h : length s ≡ slotSize) where
   abbrev head : List ℕ
   head = sets s 3 (p .count ∷ p .lens)
 
-  head-long : length head ≡ 616
+  head-long : length head ≡ slotSize
   head-long = length-sets s 3 (p .count ∷ p .lens) ∙ h
 
-  new-addrs : drop 104 (withAddresses p s) ≡ p .addrs ++ drop 616 head
+  new-addrs : drop 104 (withAddresses p s) ≡ p .addrs ++ drop slotSize head
   unfolding withAddresses
   new-addrs =
-      let e : 104 + length (p .addrs) ≡ 616 = omega (arith, G .addrsLong) in
+      let e : 104 + length (p .addrs) ≡ slotSize = omega (arith, G .addrsLong) in
       ap (drop 104) (sets-eq (p .addrs) head 104 (omega (arith, head-long, G .addrsLong)) ∙ append-assoc (take 104 head) (p .addrs) (drop (104 + length (p .addrs)) head))
       ∙ drop-at (take 104 head) (p .addrs ++ drop (104 + length (p .addrs)) head) 104 (length-take-le 104 head (omega (arith, head-long)))
       ∙ ap (λ (n : ℕ). p .addrs ++ drop n head) e
@@ -143,10 +143,10 @@ module _ (o : List ℕ) (p : Peer) (G : Fair o p) (s : List ℕ) (h : length s �
   new-size k l = let e : 3 + suc k ≡ 4 + k = omega arith in ap (λ (x : ℕ). getD (withAddresses p s) x 0) (sym e) ∙ new-byte (suc k) (omega arith)
 
   -- within the 512 bytes of addresses
-  inner : (k n : ℕ) → k * 128 + n ≤ 512 → take n (drop (k * 128) (p .addrs ++ drop 616 head)) ≡ take n (drop (k * 128) (p .addrs))
+  inner : (k n : ℕ) → k * 128 + n ≤ 512 → take n (drop (k * 128) (p .addrs ++ drop slotSize head)) ≡ take n (drop (k * 128) (p .addrs))
   inner k n l =
-      ap (take n) (drop-append-le (k * 128) (p .addrs) (drop 616 head) (omega (arith, G .addrsLong)))
-      ∙ take-append-le n (drop (k * 128) (p .addrs)) (drop 616 head) (room (length-drop (k * 128) (p .addrs)))
+      ap (take n) (drop-append-le (k * 128) (p .addrs) (drop slotSize head) (omega (arith, G .addrsLong)))
+      ∙ take-append-le n (drop (k * 128) (p .addrs)) (drop slotSize head) (room (length-drop (k * 128) (p .addrs)))
     where
       room : length (drop (k * 128) (p .addrs)) ≡ length (p .addrs) - k * 128 → n ≤ length (drop (k * 128) (p .addrs))
       room e = omega (arith, G .addrsLong)

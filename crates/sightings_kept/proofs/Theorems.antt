@@ -10,14 +10,15 @@ use lib.ListN.{length, drop}
 use borrow.Author.Tests.{lt-ltb, le-ltb, ltb-true, ltb-false, lt-leb, eqb-true, eqb-false}
 use Rattle.octets.proofs.Bools.{not-both, to-false, either, eq-or-ne, cond-yes, cond-no, cond-ind}
 use Rattle.place.specs.Place.{bucketOf}
-use Rattle.contacts.specs.Table.{slotsOf, slot, putSlot, mark, used, doubt, doubtful, idSize, place, id, addresses}
+use Rattle.contacts.specs.Table.{slotSize, slotsOf, slot, putSlot, mark, used, doubt, doubtful, idSize, place, id, addresses}
 use Rattle.contacts.specs.Form.{inForm}
 use Rattle.contact_table.proofs.Cuts.{mark-used, used-mark, doubt-no}
 use Rattle.contact_form.proofs.FormFacts.{form-elim}
+use Rattle.refusal.specs.declared.Refusal.the-variants.{NoContactSlot}
 use Rattle.peer.specs.declared.Peer.{Peer}
 use Rattle.peer.specs.Peers.{idIn, addressesIn}
 use Rattle.sightings.specs.declared.Sighting.{Sighting}
-use Rattle.sightings.specs.declared.Sighting.the-variants.{Moved, Joined, Full, NoSlot}
+use Rattle.sightings.specs.declared.Sighting.the-variants as seen
 use Rattle.sightings.specs.declared.Settled.{Settled}
 use Rattle.sightings.specs.declared.Settled.the-variants.{Kept, Swapped}
 use Rattle.sightings.specs.declared.Removed.{Removed}
@@ -48,7 +49,7 @@ doubtful-by s v e = ap (λ (d : ℕ). not (eqb d 0)) e
 same-of : (o : List ℕ) (b : ℕ) (s v : List ℕ) → SameContact s v → ofBucket o b v ≡ true → ofBucket o b s ≡ true
 same-of o b s v e f = of-make o b s (e .sameUse ∙ of-used o b v f) (ap (λ (x : List ℕ). bucketOf x o) (e .samePlace) ∙ of-is o b v f)
 
-pub put-others : (t o : List ℕ) (i : ℕ) (s : List ℕ) → i < slotsOf t → length s ≡ 616 → Others t o (putSlot t i s) (λ j. j ≡ i)
+pub put-others : (t o : List ℕ) (i : ℕ) (s : List ℕ) → i < slotsOf t → length s ≡ slotSize → Others t o (putSlot t i s) (λ j. j ≡ i)
 put-others t o i s l h = record {
   slots = slots-put t i s;
   contact = λ j lj ne. same-self (slot (putSlot t i s) j) (slot t j) (slot-other t i s l h j ne);
@@ -60,16 +61,16 @@ put-others t o i s l h = record {
 ltb-same : (a b c d : ℕ) → (a < b → c < d) → (b ≤ a → d ≤ c) → ltb c d ≡ ltb a b
 ltb-same a b c d f g = ⊎-elim (λ e. lt-ltb c d (f (ltb-true a b e)) ∙ sym e) (λ e. le-ltb c d (g (ltb-false a b e)) ∙ sym e) (either (ltb a b))
 
-each-outside : (f : List ℕ → List ℕ) (long : (s : List ℕ) → length s ≡ 616 → length (f s) ≡ 616) (t : List ℕ) (n : ℕ) → n ≤ slotsOf t
-    → drop (slotsOf t * 616) (each f n t) ≡ drop (slotsOf t * 616) t
+each-outside : (f : List ℕ → List ℕ) (long : (s : List ℕ) → length s ≡ slotSize → length (f s) ≡ slotSize) (t : List ℕ) (n : ℕ) → n ≤ slotsOf t
+    → drop (slotsOf t * slotSize) (each f n t) ≡ drop (slotsOf t * slotSize) t
 unfolding each
 each-outside f long t zero h = refl
 each-outside f long t (suc n) h =
     let e : slotsOf (each f n t) ≡ slotsOf t = each-slots f long t n in
     let ln : n < slotsOf (each f n t) = subst (λ (m : ℕ). n < m) (sym e) h in
-    ap (λ (m : ℕ). drop (m * 616) (putSlot (each f n t) n (f (slot t n)))) (sym e)
+    ap (λ (m : ℕ). drop (m * slotSize) (putSlot (each f n t) n (f (slot t n)))) (sym e)
     ∙ put-outside (each f n t) n (f (slot t n)) ln (long (slot t n) (slot-long t n h))
-    ∙ ap (λ (m : ℕ). drop (m * 616) (each f n t)) e ∙ each-outside f long t n (omega arith)
+    ∙ ap (λ (m : ℕ). drop (m * slotSize) (each f n t)) e ∙ each-outside f long t n (omega arith)
 
 module _ (t o : List ℕ) (i : ℕ) (l : i < slotsOf t) (F : Ordered t o) (u : used (slot t i) ≡ true) where
   drop-order : (b j k : ℕ) → j < slotsOf t → k < slotsOf t → (j ≡ i → ⊥) → (k ≡ i → ⊥) → ofBucket o b (slot t j) ≡ true → ofBucket o b (slot t k) ≡ true
@@ -81,11 +82,11 @@ module _ (t o : List ℕ) (i : ℕ) (l : i < slotsOf t) (F : Ordered t o) (u : u
       (λ x. ⊎-elim (λ v. ⊎-elim (λ w. omega (arith, v .0, w .0)) (λ w. omega (arith, v .0, w .0, v .1 (w .1), w .2)) (view t o i l F u k lk nk b fk))
       (λ v. ⊎-elim (λ w. omega (arith, v .0, w .0, w .1 (v .1), v .2)) (λ w. omega (arith, v .0, w .0)) (view t o i l F u k lk nk b fk)) (view t o i l F u j lj nj b fj))
 
-  drop-outside : drop (slotsOf t * 616) (dropped t o i) ≡ drop (slotsOf t * 616) t
+  drop-outside : drop (slotsOf t * slotSize) (dropped t o i) ≡ drop (slotsOf t * slotSize) t
   unfolding dropped leave closeUp
   drop-outside =
-      ap (λ (m : ℕ). drop (m * 616) (putSlot (leave t o i) i freeBytes)) (sym (leave-slots t o i)) ∙ put-outside (leave t o i) i freeBytes (leave-in t o i l) free-long
-      ∙ ap (λ (m : ℕ). drop (m * 616) (leave t o i)) (leave-slots t o i) ∙ each-outside (lowered o _ (mark (slot t i))) (lowered-long o _ (mark (slot t i))) t (slotsOf t) (omega arith)
+      ap (λ (m : ℕ). drop (m * slotSize) (putSlot (leave t o i) i freeBytes)) (sym (leave-slots t o i)) ∙ put-outside (leave t o i) i freeBytes (leave-in t o i l) free-long
+      ∙ ap (λ (m : ℕ). drop (m * slotSize) (leave t o i)) (leave-slots t o i) ∙ each-outside (lowered o _ (mark (slot t i))) (lowered-long o _ (mark (slot t i))) t (slotsOf t) (omega arith)
 
   pub drop-others : Others t o (dropped t o i) (λ j. j ≡ i)
   drop-others = record {
@@ -114,14 +115,14 @@ then t o u v P Q R p q a b = record {
       (same-of o c (slot u j) (slot t j) (a .contact j lj (λ w. nj (p j w))) fj) (same-of o c (slot u k) (slot t k) (a .contact k lk (λ w. nk (p k w))) fk)
       ∙ a .order c j k lj lk (λ w. nj (p j w)) (λ w. nk (p k w)) fj fk;
   doubts = λ j lj ne. b .doubts j (up j lj) (λ w. ne (q j w)) ∙ a .doubts j lj (λ w. ne (p j w));
-  outside = ap (λ (n : ℕ). drop (n * 616) v) (sym (a .slots)) ∙ b .outside ∙ ap (λ (n : ℕ). drop (n * 616) u) (a .slots) ∙ a .outside;
+  outside = ap (λ (n : ℕ). drop (n * slotSize) v) (sym (a .slots)) ∙ b .outside ∙ ap (λ (n : ℕ). drop (n * slotSize) u) (a .slots) ∙ a .outside;
 }
   where
     up : (j : ℕ) → j < slotsOf t → j < slotsOf u
     up j h = subst (λ (n : ℕ). j < n) (sym (a .slots)) h
 
 -- ---- one that enters is at the tail
-module _ (t o : List ℕ) (i : ℕ) (l : i < slotsOf t) (s : List ℕ) (long : length s ≡ 616) (p : List ℕ) (at : place s ≡ p) (tail : mark s ≡ tailOf t o (bucketOf p o) + 1) where
+module _ (t o : List ℕ) (i : ℕ) (l : i < slotsOf t) (s : List ℕ) (long : length s ≡ slotSize) (p : List ℕ) (at : place s ≡ p) (tail : mark s ≡ tailOf t o (bucketOf p o) + 1) where
   s-used : used s ≡ true
   s-used = mark-used s (λ e. no e)
     where
@@ -156,7 +157,7 @@ module _ (t o : List ℕ) (i : ℕ) (l : i < slotsOf t) (s : List ℕ) (long : l
   }
 
 -- ---- moved: out, and in again at the tail
-module _ (t o : List ℕ) (i : ℕ) (l : i < slotsOf t) (F : Ordered t o) (u : used (slot t i) ≡ true) (s : List ℕ) (long : length s ≡ 616) (e : place s ≡ place (slot t i))
+module _ (t o : List ℕ) (i : ℕ) (l : i < slotsOf t) (F : Ordered t o) (u : used (slot t i) ≡ true) (s : List ℕ) (long : length s ≡ slotSize) (e : place s ≡ place (slot t i))
     (m : mark s ≡ tailOf t o (bucketOf (place (slot t i)) o)) where
   again : putSlot (dropped t o i) i s ≡ putSlot (leave t o i) i s
   unfolding dropped
@@ -185,16 +186,16 @@ pub one-contact : (t o : List ℕ) → inForm t o ≡ true → (i j : ℕ) → i
 one-contact t o y = from-form t o (form-elim t o y) .twins
 
 -- "a peer already held is never 13 or 14", whatever the bytes
-pub held-never-refused : (t o p : List ℕ) → held t p ≡ true → sightingOf t o p ≡ Moved (heldAt t p)
+pub held-never-refused : (t o : List ℕ) (p : Peer) → held t (p .place) ≡ true → sightingOf t o p ≡ seen.Moved (heldAt t (p .place))
 unfolding sightingOf
-held-never-refused t o p h = cond-yes (held t p) _ _ h
+held-never-refused t o p h = cond-yes (held t (p .place)) _ _ h
 
 -- a refused sighting changes nothing
-pub full-changes-nothing : (t o : List ℕ) (p : Peer) (h : ℕ) → sightingOf t o (p .place) ≡ Full h → seenTable t o p ≡ t
+pub full-changes-nothing : (t o : List ℕ) (p : Peer) (h : ℕ) → sightingOf t o p ≡ seen.Probe h → seenTable t o p ≡ t
 unfolding seenTable afterSighting
 full-changes-nothing t o p h e = ap (afterSighting t o p) e
 
-pub no-slot-changes-nothing : (t o : List ℕ) (p : Peer) → sightingOf t o (p .place) ≡ NoSlot → seenTable t o p ≡ t
+pub no-slot-changes-nothing : (t o : List ℕ) (p : Peer) → sightingOf t o p ≡ seen.Refused NoContactSlot → seenTable t o p ≡ t
 unfolding seenTable afterSighting
 no-slot-changes-nothing t o p e = ap (afterSighting t o p) e
 
@@ -250,7 +251,7 @@ module _ (t o : List ℕ) (i : ℕ) (l : i < slotsOf t) (F : Ordered t o) (u : u
         cond-ind (λ (x : List ℕ). HeldSeen t o (p .place) (addressesIn p) i (putSlot (leave t o i) i x)) (eqb (p .count) 0) (tailed t o i) (withAddresses p (tailed t o i))
         (λ e. stay (eqb-true (p .count) 0 e)) (λ e. new (eqb-false (p .count) 0 e))
       where
-        long : length (tailed t o i) ≡ 616
+        long : length (tailed t o i) ≡ slotSize
         long = tailed-long t o i l
 
         stay : p .count ≡ 0 → HeldSeen t o (p .place) (addressesIn p) i (putSlot (leave t o i) i (tailed t o i))
@@ -267,7 +268,7 @@ module _ (t o : List ℕ) (i : ℕ) (l : i < slotsOf t) (F : Ordered t o) (u : u
         new : (p .count ≡ 0 → ⊥) → HeldSeen t o (p .place) (addressesIn p) i (putSlot (leave t o i) i (withAddresses p (tailed t o i)))
         new n =
             let w : List ℕ = withAddresses p (tailed t o i) in
-            let lw : length (withAddresses p (tailed t o i)) ≡ 616 = addr-long o p G (tailed t o i) long in
+            let lw : length (withAddresses p (tailed t o i)) ≡ slotSize = addr-long o p G (tailed t o i) long in
             let pw : place (withAddresses p (tailed t o i)) ≡ place (slot t i) = addr-place o p G (tailed t o i) long ∙ tailed-place t o i l F u in
             let mw : mark (withAddresses p (tailed t o i)) ≡ tailOf t o (bucketOf (place (slot t i)) o) = addr-mark o p G (tailed t o i) long ∙ tailed-mark t o i l F u in
             let is = moved-is t o i l F u w lw pw mw in
@@ -286,17 +287,17 @@ module _ (t o : List ℕ) (p : Peer) (G : Fair o p) where
   seen-held y h =
       let l = held-lt t (p .place) h in
       let a = held-is t (p .place) l in
-      subst (λ (r : Sighting). HeldSeen t o (p .place) (addressesIn p) (heldAt t (p .place)) (afterSighting t o p r)) (sym (held-never-refused t o (p .place) h))
+      subst (λ (r : Sighting). HeldSeen t o (p .place) (addressesIn p) (heldAt t (p .place)) (afterSighting t o p r)) (sym (held-never-refused t o p h))
       (renew-seen t o (heldAt t (p .place)) l (from-form t o (form-elim t o y)) (at-used (p .place) _ a) p G (at-place (p .place) _ a))
 
-  new-answer : held t (p .place) ≡ false → tailOf t o (bucketOf (p .place) o) < 20 → freeAt t < slotsOf t → sightingOf t o (p .place) ≡ Joined (freeAt t)
+  new-answer : held t (p .place) ≡ false → tailOf t o (bucketOf (p .place) o) < 20 → freeAt t < slotsOf t → sightingOf t o p ≡ seen.Joined (freeAt t)
   unfolding sightingOf newcomer
   new-answer h k l =
       cond-no (held t (p .place)) _ _ h ∙ cond-no (leb 20 (tailOf t o (bucketOf (p .place) o))) _ _ (lt-leb 20 (tailOf t o (bucketOf (p .place) o)) k)
       ∙ cond-yes (ltb (freeAt t) (slotsOf t)) _ _ (lt-ltb (freeAt t) (slotsOf t) l)
 
   pub seen-new : held t (p .place) ≡ false → tailOf t o (bucketOf (p .place) o) < 20 → freeAt t < slotsOf t
-      → (sightingOf t o (p .place) ≡ Joined (freeAt t)) × NewSeen t o (p .place) (idIn p) (addressesIn p) (freeAt t) (seenTable t o p)
+      → (sightingOf t o p ≡ seen.Joined (freeAt t)) × NewSeen t o (p .place) (idIn p) (addressesIn p) (freeAt t) (seenTable t o p)
   unfolding seenTable afterSighting join
   seen-new h k l =
       (new-answer h k l, subst (λ (r : Sighting). NewSeen t o (p .place) (idIn p) (addressesIn p) (freeAt t) (afterSighting t o p r)) (sym (new-answer h k l)) (joins t o p G l))
@@ -365,10 +366,10 @@ module _ (t o head : List ℕ) (p : Peer) (y : inForm t o ≡ true) (f : fits t 
         sameHead = subst (λ (x : List ℕ). SameContact x (slot t (heldAt t head))) (sym is) (tailed-same t o (heldAt t head) lh G uh);
       }
 
-  pub settle-answered : (settlementOf t o head (p .place) true ≡ Kept) × HeadKept t o head (settledTable t o head p true)
+  pub settle-answered : (settlementOf t o head p true ≡ Kept) × HeadKept t o head (settledTable t o head p true)
   unfolding settledTable settlementOf afterSettling
   settle-answered =
-      let e : settlementOf t o head (p .place) true ≡ Kept = cond-yes (fits t o head (p .place)) _ _ f in
+      let e : settlementOf t o head p true ≡ Kept = cond-yes (fits t o head (p .place)) _ _ f in
       (e, subst (λ (r : Settled). HeadKept t o head (afterSettling t o head p r)) (sym e) head-kept)
 
   module _ (H : Fair o p) where
@@ -400,10 +401,10 @@ module _ (t o head : List ℕ) (p : Peer) (y : inForm t o ≡ true) (f : fits t 
             (at-make head _ (sym (c .sameUse) ∙ at-used head _ q) (sym (c .samePlace) ∙ at-place head _ q)))
             (eq-or-ne (heldAt (join (dropped t o (heldAt t head)) o p) head) (freeAt (dropped t o (heldAt t head))))
 
-    pub settle-silent : (settlementOf t o head (p .place) false ≡ Swapped) × HeadGone t o head (p .place) (idIn p) (addressesIn p) (settledTable t o head p false)
+    pub settle-silent : (settlementOf t o head p false ≡ Swapped) × HeadGone t o head (p .place) (idIn p) (addressesIn p) (settledTable t o head p false)
     unfolding settledTable settlementOf afterSettling
     settle-silent =
-        let e : settlementOf t o head (p .place) false ≡ Swapped = cond-yes (fits t o head (p .place)) _ _ f in
+        let e : settlementOf t o head p false ≡ Swapped = cond-yes (fits t o head (p .place)) _ _ f in
         (e, subst (λ (r : Settled). HeadGone t o head (p .place) (idIn p) (addressesIn p) (afterSettling t o head p r)) (sym e) head-gone)
 
 -- "Evicting a head that answered" can't be: where it answered, every contact of the table is still there

@@ -8,30 +8,32 @@ use lib.ListN.{length, getD, drop}
 use lib.Dec.{ltb}
 use Rattle.octets.specs.Search.{count}
 use Rattle.octets.specs.Octets.{Bytes}
+use Rattle.limits.specs.Limits.{mostId, mostAddress, mostAddresses, addressesSize, placeSize}
 use Rattle.place.specs.Place.{placeOf, bucketOf}
 use Rattle.contacts.specs.Table.{slotSize, slotsOf, slot, mark, used, doubtful, place, id, addresses}
 use Rattle.contacts.specs.Form.{inForm}
 use Rattle.contacts.specs.Claims.{GivesFirst}
+use Rattle.refusal.specs.declared.Refusal.the-variants.{NoContactSlot, NoLongerFits}
 use Rattle.peer.specs.declared.Peer.{Peer}
 use Rattle.peer.specs.Peers.{idIn, addressesIn}
-use Rattle.sightings.specs.declared.Sighting.the-variants.{Moved, Joined, Full, NoSlot}
-use Rattle.sightings.specs.declared.Settled.the-variants.{Kept, Swapped, Stale}
-use Rattle.sightings.specs.declared.Removed.the-variants.{Gone, NotHeld}
-use Rattle.sightings.specs.declared.Doubted.the-variants as doubted
+use Rattle.sightings.specs.declared.Sighting.the-variants as seen
+use Rattle.sightings.specs.declared.Settled.the-variants as settle
+use Rattle.sightings.specs.declared.Removed.the-variants as remove
+use Rattle.sightings.specs.declared.Doubted.the-variants as doubt
 use Rattle.sightings.specs.Order.{ofBucket, isAt, isHead, heldAt, freeAt, tailOf, freeBytes, dropped}
 use Rattle.sightings.specs.Sightings.{held, sightingOf, seenTable, settlementOf, settledTable, removalOf, removedTable, markingOf, markedTable}
 
 -- a peer that may come in: an id of 1 to 64 bytes, up to four addresses of 1 to 128, a place that isn't ours
 pub record Fair (ours : List ℕ) (p : Peer) : Type 0 where
   pub idLeast : 1 ≤ p .size
-  pub idMost : p .size ≤ 64
-  pub few : p .count ≤ 4
-  pub sizes : (k : ℕ) → k < p .count → (1 ≤ getD (p .lens) k 0) × (getD (p .lens) k 0 ≤ 128)
+  pub idMost : p .size ≤ mostId
+  pub few : p .count ≤ mostAddresses
+  pub sizes : (k : ℕ) → k < p .count → (1 ≤ getD (p .lens) k 0) × (getD (p .lens) k 0 ≤ mostAddress)
   pub other : bucketOf (p .place) ours < 256
-  pub lensLong : length (p .lens) ≡ 4
-  pub placeLong : length (p .place) ≡ 32
-  pub idLong : length (p .id) ≡ 64
-  pub addrsLong : length (p .addrs) ≡ 512
+  pub lensLong : length (p .lens) ≡ mostAddresses
+  pub placeLong : length (p .place) ≡ placeSize
+  pub idLong : length (p .id) ≡ mostId
+  pub addrsLong : length (p .addrs) ≡ addressesSize
 
 -- two slots say the same of a contact
 pub record SameContact (s v : List ℕ) : Type 0 where
@@ -138,35 +140,35 @@ pub record Promised (t ours : List ℕ) : Type 0 where
   pub counted : (b : ℕ) → tailOf t ours b ≡ holds t ours b
   -- seen of a contact that is held
   pub moved : (p : Peer) → Fair ours p → held t (p .place) ≡ true
-      → (sightingOf t ours (p .place) ≡ Moved (heldAt t (p .place))) × HeldSeen t ours (p .place) (addressesIn p) (heldAt t (p .place)) (seenTable t ours p)
+      → (sightingOf t ours p ≡ seen.Moved (heldAt t (p .place))) × HeldSeen t ours (p .place) (addressesIn p) (heldAt t (p .place)) (seenTable t ours p)
   -- seen of one that isn't. Its bucket holds 20: nothing changes, and the head is named
   pub full : (p : Peer) → held t (p .place) ≡ false → 20 ≤ holds t ours (bucketOf (p .place) ours)
-      → (h : ℕ) × (sightingOf t ours (p .place) ≡ Full h) × (h < slotsOf t) × (isHead ours (bucketOf (p .place) ours) (slot t h) ≡ true) × (seenTable t ours p ≡ t)
+      → (h : ℕ) × (sightingOf t ours p ≡ seen.Probe h) × (h < slotsOf t) × (isHead ours (bucketOf (p .place) ours) (slot t h) ≡ true) × (seenTable t ours p ≡ t)
   -- the bucket has room: it joins where some slot is free, and else nothing changes
   pub joined : (p : Peer) → Fair ours p → held t (p .place) ≡ false → holds t ours (bucketOf (p .place) ours) < 20
-      → (j : ℕ) → j < slotsOf t → used (slot t j) ≡ false → (sightingOf t ours (p .place) ≡ Joined (freeAt t)) × NewSeen t ours (p .place) (idIn p) (addressesIn p) (freeAt t) (seenTable t ours p)
+      → (j : ℕ) → j < slotsOf t → used (slot t j) ≡ false → (sightingOf t ours p ≡ seen.Joined (freeAt t)) × NewSeen t ours (p .place) (idIn p) (addressesIn p) (freeAt t) (seenTable t ours p)
   pub noSlot : (p : Peer) → held t (p .place) ≡ false → holds t ours (bucketOf (p .place) ours) < 20
-      → ((j : ℕ) → j < slotsOf t → used (slot t j) ≡ true) → (sightingOf t ours (p .place) ≡ NoSlot) × (seenTable t ours p ≡ t)
+      → ((j : ℕ) → j < slotsOf t → used (slot t j) ≡ true) → (sightingOf t ours p ≡ seen.Refused NoContactSlot) × (seenTable t ours p ≡ t)
   -- settle, where it fits: the head answered, the head was silent; and where it doesn't
   pub kept : (head : List ℕ) (p : Peer) → StillFits t ours head (p .place)
-      → (settlementOf t ours head (p .place) true ≡ Kept) × HeadKept t ours head (settledTable t ours head p true)
+      → (settlementOf t ours head p true ≡ settle.Kept) × HeadKept t ours head (settledTable t ours head p true)
   pub swapped : (head : List ℕ) (p : Peer) → Fair ours p → StillFits t ours head (p .place)
-      → (settlementOf t ours head (p .place) false ≡ Swapped) × HeadGone t ours head (p .place) (idIn p) (addressesIn p) (settledTable t ours head p false)
+      → (settlementOf t ours head p false ≡ settle.Swapped) × HeadGone t ours head (p .place) (idIn p) (addressesIn p) (settledTable t ours head p false)
   pub stale : (head : List ℕ) (p : Peer) (answered : Bool) → (StillFits t ours head (p .place) → ⊥)
-      → (settlementOf t ours head (p .place) answered ≡ Stale) × (settledTable t ours head p answered ≡ t)
+      → (settlementOf t ours head p answered ≡ settle.Refused NoLongerFits) × (settledTable t ours head p answered ≡ t)
   -- "Evicting a head that answered" can't be: where it answered, every contact is still there
   pub unevicted : (head : List ℕ) (p : Peer) (j : ℕ) → j < slotsOf t → SameContact (slot (settledTable t ours head p true) j) (slot t j)
   -- remove of a contact that is held, and of one that isn't
-  pub gone : (p : List ℕ) → held t p ≡ true → (removalOf t p ≡ Gone) × Freed t ours p (heldAt t p) (removedTable t ours p)
-  pub notHeld : (p : List ℕ) → held t p ≡ false → (removalOf t p ≡ NotHeld) × (removedTable t ours p ≡ t)
+  pub gone : (p : List ℕ) → held t p ≡ true → (removalOf t p ≡ remove.Gone) × Freed t ours p (heldAt t p) (removedTable t ours p)
+  pub notHeld : (p : List ℕ) → held t p ≡ false → (removalOf t p ≡ remove.Refused NoLongerFits) × (removedTable t ours p ≡ t)
   -- "Freed slots are used again": after a remove nobody is refused for want of a slot
-  pub reused : (p q : List ℕ) → held t p ≡ true → sightingOf (removedTable t ours p) ours q ≡ NoSlot → ⊥
+  pub reused : (p : List ℕ) (q : Peer) → held t p ≡ true → sightingOf (removedTable t ours p) ours q ≡ seen.Refused NoContactSlot → ⊥
   -- doubt of a contact that is held, and of one that isn't
-  pub marked : (p : List ℕ) → held t p ≡ true → (markingOf t p ≡ doubted.Marked) × OnlyMarked t (heldAt t p) (markedTable t p)
-  pub doubtNotHeld : (p : List ℕ) → held t p ≡ false → (markingOf t p ≡ doubted.NotHeld) × (markedTable t p ≡ t)
+  pub marked : (p : List ℕ) → held t p ≡ true → (markingOf t p ≡ doubt.Marked) × OnlyMarked t (heldAt t p) (markedTable t p)
+  pub doubtNotHeld : (p : List ℕ) → held t p ≡ false → (markingOf t p ≡ doubt.Refused NoLongerFits) × (markedTable t p ≡ t)
   -- "Bucket order, probes and room ignore the mark": a sighting and a settle then come to what they would have come to
-  pub sightingIgnores : (p q : List ℕ) → sightingOf (markedTable t p) ours q ≡ sightingOf t ours q
-  pub settleIgnores : (p head q : List ℕ) (answered : Bool) → settlementOf (markedTable t p) ours head q answered ≡ settlementOf t ours head q answered
+  pub sightingIgnores : (p : List ℕ) (q : Peer) → sightingOf (markedTable t p) ours q ≡ sightingOf t ours q
+  pub settleIgnores : (p head : List ℕ) (q : Peer) (answered : Bool) → settlementOf (markedTable t p) ours head q answered ≡ settlementOf t ours head q answered
   -- "being seen, or answering a probe, clears the mark": whoever a call above puts at a tail is the first for its own place
   pub given : Bytes t → (p : List ℕ) (i : ℕ) → AtTail ours p i t → GivesFirst t p i
 

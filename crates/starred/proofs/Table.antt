@@ -70,7 +70,7 @@ third = (TooLong, refl, λ m s w. call-runs fresh m (128 ∷ 128 ∷ 128 ∷ s) 
 -- ---- the empty message as a request
 emptied : Holds (badRequest [] 8)
 unfolding dealOf readingOf wellMessage wellFormed fieldsOf merged messageOf items fields fieldsAt fieldsFrom fieldAt more nextOf numbers spans values parts every allOf lastOf verdictOf putVerdict
-emptied = (BreaksRules, refl, λ me who t k y. refl)
+emptied = (BreaksRules, refl, λ me who l. refl)
 
 -- ---- buckets: the bits that follow don't count
 starts : (s b : List ℕ) → startsWith (bits s) b ≡ true → bits s ≡ b ++ drop (length b) (bits s)

@@ -8,17 +8,19 @@ use lib.ListN.{length, take}
 use lib.Seq.{sets}
 use lib.IntN.{ℤ, pos, negℤ}
 use Rattle.octets.specs.Octets.{startsWith}
+use Rattle.limits.specs.Limits.{mostBody}
 use Rattle.refusal.specs.declared.Refusal.{Refusal}
 use Rattle.refusal.specs.Refusal.{numberOf}
 use Rattle.place.specs.Place.{isPlace, bits, bucketOf}
 use Rattle.stream.specs.declared.Framing.the-variants.{Shut, Body}
 use Rattle.stream.specs.declared.Answer.the-variants as stream
-use Rattle.stream.specs.Stream.{bodyLimit, fresh, out, receiveOf}
+use Rattle.stream.specs.Stream.{fresh, out, receiveOf}
 use Rattle.recipe.specs.declared.Varint.the-variants.{Is}
 use Rattle.recipe.specs.Recipe.{trimOf, zigzagOf, varint, These, setpoints, countOf, roomOf, sequenceOf, isRecipe}
 use Rattle.records.specs.declared.Answer.the-variants as store
 use Rattle.records.specs.Store.{isKey, inForm, putAnswer}
 use Rattle.peer.specs.declared.Peer.{Peer}
+use Rattle.replies.specs.Lent.{Lent}
 use Rattle.replies.specs.Verdicts.{refused}
 use Rattle.answer.specs.Answers.{dealOf}
 
@@ -53,13 +55,13 @@ abbrev pub Holds : Row → Type 0
 -- a connection that opens, with any large enough receive buffer m, and s after the prefix: n bytes of s are taken as a message, which stands at the buffer's start;
 -- fewer are all taken, and more are asked for
 Holds (prefix bs n) =
-    (m s : List ℕ) → bodyLimit ≤ length m
+    (m s : List ℕ) → mostBody ≤ length m
     → (n ≤ length s → receiveOf fresh m (bs ++ s) ≡ out fresh (length bs + n) (stream.Message n) (sets m 0 (take n s)))
     × (length s < n → receiveOf fresh m (bs ++ s) ≡ out (Body n (length s)) (length bs + length s) stream.More (sets m 0 s))
 -- the same, whatever follows the prefix: the connection is shut, and the buffer stays
-Holds (badPrefix bs taken n) = ByNumber n (λ r. (m s : List ℕ) → bodyLimit ≤ length m → receiveOf fresh m (bs ++ s) ≡ out Shut taken (stream.Refused r) m)
--- whoever we and the requester are, and whatever contacts t, records k and reply buffer y are lent: the records and the reply buffer stay
-Holds (badRequest body n) = ByNumber n (λ r. (me who : Peer) (t k y : List ℕ) → dealOf me who body t k y ≡ refused r k y)
+Holds (badPrefix bs taken n) = ByNumber n (λ r. (m s : List ℕ) → mostBody ≤ length m → receiveOf fresh m (bs ++ s) ≡ out Shut taken (stream.Refused r) m)
+-- whoever we and the requester are, and whatever is lent: all of it stays
+Holds (badRequest body n) = ByNumber n (λ r. (me who : Peer) (l : Lent) → dealOf me who body l ≡ refused r l)
 -- there and back
 Holds (zigzag trim z) = (zigzagOf trim ≡ z) × (trimOf z ≡ trim)
 -- whatever follows

@@ -7,6 +7,7 @@ use lib.ListN.{length}
 use lib.Dec.{ltb, leb, eqb}
 use borrow.Author.Tests.{lt-ltb, le-ltb, lt-leb, le-leb, eq-eqb, ne-eqb, ltb-true, leb-true}
 use Rattle.octets.proofs.Bools.{cond-yes, cond-no, and-l, and-r}
+use Rattle.limits.specs.Limits.{mostBody}
 use Rattle.refusal.specs.declared.Refusal.the-variants as no
 use Rattle.stream.specs.declared.Held.{Held}
 use Rattle.stream.specs.declared.Held.the-variants.{Nothing, One, Two}
@@ -17,7 +18,7 @@ use Rattle.stream.specs.declared.Ending.the-variants as ends
 use Rattle.stream.specs.declared.Ended.{Ended}
 use Rattle.stream.specs.declared.Lead.{Lead}
 use Rattle.stream.specs.declared.Lead.the-variants.{On, Length, Bad}
-use Rattle.stream.specs.Stream.{bodyLimit, heldForm, inForm, isShut, limited, minimal, prefixStep, Out, stays, stayed, runOf, Gives, receiveOf, ended, endIn, endOf}
+use Rattle.stream.specs.Stream.{heldForm, inForm, isShut, limited, minimal, prefixStep, Out, stays, stayed, runOf, Gives, receiveOf, ended, endIn, endOf}
 
 -- ---- form
 pub two-low : (h : Held) (a b : ℕ) → h ≡ Two a b → a < 128 → false ≡ heldForm h
@@ -34,19 +35,19 @@ body-fits f want have e l = sym (ap inForm e ∙ ap (λ (t : Bool). t && ltb hav
 
 -- a body in form is short of its length, and no longer than the largest
 pub body-short : (want have : ℕ) → inForm (Body want have) ≡ true → have < want
-body-short want have h = ltb-true have want (and-r (leb want bodyLimit) (ltb have want) h)
+body-short want have h = ltb-true have want (and-r (leb want mostBody) (ltb have want) h)
 
-pub body-small : (want have : ℕ) → inForm (Body want have) ≡ true → want ≤ bodyLimit
-body-small want have h = leb-true want bodyLimit (and-l (leb want bodyLimit) (ltb have want) h)
+pub body-small : (want have : ℕ) → inForm (Body want have) ≡ true → want ≤ mostBody
+body-small want have h = leb-true want mostBody (and-l (leb want mostBody) (ltb have want) h)
 
 -- ---- a length
 pub over-limit : (n : ℕ) → 16384 < n → Bad no.TooLong ≡ limited n
 unfolding limited
-over-limit n l = sym (cond-yes (ltb bodyLimit n) (Bad no.TooLong) (Length n) (lt-ltb _ _ l))
+over-limit n l = sym (cond-yes (ltb mostBody n) (Bad no.TooLong) (Length n) (lt-ltb _ _ l))
 
 pub in-limit : (n : ℕ) → n ≤ 16384 → Length n ≡ limited n
 unfolding limited
-in-limit n l = sym (cond-no (ltb bodyLimit n) (Bad no.TooLong) (Length n) (le-ltb _ _ l))
+in-limit n l = sym (cond-no (ltb mostBody n) (Bad no.TooLong) (Length n) (le-ltb _ _ l))
 
 pub zero-last : (z n : ℕ) → z ≡ 0 → Bad no.PrefixNotMinimal ≡ minimal z n
 unfolding minimal
@@ -103,7 +104,7 @@ gives-by o o′ r m e g = rw e g
 
 module _ (f : Framing) (m bs : List ℕ) where
   abbrev rest : Out
-  rest = cond (ltb (length m) bodyLimit) (stays f m no.SmallBuffer) (cond (isShut f) (stays f m no.Shut) (runOf f m bs))
+  rest = cond (ltb (length m) mostBody) (stays f m no.SmallBuffer) (cond (isShut f) (stays f m no.Shut) (runOf f m bs))
 
   pub call-bad : inForm f ≡ false → receiveOf f m bs ≡ stays f m no.OutOfForm
   unfolding receiveOf
@@ -113,16 +114,16 @@ module _ (f : Framing) (m bs : List ℕ) where
   unfolding receiveOf
   call-good h = cond-no (not (inForm f)) (stays f m no.OutOfForm) rest (ap not h)
 
-  pub call-small : inForm f ≡ true → length m < bodyLimit → receiveOf f m bs ≡ stays f m no.SmallBuffer
-  call-small h l = call-good h ∙ cond-yes (ltb (length m) bodyLimit) _ _ (lt-ltb _ _ l)
+  pub call-small : inForm f ≡ true → length m < mostBody → receiveOf f m bs ≡ stays f m no.SmallBuffer
+  call-small h l = call-good h ∙ cond-yes (ltb (length m) mostBody) _ _ (lt-ltb _ _ l)
 
-  call-fits : inForm f ≡ true → bodyLimit ≤ length m → receiveOf f m bs ≡ cond (isShut f) (stays f m no.Shut) (runOf f m bs)
-  call-fits h l = call-good h ∙ cond-no (ltb (length m) bodyLimit) _ _ (le-ltb _ _ l)
+  call-fits : inForm f ≡ true → mostBody ≤ length m → receiveOf f m bs ≡ cond (isShut f) (stays f m no.Shut) (runOf f m bs)
+  call-fits h l = call-good h ∙ cond-no (ltb (length m) mostBody) _ _ (le-ltb _ _ l)
 
-  pub call-shut : inForm f ≡ true → bodyLimit ≤ length m → isShut f ≡ true → receiveOf f m bs ≡ stays f m no.Shut
+  pub call-shut : inForm f ≡ true → mostBody ≤ length m → isShut f ≡ true → receiveOf f m bs ≡ stays f m no.Shut
   call-shut h l s = call-fits h l ∙ cond-yes (isShut f) _ _ s
 
-  pub call-runs : inForm f ≡ true → bodyLimit ≤ length m → isShut f ≡ false → receiveOf f m bs ≡ runOf f m bs
+  pub call-runs : inForm f ≡ true → mostBody ≤ length m → isShut f ≡ false → receiveOf f m bs ≡ runOf f m bs
   call-runs h l s = call-fits h l ∙ cond-no (isShut f) _ _ s
 
   -- what each answer of `receive` gives

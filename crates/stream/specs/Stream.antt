@@ -5,6 +5,7 @@ use mathlib.Core.List.{List, [], _∷_}
 use mathlib.Core.Bool.{Bool, true, false, cond, not, _&&_}
 use lib.ListN.{length, set}
 use lib.Dec.{ltb, leb, eqb}
+use Rattle.limits.specs.Limits.{mostBody}
 use Rattle.refusal.specs.declared.Refusal.{Refusal}
 use Rattle.refusal.specs.declared.Refusal.the-variants as no
 use Rattle.stream.specs.declared.Held.{Held}
@@ -20,10 +21,6 @@ use Rattle.stream.specs.declared.Ended.{Ended}
 use Rattle.stream.specs.declared.Lead.{Lead}
 use Rattle.stream.specs.declared.Lead.the-variants.{On, Length, Bad}
 use Rattle.stream.specs.declared.Prefixed.{Prefixed}
-
--- "message over 16,384 bytes"
-abbrev pub bodyLimit : ℕ
-bodyLimit = 16384
 
 -- a connection that opens
 abbrev pub fresh : Framing
@@ -43,13 +40,13 @@ heldForm (Two a b) = leb 128 a && leb 128 b
 abbrev pub inForm : Framing → Bool
 inForm Shut = true
 inForm (Prefix h) = heldForm h
-inForm (Body want have) = leb want bodyLimit && ltb have want
+inForm (Body want have) = leb want mostBody && ltb have want
 
 -- ---- a byte of a prefix: "A message is an unsigned varint length, then the body"
 
 -- "a value over 16,384 gives 4"
 unfoldable pub limited : ℕ → Lead
-limited n = cond (ltb bodyLimit n) (Bad no.TooLong) (Length n)
+limited n = cond (ltb mostBody n) (Bad no.TooLong) (Length n)
 
 -- "At the closing prefix byte: a zero byte that isn't the first gives 3"
 unfoldable pub minimal : ℕ → ℕ → Lead
@@ -130,7 +127,7 @@ pub record Gives (o : Out) (r : Received) (m : List ℕ) : Type 0 where
 unfoldable pub receiveOf : Framing → List ℕ → List ℕ → Out
 receiveOf f m bs =
     cond (not (inForm f)) (stays f m no.OutOfForm)
-    (cond (ltb (length m) bodyLimit) (stays f m no.SmallBuffer)
+    (cond (ltb (length m) mostBody) (stays f m no.SmallBuffer)
     (cond (isShut f) (stays f m no.Shut)
     (runOf f m bs)))
 

@@ -6,9 +6,6 @@ ghost use lib.ListN.{length, drop};
 ghost use Rattle.stream.specs.Stream.{fresh, heldForm, inForm, isShut, limited, minimal, prefixStep, prefixOf, stayed, shift, runOf, Gives, receiveOf, endIn, endOf, ended};
 ghost use Rattle.stream.specs.Inner.{goesOn, heldOf, begunOf};
 
-// The largest message.
-pub const BODY_LIMIT: usize = 16384;
-
 // The bytes of a prefix that are there, each with its top bit set.
 pub enum Held {
     Nothing,
@@ -106,7 +103,7 @@ pub fn in_form(framing: Framing) -> bool
         Framing::Shut => true,
         Framing::Prefix(held) => held_form(held),
         Framing::Body { want, have } => {
-            if BODY_LIMIT < want {
+            if limits::MOST_BODY < want {
                 return false;
             }
             have < want
@@ -124,7 +121,7 @@ fn wide(b: u8) -> usize
 fn limit(n: usize) -> Lead
     ensures { λ r. ⌜ r ≡ limited n ⌝ }
 {
-    if BODY_LIMIT < n {
+    if limits::MOST_BODY < n {
         return Lead::Bad(Refusal::TooLong);
     }
     Lead::Length(n)
@@ -312,7 +309,7 @@ pub fn receive(framing: Framing, buffer: &mut [u8], piece: &[u8]) -> Received
     if !in_form(framing) {
         return stay(framing, Refusal::OutOfForm);
     }
-    if buffer.len() < BODY_LIMIT {
+    if buffer.len() < limits::MOST_BODY {
         return stay(framing, Refusal::SmallBuffer);
     }
     match framing {

@@ -12,16 +12,17 @@ use borrow.Author.Tests.{ltb-true, ltb-false}
 use Rattle.octets.specs.Octets.{part}
 use Rattle.octets.proofs.Parts.{part-length}
 use Rattle.octets.proofs.Bools.{cond-ind}
+use Rattle.limits.specs.Limits.{mostBody}
 use Rattle.refusal.specs.declared.Refusal.the-variants as no
 use Rattle.stream.specs.declared.Framing.{Framing}
 use Rattle.stream.specs.declared.Answer.{Answer}
 use Rattle.stream.specs.declared.Answer.the-variants.{Message, Refused, More}
 use Rattle.stream.specs.declared.Received.{Received}
-use Rattle.stream.specs.Stream.{bodyLimit, fresh, isShut, inForm, Out, out, runOf, stays, Gives, receiveOf}
+use Rattle.stream.specs.Stream.{fresh, isShut, inForm, Out, out, runOf, stays, Gives, receiveOf}
 use Rattle.cutting.specs.World.{Did, Mark, Line, Shared, isMore, feed, Sound}
 use Rattle.cutting.specs.Claims.{alone, opened, Anyone}
 use Rattle.stream.proofs.Steps.{call-small, call-shut, call-runs}
-use Rattle.cutting.proofs.Lists.{part-rest}
+use Rattle.octets.proofs.Lists.{part-rest}
 use Rattle.cutting.proofs.Kept.{run-form, run-length, run-within, run-some, run-all, receive-within}
 use Rattle.cutting.proofs.World.{lands, play, play-nil, play-append, play-shut, play-run, handed-play}
 use Rattle.cutting.proofs.Claims.{own-receive}
@@ -58,9 +59,9 @@ pub record Going (m₀ bs m : List ℕ) (f : Framing) (at k : ℕ) : Type 0 wher
   pub few : k ≤ at
   pub long : length m ≡ length m₀
   pub form : inForm f ≡ true
-  pub short : length m₀ < bodyLimit → (k ≡ 0) × (m ≡ m₀)
+  pub short : length m₀ < mostBody → (k ≡ 0) × (m ≡ m₀)
   pub order : List (Mark ⊥)
-  pub same : bodyLimit ≤ length m₀ → plays (opened tt m₀ 0) bs ≡ plays (standing f m at k order) (drop at bs)
+  pub same : mostBody ≤ length m₀ → plays (opened tt m₀ 0) bs ≡ plays (standing f m at k order) (drop at bs)
 
 pub going : (m bs : List ℕ) (f : Framing) → f ≡ fresh → Going m bs m f 0 0
 going m bs f e =
@@ -102,37 +103,37 @@ module _ (m₀ bs m : List ℕ) (f : Framing) (at k e : ℕ) (r : Received) (m�
     buffer-is : m′ ≡ o .buffer
     buffer-is = g .buffer ∙ ap (λ (x : Out). x .buffer) q
 
-  room : bodyLimit ≤ length m₀ → bodyLimit ≤ length m
+  room : mostBody ≤ length m₀ → mostBody ≤ length m
   room h = let x : length m ≡ length m₀ = v .long in omega arith
 
-  no-room : length m₀ < bodyLimit → length m < bodyLimit
+  no-room : length m₀ < mostBody → length m < mostBody
   no-room h = let x : length m ≡ length m₀ = v .long in omega arith
 
   -- a call that took a byte was on an open connection with room
-  runs : bodyLimit ≤ length m₀ → (r .taken ≡ 0 → ⊥) → receiveOf f m piece ≡ runOf f m piece
+  runs : mostBody ≤ length m₀ → (r .taken ≡ 0 → ⊥) → receiveOf f m piece ≡ runOf f m piece
   runs h z = go (isShut f) refl
     where
       go : (t : Bool) → isShut f ≡ t → receiveOf f m piece ≡ runOf f m piece
       go true s = absurd (z (ap (λ (x : Received). x .taken) (got-is _ (call-shut f m piece (v .form) (room h) s))))
       go false s = call-runs f m piece (v .form) (room h) s
 
-  opens : bodyLimit ≤ length m₀ → (r .taken ≡ 0 → ⊥) → isShut f ≡ false
+  opens : mostBody ≤ length m₀ → (r .taken ≡ 0 → ⊥) → isShut f ≡ false
   opens h z = go (isShut f) refl
     where
       go : (t : Bool) → isShut f ≡ t → isShut f ≡ false
       go true s = absurd (z (ap (λ (x : Received). x .taken) (got-is _ (call-shut f m piece (v .form) (room h) s))))
       go false s = s
 
-  has-room : (r .taken ≡ 0 → ⊥) → bodyLimit ≤ length m₀
-  has-room z = go (ltb (length m₀) bodyLimit) refl
+  has-room : (r .taken ≡ 0 → ⊥) → mostBody ≤ length m₀
+  has-room z = go (ltb (length m₀) mostBody) refl
     where
-      go : (t : Bool) → ltb (length m₀) bodyLimit ≡ t → bodyLimit ≤ length m₀
-      go true s = absurd (z (ap (λ (x : Received). x .taken) (got-is _ (call-small f m piece (v .form) (no-room (ltb-true (length m₀) bodyLimit s))))))
-      go false s = ltb-false (length m₀) bodyLimit s
+      go : (t : Bool) → ltb (length m₀) mostBody ≡ t → mostBody ≤ length m₀
+      go true s = absurd (z (ap (λ (x : Received). x .taken) (got-is _ (call-small f m piece (v .form) (no-room (ltb-true (length m₀) mostBody s))))))
+      go false s = ltb-false (length m₀) mostBody s
 
   pub goes-on : (r .taken ≡ 0 → ⊥) → (n : ℕ) → n ≡ messagesIn (r .answer) → Going m₀ bs m′ (r .framing) (at + r .taken) (k + n)
   goes-on z n c =
-      let h : bodyLimit ≤ length m₀ = has-room z in
+      let h : mostBody ≤ length m₀ = has-room z in
       let o : Out = runOf f m piece in
       let q : receiveOf f m piece ≡ o = runs h z in
       let R : r ≡ o .got = got-is o q in
@@ -157,7 +158,7 @@ module _ (m₀ bs m : List ℕ) (f : Framing) (at k e : ℕ) (r : Received) (m�
 abbrev Keeps : Host → Host → Type 0
 Keeps d y = (y .shared .state ≡ d .shared .state) × (y .line .buffer ≡ d .line .buffer)
 
-short-feed : (n : ℕ) (d : Host) (bs : List ℕ) → inForm (d .line .framing) ≡ true → length (d .line .buffer) < bodyLimit → Keeps d (feed (alone tally) 0 n d bs)
+short-feed : (n : ℕ) (d : Host) (bs : List ℕ) → inForm (d .line .framing) ≡ true → length (d .line .buffer) < mostBody → Keeps d (feed (alone tally) 0 n d bs)
 unfolding feed
 short-feed zero d bs h l = (refl, refl)
 short-feed (suc n) d bs h l =
@@ -169,28 +170,28 @@ short-feed (suc n) d bs h l =
     (cond-ind (Keeps d) (isShut f) d (feed (alone tally) 0 n y (drop 0 bs)) (λ z. (refl, refl)) (λ z. short-feed n y (drop 0 bs) h l))
 
 -- ---- the end of the loop
-by-play : (m₀ bs : List ℕ) (k : ℕ) (m : List ℕ) (y : Host) → bodyLimit ≤ length m₀ → plays (opened tt m₀ 0) bs ≡ y → k ≡ y .shared .state → m ≡ y .line .buffer → Counts m₀ bs k m
+by-play : (m₀ bs : List ℕ) (k : ℕ) (m : List ℕ) (y : Host) → mostBody ≤ length m₀ → plays (opened tt m₀ 0) bs ≡ y → k ≡ y .shared .state → m ≡ y .line .buffer → Counts m₀ bs k m
 by-play m₀ bs k m y h e p q =
     let E : hostOf m₀ bs ≡ y =
     handed-play (alone tally) sound 0 (opened tt m₀ 0) bs (record { line = record { form = refl; room = h; peer = λ z. tt }; good = tt }) ∙ e in
     record { count = p ∙ ap (λ (x : Host). x .shared .state) (sym E); buffer = q ∙ ap (λ (x : Host). x .line .buffer) (sym E) }
 
-by-short : (m₀ bs : List ℕ) (k : ℕ) (m : List ℕ) → length m₀ < bodyLimit → k ≡ 0 → m ≡ m₀ → Counts m₀ bs k m
+by-short : (m₀ bs : List ℕ) (k : ℕ) (m : List ℕ) → length m₀ < mostBody → k ≡ 0 → m ≡ m₀ → Counts m₀ bs k m
 by-short m₀ bs k m h p q = let s = short-feed (suc (length bs)) (opened tt m₀ 0) bs refl h in record { count = p ∙ sym (s .0); buffer = q ∙ sym (s .1) }
 
 pub all-read : (m₀ bs m : List ℕ) (f : Framing) (at k : ℕ) → Going m₀ bs m f at k → length bs ≤ at → Counts m₀ bs k m
-all-read m₀ bs m f at k v l = go (ltb (length m₀) bodyLimit) refl
+all-read m₀ bs m f at k v l = go (ltb (length m₀) mostBody) refl
   where
-    go : (t : Bool) → ltb (length m₀) bodyLimit ≡ t → Counts m₀ bs k m
-    go true s = let x = v .short (ltb-true (length m₀) bodyLimit s) in by-short m₀ bs k m (ltb-true (length m₀) bodyLimit s) (x .0) (x .1)
+    go : (t : Bool) → ltb (length m₀) mostBody ≡ t → Counts m₀ bs k m
+    go true s = let x = v .short (ltb-true (length m₀) mostBody s) in by-short m₀ bs k m (ltb-true (length m₀) mostBody s) (x .0) (x .1)
     go false s =
-        let h : bodyLimit ≤ length m₀ = ltb-false (length m₀) bodyLimit s in
+        let h : mostBody ≤ length m₀ = ltb-false (length m₀) mostBody s in
         by-play m₀ bs k m (standing f m at k (v .order)) h (v .same h ∙ ap (plays (standing f m at k (v .order))) (drop-of-length-le bs l) ∙ play-nil (alone tally) 0 (standing f m at k (v .order))) refl refl
 
 -- a call on a piece that took nothing: the connection is shut, or the buffer too short
 pub stopped : (m₀ bs m : List ℕ) (f : Framing) (at k e : ℕ) (r : Received) (m′ : List ℕ) → Going m₀ bs m f at k → at < e → e ≤ length bs
     → Gives (receiveOf f m (part bs at e)) r m′ → r .taken ≡ 0 → Counts m₀ bs k m′
-stopped m₀ bs m f at k e r m′ v l w g z = go (ltb (length m₀) bodyLimit) refl (isShut f) refl
+stopped m₀ bs m f at k e r m′ v l w g z = go (ltb (length m₀) mostBody) refl (isShut f) refl
   where
     p : List ℕ
     p = part bs at e
@@ -211,19 +212,19 @@ stopped m₀ bs m f at k e r m′ v l w g z = go (ltb (length m₀) bodyLimit) r
     kept : (o : Out) → receiveOf f m p ≡ o → m′ ≡ o .buffer
     kept o q = g .buffer ∙ ap (λ (x : Out). x .buffer) q
 
-    go : (t : Bool) → ltb (length m₀) bodyLimit ≡ t → (u : Bool) → isShut f ≡ u → Counts m₀ bs k m′
+    go : (t : Bool) → ltb (length m₀) mostBody ≡ t → (u : Bool) → isShut f ≡ u → Counts m₀ bs k m′
     go true s u c =
-        let h : length m₀ < bodyLimit = ltb-true (length m₀) bodyLimit s in
+        let h : length m₀ < mostBody = ltb-true (length m₀) mostBody s in
         let x = v .short h in
         let y : length m ≡ length m₀ = same-length in
         by-short m₀ bs k m′ h (x .0) (kept _ (call-small f m p (v .form) (omega arith)) ∙ x .1)
     go false s true c =
-        let h : bodyLimit ≤ length m₀ = ltb-false (length m₀) bodyLimit s in
+        let h : mostBody ≤ length m₀ = ltb-false (length m₀) mostBody s in
         let y : length m ≡ length m₀ = same-length in
         by-play m₀ bs k m′ (standing f m at k (v .order)) h (v .same h ∙ play-shut (alone tally) 0 (standing f m at k (v .order)) (drop at bs) c) refl
         (kept _ (call-shut f m p (v .form) (omega arith) c))
     go false s false c =
-        let h : bodyLimit ≤ length m₀ = ltb-false (length m₀) bodyLimit s in
+        let h : mostBody ≤ length m₀ = ltb-false (length m₀) mostBody s in
         let y : length m ≡ length m₀ = same-length in
         let q : receiveOf f m p ≡ runOf f m p = call-runs f m p (v .form) (omega arith) c in
         let a : 1 ≤ runOf f m p .got .taken = took-some (runOf f m p) refl in

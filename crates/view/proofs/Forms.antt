@@ -56,7 +56,7 @@ pub bytes-typed : Typed bytes bytes-ty
 bytes-typed M 𝓤 H A W κs r u is = shr-slice-lawful 𝓤 H A W (named 0) (κs .0) u8 .typed r _ is .0
 
 -- a position in the body
-abbrev pub position : Par
+abbrev pub position : Par 1
 position = record {
   slot = plain (λ _. usize);
   ty = tyInt w64;
@@ -68,7 +68,7 @@ position = record {
 }
 
 -- a peer, by where its bytes are
-abbrev pub peer : Par
+abbrev pub peer : Par 1
 peer = record {
   slot = plain (λ _. Q.the-row);
   ty = Q′.mir;

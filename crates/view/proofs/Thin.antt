@@ -52,7 +52,7 @@ abbrev pub B : Lfts 1 → RattleType
 B κs = T.the-row (namedLft 1 0 tt κs)
 
 -- the code: local 1 is the view, those after it are the further parameters, and the last two are its body and its positions
-abbrev pub thinFn : List Par → Ty → Name → Fn
+abbrev pub thinFn : List (Par 1) → Ty → Name → Fn
 thinFn xs τ #g = record {
   lifetimes = 1;
   outlives = [];
@@ -63,7 +63,7 @@ thinFn xs τ #g = record {
       (seq (call #g (copy (place (suc (suc (past xs 0))) []) ∷ copy (place (suc (suc (past xs 1))) []) ∷ copies xs 2) (place 0 [])) return));
 }
 
-module _ (xs : List Par) (S : Slot 1) (Says : (κs : Lfts 1) → View → Passed κs xs → typeAt S κs .Denot → Type 0) where
+module _ (xs : List (Par 1)) (S : Slot 1) (Says : (κs : Lfts 1) → View → Passed κs xs → typeAt S κs .Denot → Type 0) where
   abbrev pub f-ended : Ended
   f-ended = record { signature = record { lifetimes = 1; outlives = []; params = plain B ∷ slots xs; result = S }; kept = (yes, all yes (slots xs)) }
 
@@ -84,7 +84,7 @@ module _ (xs : List Par) (S : Slot 1) (Says : (κs : Lfts 1) → View → Passed
     abbrev pub G : (H : Heap 𝓤) (A : Atoms 𝓤) → Contract 𝓤
     G H A = tripleOf 𝓤 H A (g-ended .signature) (closing 𝓤 H A g-ended g-clauses)
 
-module _ (xs : List Par) (S : Slot 1) (Says : (κs : Lfts 1) → View → Passed κs xs → typeAt S κs .Denot → Type 0) (τ : Ty) (typed : Typed S τ) (#g : Name) where
+module _ (xs : List (Par 1)) (S : Slot 1) (Says : (κs : Lfts 1) → View → Passed κs xs → typeAt S κs .Denot → Type 0) (τ : Ty) (typed : Typed S τ) (#g : Name) where
   abbrev f-signature : Signature
   f-signature = f-ended xs S Says .signature
 

@@ -67,7 +67,7 @@ module _ {M : Type 1} (𝓤 : URA M) (H : Heap 𝓤) (A : Atoms 𝓤) (mem : Mem
   abbrev pub Made : Contract 𝓤
   Made = tripleOf 𝓤 H A v.signature (v.spec 𝓤 H A mem run)
 
-module _ (S : Slot 1) (Says : (κs : Lfts 1) → View → Passed κs [] → typeAt S κs .Denot → Type 0) where
+module _ (S : Slot 1) (Says : (κs : Lfts 1) → View → Passed {n = 1} κs [] → typeAt S κs .Denot → Type 0) where
   abbrev h-ended : Ended
   h-ended = record { signature = record { lifetimes = 1; outlives = []; params = body ∷ []; result = S }; kept = (yes, tt) }
 
@@ -82,7 +82,7 @@ module _ (S : Slot 1) (Says : (κs : Lfts 1) → View → Passed κs [] → type
     abbrev pub K : (H : Heap 𝓤) (A : Atoms 𝓤) → Contract 𝓤
     K H A = tripleOf 𝓤 H A (f-ended [] S Says .signature) (closing 𝓤 H A (f-ended [] S Says) (f-clauses [] S Says 𝓤))
 
-module _ (S : Slot 1) (Says : (κs : Lfts 1) → View → Passed κs [] → typeAt S κs .Denot → Type 0) (τ : Ty) (typed : Typed S τ) (#f : Name) where
+module _ (S : Slot 1) (Says : (κs : Lfts 1) → View → Passed {n = 1} κs [] → typeAt S κs .Denot → Type 0) (τ : Ty) (typed : Typed S τ) (#f : Name) where
   module _ {M : Type 1} (𝓤 : URA M) (H : Heap 𝓤) (A : Atoms 𝓤) (W : Given 𝓤 H A) (mem : Memory → SProp 𝓤) (run : Routine → Fun 𝓤) (κ : Lft) (q : Share) (s : RefT (List ℕ)) where
     abbrev w : Val
     w = sliceVal (s .ptr) (length (s .now))

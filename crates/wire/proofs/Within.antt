@@ -9,10 +9,10 @@ use lib.ListN.{length, take, drop, length-drop}
 use lib.Seq.{drop-drop, take-nil, length-take-le}
 use lib.Dec.{leb, ltb, eqb}
 use borrow.Author.Tests.{le-leb, lt-leb, leb-true, leb-false, ltb-true, ltb-false, lt-ltb, le-ltb}
+use Rattle.octets.proofs.Parts.{drop-take, part-part, part-length}
 use Rattle.octets.specs.Octets.{part}
 use Rattle.octets.specs.Search.{every}
 use Rattle.octets.proofs.Bools.{either, cond-ap}
-use Rattle.octets.proofs.Parts.{part-part, part-length}
 use Rattle.wire.specs.Wire.{varint, placed, varintAt, onVarint, endAt, onEnding, numberAt, fixedAt, bytesAt, contentAt, taggedAt, fieldAt, nextOf, more, fieldsFrom, fieldsAt, fields, fieldsIn, well, numbers, spanIf, consFound, spans}
 use Rattle.wire.specs.Items.{bytes, bad, cut, item, items, isField, values, parts}
 use Rattle.wire.specs.declared.Span.{Span}
@@ -257,13 +257,6 @@ module _ (s : List ℕ) where
   items-parts f = parts-spans s f (fields s)
 
 -- ---- a part of a string, read in place
--- for octets
-pub drop-take : (j n : ℕ) (s : List ℕ) → drop j (take n s) ≡ take (n - j) (drop j s)
-drop-take zero n s = let z : n - 0 ≡ n = omega arith in rw z
-drop-take (suc j) zero s = let e : 0 - suc j ≡ 0 = omega arith in rw e
-drop-take (suc j) (suc n) [] = sym (take-nil (suc n - suc j))
-drop-take (suc j) (suc n) (x ∷ s) = let e : suc n - suc j ≡ n - j = omega arith in rw e (drop-take j n s)
-
 module _ (s : List ℕ) (p : Span) (h : p .at ≤ p .end) (l : p .end ≤ length s) where
   in-moved : fieldsIn s p ≡ map (moved (p .at)) (fields (cut s p))
   unfolding fieldsIn

@@ -12,15 +12,16 @@ use Rattle.octets.specs.Octets.{part}
 use Rattle.octets.specs.Search.{every, allOf}
 use Rattle.octets.proofs.Bools.{either, and-fails, all-head, all-rest}
 use Rattle.octets.proofs.Searching.{every-head, every-tail}
+use Rattle.limits.specs.Limits.{mostAddresses, mostBody}
 use Rattle.wire.specs.Items.{bytes, minimal, tagged, written1, written, repeated, Put}
 use Rattle.wire_put.proofs.Digits.{minimal-pos}
 use Rattle.wire_put.proofs.Putting.{put-start, put-on, put-is}
-use Rattle.message.specs.Limits.{mostBody, mostAddresses}
 use Rattle.message.specs.Message.{Peer, encodePeer}
 use Rattle.pieces.specs.Writable.{peerFits, peerPiece, peerWith}
 use Rattle.pieces.proofs.Sizes.{fitting-peer}
 use Rattle.pieces.proofs.Pieces.{peer-piece}
-use Rattle.writer.specs.Writer.{two, addressesOf, peerSize, peerAt, peersOf}
+use Rattle.peer.specs.Addresses.{two, addressesOf}
+use Rattle.writer.specs.Writer.{peerSize, peerAt, peersOf}
 use Rattle.writer.specs.Inner.{countOf, entryBytes, sized, pieces}
 use Rattle.writer.specs.declared.Size.the-variants.{Is, Over}
 use Rattle.writer.proofs.Entries.{peers-next, peers-last}

@@ -9,7 +9,8 @@ use lib.Seq.{drop-drop, take-all}
 use lib.Dec.{leb}
 use borrow.Author.Tests.{le-leb, lt-leb, leb-true, leb-false}
 use Rattle.octets.specs.Octets.{part}
-use Rattle.writer.specs.Writer.{two, entriesFrom, entries, addressSize, addressAt, addressesOf, peerSize, peerAt, peersOf}
+use Rattle.peer.specs.Addresses.{two, entriesFrom, entries, addressSize, addressAt, addressesOf}
+use Rattle.writer.specs.Writer.{peerSize, peerAt, peersOf}
 use Rattle.writer.specs.Inner.{countOf}
 
 module _ {A : Type 0} (size : List ℕ → ℕ) (make : List ℕ → A) (pos : (s : List ℕ) → 0 < size s) where

@@ -11,11 +11,11 @@ use lib.Dec.{leb}
 use borrow.Author.Tests.{le-leb, lt-ltb, le-ltb, leb-true, leb-false}
 use Rattle.octets.specs.Search.{every}
 use Rattle.octets.proofs.Bools.{either, to-false, not-both, all-head, all-rest, all-one-more, all-none}
+use Rattle.limits.specs.Limits.{mostKey, mostBody, leastReply, mostKind}
 use Rattle.refusal.specs.declared.Refusal.the-variants.{SmallBuffer, Unwritable}
 use Rattle.wire.specs.Items.{num, bytes, minimal, tagged, written1, written, single, Put}
 use Rattle.wire_put.proofs.Digits.{minimal-one, minimal-three, minimal-pos}
 use Rattle.wire_put.proofs.Putting.{put-on, put-is, put-end, number-length, bytes-length, bytes-short, single-empty, single-full}
-use Rattle.message.specs.Limits.{mostBody, leastReply, mostKey, mostKind}
 use Rattle.message.specs.Message.{Record, Message, encodeRecord, heldItems, encode, frame}
 use Rattle.pieces.specs.Writable.{peerFits, recordFits, heldFits, recordPiece, recordWith, writable}
 use Rattle.pieces.proofs.Pieces.{record-piece}
@@ -26,6 +26,7 @@ use Rattle.writer.specs.declared.Size.{Size}
 use Rattle.writer.specs.declared.Size.the-variants.{Is, Over}
 use Rattle.writer.specs.declared.Written.the-variants.{Done, Refused}
 use Rattle.writer.proofs.Counting.{sized-is, sized-over, pieces-are}
+use Rattle.pieces.specs.Sizes.{mostRecordField}
 
 -- ---- the key
 pub key-none : (key : List ℕ) → length key ≡ 0 → (0 ≡ length (written (single 2 key))) × (0 ≤ 131)
@@ -75,11 +76,11 @@ module _ (rkey value : List ℕ) where
         yes : recordFits R ≡ true
         yes = ⊎-elim (λ q. q) (λ q. absurd (nz (en ∙ ap length (record-bytes-none R q)))) (either (recordFits R))
 
-pub held-says : (o : Option Record) (n : ℕ) → heldSize o ≡ Is n → (heldFits o ≡ true) × (n ≡ length (written (heldItems o))) × (n ≤ 2185)
+pub held-says : (o : Option Record) (n : ℕ) → heldSize o ≡ Is n → (heldFits o ≡ true) × (n ≡ length (written (heldItems o))) × (n ≤ mostRecordField)
 unfolding heldSize
 held-says o n e = go (heldFits o) refl
   where
-    go : (t : Bool) → heldFits o ≡ t → (heldFits o ≡ true) × (n ≡ length (written (heldItems o))) × (n ≤ 2185)
+    go : (t : Bool) → heldFits o ≡ t → (heldFits o ≡ true) × (n ≡ length (written (heldItems o))) × (n ≤ mostRecordField)
     go true q =
         let w : Is (length (written (heldItems o))) ≡ Is n = rw q at e in
         let z : length (written (heldItems o)) ≡ n = cc in

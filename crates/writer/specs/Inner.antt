@@ -6,8 +6,8 @@ use mathlib.Core.Option.{Option}
 use lib.ListN.{length}
 use lib.Dec.{leb}
 use Rattle.octets.specs.Search.{every, allOf}
+use Rattle.limits.specs.Limits.{mostBody}
 use Rattle.wire.specs.Items.{num, written1, written, single, repeated}
-use Rattle.message.specs.Limits.{mostBody}
 use Rattle.message.specs.Message.{Peer, Record, Message, encodePeer, heldItems, encode}
 use Rattle.pieces.specs.Writable.{peerFits, heldFits, recordPiece, peerPiece, recordWith, writable}
 use Rattle.writer.specs.Writer.{peersOf}

@@ -7,37 +7,15 @@ use lib.ListN.{length, getD, drop}
 use lib.Seq.{sets}
 use lib.Dec.{leb, ltb}
 use Rattle.octets.specs.Octets.{part}
+use Rattle.limits.specs.Limits.{leastReply}
 use Rattle.refusal.specs.declared.Refusal.the-variants.{SmallBuffer, Unwritable}
-use Rattle.message.specs.Limits.{leastReply}
 use Rattle.message.specs.Message.{Peer, Message, encode, frame}
+use Rattle.peer.specs.Addresses.{two, entries, addressesOf}
 use Rattle.pieces.specs.Writable.{recordWith, writable}
 use Rattle.writer.specs.declared.Written.{Written}
 use Rattle.writer.specs.declared.Written.the-variants.{Done, Refused}
 
 -- ---- peers and addresses as byte strings
-
--- two bytes as a number, the lower first
-unfoldable pub two : List ℕ → ℕ → ℕ
-two s at = getD s at 0 + getD s (at + 1) 0 * 256
-
--- a string read entry after entry, each of its own size; one that runs past the end ends the list. k entries at most
-unfoldable pub entriesFrom : {A : Type 0} → (List ℕ → ℕ) → (List ℕ → A) → ℕ → List ℕ → List A
-entriesFrom size make zero s = []
-entriesFrom size make (suc k) s = cond (leb (size s) (length s)) (make s ∷ entriesFrom size make k (drop (size s) s)) []
-
--- an entry has at least a byte, so there are no more than the string has
-unfoldable pub entries : {A : Type 0} → (List ℕ → ℕ) → (List ℕ → A) → List ℕ → List A
-entries size make s = entriesFrom size make (length s) s
-
--- an address in a list: a two-byte length and its bytes
-unfoldable pub addressSize : List ℕ → ℕ
-addressSize s = 2 + two s 0
-
-unfoldable pub addressAt : List ℕ → List ℕ
-addressAt s = part s 2 (addressSize s)
-
-unfoldable pub addressesOf : List ℕ → List (List ℕ)
-addressesOf s = entries addressSize addressAt s
 
 -- a peer in a list: a two-byte length of the id, the id, a byte for the connection, a two-byte length of the address list, the address list
 unfoldable pub peerSize : List ℕ → ℕ

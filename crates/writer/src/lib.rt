@@ -5,18 +5,18 @@ ghost use mathlib.Core.List.{[]};
 ghost use Prim.Native.Nat.{_+_, _-_, _*_, _≤_, _<_};
 ghost use lib.ListN.{length, getD};
 ghost use lib.Dec.{leb};
+ghost use Rattle.limits.specs.Limits.{mostKey, mostBody};
 ghost use Rattle.wire.specs.Items.{minimal, written, single, Put};
 ghost use mathlib.Core.List.{_++_};
 ghost use mathlib.Core.Bool.{cond};
 ghost use mathlib.Core.Option.{none, some};
 ghost use Rattle.message.specs.Message.{encode, frame};
 ghost use Rattle.pieces.specs.Writable.{peerPiece, recordWith, writable};
-ghost use Rattle.writer.specs.Writer.{two, addressSize, addressesOf, peerSize, peerAt, peersOf, messageWith, answerOf, outAfter};
+ghost use Rattle.peer.specs.Addresses.{two, addressSize, addressesOf};
+ghost use Rattle.writer.specs.Writer.{peerSize, peerAt, peersOf, messageWith, answerOf, outAfter};
 ghost use Rattle.writer.specs.Inner.{countOf, sized, pieces, heldSize, heldPiece, messagePieces, sizeOf};
+ghost use Rattle.pieces.specs.Sizes.{longField, mostRecordField};
 use refusal::Refusal;
-
-// A reply buffer has at least this many bytes: a body and its length prefix.
-pub const LEAST_REPLY: usize = 16387;
 
 const CLOSER: u8 = 8;
 
@@ -184,7 +184,7 @@ fn list_len(field: u8, s: &[u8]) -> Size
         if n == 0 {
             return Size::Over;
         }
-        if message::MOST_BODY - sum < n {
+        if limits::MOST_BODY - sum < n {
             return Size::Over;
         }
         sum += n;
@@ -211,7 +211,7 @@ fn put_list(buf: &mut [u8], from: usize, field: u8, s: &[u8]) -> usize
 
 // How many bytes the key's field has.
 fn key_len(key: &[u8]) -> usize
-    requires { ⌜ length (now key) ≤ 128 ⌝ }
+    requires { ⌜ length (now key) ≤ mostKey ⌝ }
     ensures { λ r. ⌜ (r ≡ length (written (single 2 (now (key .entry))))) × (r ≤ 131) ⌝ }
 {
     if key.len() == 0 {
@@ -236,11 +236,11 @@ fn held_len(held: bool, rkey: &[u8], value: &[u8]) -> Size
 
 // The size of a body from those of its parts, if it may be written.
 fn total(key: usize, held: usize, closer: usize, providers: usize) -> Size
-    requires { ⌜ (key ≤ 131) × (held ≤ 2185) × (closer ≤ 16384) × (providers ≤ 16384) ⌝ }
-    ensures { λ r. ⌜ r ≡ cond (leb (2 + key + held + closer + providers) 16384) (Size.Is (2 + key + held + closer + providers)) Size.Over ⌝ }
+    requires { ⌜ (key ≤ longField mostKey) × (held ≤ mostRecordField) × (closer ≤ mostBody) × (providers ≤ mostBody) ⌝ }
+    ensures { λ r. ⌜ r ≡ cond (leb (2 + key + held + closer + providers) mostBody) (Size.Is (2 + key + held + closer + providers)) Size.Over ⌝ }
 {
     let n = 2 + key + held + closer + providers;
-    if n <= message::MOST_BODY {
+    if n <= limits::MOST_BODY {
         return Size::Is(n);
     }
     Size::Over
@@ -258,10 +258,10 @@ fn body_len(
 ) -> Size
     ensures { λ r. ⌜ r ≡ sizeOf (messageWith kind (now (key .entry)) held (now (rkey .entry)) (now (value .entry)) (now (closer .entry)) (now (providers .entry))) ⌝ }
 {
-    if message::MOST_KIND < kind {
+    if limits::MOST_KIND < kind {
         return Size::Over;
     }
-    if message::MOST_KEY < key.len() {
+    if limits::MOST_KEY < key.len() {
         return Size::Over;
     }
     let Size::Is(h) = held_len(held, rkey, value) else {
@@ -320,7 +320,7 @@ pub fn write(
 ) -> Written
     ensures { λ r. ⌜ (r ≡ answerOf (now (out .entry)) (messageWith kind (now (key .entry)) held (now (rkey .entry)) (now (value .entry)) (now (closer .entry)) (now (providers .entry)))) × (now (out .exit) ≡ outAfter (now (out .entry)) (messageWith kind (now (key .entry)) held (now (rkey .entry)) (now (value .entry)) (now (closer .entry)) (now (providers .entry)))) ⌝ }
 {
-    if out.len() < LEAST_REPLY {
+    if out.len() < limits::LEAST_REPLY {
         return Written::Refused(Refusal::SmallBuffer);
     }
     let Size::Is(n) = body_len(kind, key, held, rkey, value, closer, providers) else {

@@ -18,7 +18,7 @@ serve-requires : tie.Need-serve-requires
 serve-requires c κs = sym (c .before .before .before .before .before .read .ensures) ∙ c .before .before .before .m .given .1
 
 returns : tie.Need-returns
-returns c = deal-refused _ _ _ _ _ _ _ (c .before .before .before .read .ensures) _ (c .before .r .given .1)
+returns c = deal-refused _ _ _ _ _ (c .before .before .before .read .ensures) _ (c .before .r .given .1)
 
 same-length : tie.Need-same-length
 same-length c = search needs
@@ -27,7 +27,7 @@ same-length-2 : tie.Need-same-length-2
 same-length-2 c = search needs
 
 returns-2 : tie.Need-returns-2
-returns-2 c = deal-whole _ _ _ _ _ _ _ (c .before .before .before .before .before .before .before .before .before .before .read .ensures) _ (c .before .before .before .before .before .before .before .before .m .given .1) _ _ _ (c .before .before .before .before .serve .ensures)
+returns-2 c = deal-whole _ _ _ _ _ (c .before .before .before .before .before .before .before .before .before .before .read .ensures) _ (c .before .before .before .before .before .before .before .before .m .given .1) _ _ _ (c .before .before .before .before .serve .ensures)
 
 pub answer-spec : {M : Type 1} → statement M
 answer-spec =

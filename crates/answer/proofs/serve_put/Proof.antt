@@ -1,4 +1,5 @@
 -- `serve_put`: the parts of the body that the reader found.
+use Rattle.replies.specs.Lent.{lent}
 use Rattle.answer.proofs.Serving.{key-inside, record-key-inside, value-inside, put-with, put-without}
 use borrow.Author.Needs.{needs}
 use Rattle.answer.proofs.serve_put.Statement.{statement}
@@ -23,10 +24,10 @@ same-length-2 : tie.Need-same-length-2
 same-length-2 c = search needs
 
 returns : tie.Need-returns
-returns c = put-with _ _ (c .before .before .before .before .before .before .before .before .before .before .before .before .before .before .before .before .pre) _ _ (c .before .before .before .before .before .before .before .before .before .before .if1 .taken) _ _ _ (c .before .before .before .before .before .before .before .cut .ensures) (c .before .before .before .before .before .before .cut2 .ensures) (c .before .before .before .before .before .cut3 .ensures) _ _ _ (c .before .before .before .before .answer-put .ensures)
+returns c = λ t. put-with _ _ (c .before .before .before .before .before .before .before .before .before .before .before .before .before .before .before .before .pre) (lent t _ _) (c .before .before .before .before .before .before .before .before .before .before .if1 .taken) _ _ _ (c .before .before .before .before .before .before .before .cut .ensures) (c .before .before .before .before .before .before .cut2 .ensures) (c .before .before .before .before .before .cut3 .ensures) _ _ _ (c .before .before .before .before .answer-put .ensures t)
 
 returns-2 : tie.Need-returns-2
-returns-2 c = put-without _ _ (c .before .before .before .before .before .before .pre) _ _ (c .if1 .left)
+returns-2 c = λ t. put-without _ _ (c .before .before .before .before .before .before .pre) (lent t _ _) (c .if1 .left)
 
 pub serve-put-spec : {M : Type 1} → statement M
 serve-put-spec =

@@ -30,14 +30,11 @@ slice-aggregate-doubt c = search needs
 doubt-requires : tie.Need-doubt-requires
 doubt-requires c κs = search needs
 
-doubt-outcome-requires : tie.Need-doubt-outcome-requires
-doubt-outcome-requires c κs = search needs
-
 same-length-3 : tie.Need-same-length-3
 same-length-3 c = search needs
 
 returns-3 : tie.Need-returns-3
-returns-3 c = doubt-taken (c .before .before .before .before .before .before .before .before .before .before .before .before .before .before .before .args .table .now) (c .before .before .before .before .before .before .before .before .before .before .before .before .before .before .before .args .ours .now) (c .before .before .before .before .before .before .before .before .before .before .before .before .before .before .before .args .id .now) (sym (c .before .before .before .before .before .before .before .before .before .before .in-form .ensures) ∙ not-false _ (c .before .before .before .before .before .before .before .before .before .if1 .left)) _ (c .before .before .before .before .before .before .before .before .judge .ensures) (c .before .before .before .before .before .before .before .if2 .left) _ _ _ (c .before .before .before .doubt .ensures) (c .doubt-outcome .ensures)
+returns-3 c = doubt-taken (c .before .before .before .before .before .before .before .before .before .before .before .before .before .before .args .table .now) (c .before .before .before .before .before .before .before .before .before .before .before .before .before .before .args .ours .now) (c .before .before .before .before .before .before .before .before .before .before .before .before .before .before .args .id .now) (sym (c .before .before .before .before .before .before .before .before .before .in-form .ensures) ∙ not-false _ (c .before .before .before .before .before .before .before .before .if1 .left)) _ (c .before .before .before .before .before .before .before .judge .ensures) (c .before .before .before .before .before .before .if2 .left) _ _ (c .before .before .doubt .ensures)
 
 pub doubt-spec : {M : Type 1} → statement M
 doubt-spec =
@@ -51,6 +48,5 @@ doubt-spec =
     returns-2
     slice-aggregate-doubt
     doubt-requires
-    doubt-outcome-requires
     same-length-3
     returns-3)

@@ -30,14 +30,11 @@ slice-aggregate-remove c = search needs
 remove-requires : tie.Need-remove-requires
 remove-requires c κs = search needs
 
-remove-outcome-requires : tie.Need-remove-outcome-requires
-remove-outcome-requires c κs = search needs
-
 same-length-3 : tie.Need-same-length-3
 same-length-3 c = search needs
 
 returns-3 : tie.Need-returns-3
-returns-3 c = remove-taken (c .before .before .before .before .before .before .before .before .before .before .before .before .before .before .before .args .table .now) (c .before .before .before .before .before .before .before .before .before .before .before .before .before .before .before .args .ours .now) (c .before .before .before .before .before .before .before .before .before .before .before .before .before .before .before .args .id .now) (sym (c .before .before .before .before .before .before .before .before .before .before .in-form .ensures) ∙ not-false _ (c .before .before .before .before .before .before .before .before .before .if1 .left)) _ (c .before .before .before .before .before .before .before .before .judge .ensures) (c .before .before .before .before .before .before .before .if2 .left) _ _ _ (c .before .before .before .remove .ensures) (c .remove-outcome .ensures)
+returns-3 c = remove-taken (c .before .before .before .before .before .before .before .before .before .before .before .before .before .before .args .table .now) (c .before .before .before .before .before .before .before .before .before .before .before .before .before .before .args .ours .now) (c .before .before .before .before .before .before .before .before .before .before .before .before .before .before .args .id .now) (sym (c .before .before .before .before .before .before .before .before .before .in-form .ensures) ∙ not-false _ (c .before .before .before .before .before .before .before .before .if1 .left)) _ (c .before .before .before .before .before .before .before .judge .ensures) (c .before .before .before .before .before .before .if2 .left) _ _ (c .before .before .remove .ensures)
 
 pub remove-spec : {M : Type 1} → statement M
 remove-spec =
@@ -51,6 +48,5 @@ remove-spec =
     returns-2
     slice-aggregate-remove
     remove-requires
-    remove-outcome-requires
     same-length-3
     returns-3)

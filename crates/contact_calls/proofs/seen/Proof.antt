@@ -36,14 +36,11 @@ peer-of-requires c κs = search needs
 seen-requires : tie.Need-seen-requires
 seen-requires c κs = search needs
 
-seen-outcome-requires : tie.Need-seen-outcome-requires
-seen-outcome-requires c κs = search needs
-
 same-length-4 : tie.Need-same-length-4
 same-length-4 c = search needs
 
 returns-4 : tie.Need-returns-4
-returns-4 c = seen-taken (c .before .before .before .before .before .before .before .before .before .before .before .before .before .before .before .before .before .args .table .now) (c .before .before .before .before .before .before .before .before .before .before .before .before .before .before .before .before .before .args .ours .now) (c .before .before .before .before .before .before .before .before .before .before .before .before .before .before .before .before .before .args .id .now) (c .before .before .before .before .before .before .before .before .before .before .before .before .before .before .before .before .before .args .client) (c .before .before .before .before .before .before .before .before .before .before .before .before .before .before .before .before .before .args .addresses .now) (sym (c .before .before .before .before .before .before .before .before .before .before .before .in-form .ensures) ∙ not-false _ (c .before .before .before .before .before .before .before .before .before .before .if1 .left)) _ (c .before .before .before .before .before .before .before .before .before .judge .ensures) (c .before .before .before .before .before .before .before .before .if2 .left) (c .before .before .before .before .before .before .before .if3 .left) _ _ _ _ (c .before .before .before .before .peer-of .ensures) (c .before .before .before .seen .ensures) (c .seen-outcome .ensures)
+returns-4 c = seen-taken (c .before .before .before .before .before .before .before .before .before .before .before .before .before .before .before .before .args .table .now) (c .before .before .before .before .before .before .before .before .before .before .before .before .before .before .before .before .args .ours .now) (c .before .before .before .before .before .before .before .before .before .before .before .before .before .before .before .before .args .id .now) (c .before .before .before .before .before .before .before .before .before .before .before .before .before .before .before .before .args .client) (c .before .before .before .before .before .before .before .before .before .before .before .before .before .before .before .before .args .addresses .now) (sym (c .before .before .before .before .before .before .before .before .before .before .in-form .ensures) ∙ not-false _ (c .before .before .before .before .before .before .before .before .before .if1 .left)) _ (c .before .before .before .before .before .before .before .before .judge .ensures) (c .before .before .before .before .before .before .before .if2 .left) (c .before .before .before .before .before .before .if3 .left) _ _ _ (c .before .before .before .peer-of .ensures) (c .before .before .seen .ensures)
 
 pub seen-spec : {M : Type 1} → statement M
 seen-spec =
@@ -59,6 +56,5 @@ seen-spec =
     returns-3
     peer-of-requires
     seen-requires
-    seen-outcome-requires
     same-length-4
     returns-4)

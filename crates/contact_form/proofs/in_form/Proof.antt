@@ -1,7 +1,8 @@
 -- `in_form` makes the index, and tests its entries.
 use mathlib.Core.Path.{refl, sym, _∙_}
 use borrow.Author.Tests.{not-true, not-false}
-use Rattle.contact_form.proofs.Index.{zeros, index-all, entries-le, form-is}
+use Rattle.contact_form.proofs.Index.{index-all, entries-le, form-is}
+use Rattle.octets.proofs.Lists.{zeros}
 use borrow.Author.Needs.{needs}
 use Rattle.contact_form.proofs.in_form.Statement.{statement}
 use Rattle.contact_form.proofs.in_form.Tie as tie

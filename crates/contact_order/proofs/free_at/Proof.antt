@@ -5,7 +5,8 @@ use mathlib.Core.Path.{_≡_}
 use Prim.Native.Nat.{ℕ, _-_, _<_, _≤_}
 use Rattle.contacts.specs.Table.{slot, used}
 use Rattle.contact_order.specs.Order.{freeAt}
-use Rattle.contact_order.proofs.Tests.{none-yet, none-still, found, not-found, free-yes, free-no}
+use Rattle.octets.proofs.Searching.{none-yet, none-more, found, not-found}
+use Rattle.contact_order.proofs.Tests.{free-yes, free-no}
 use Rattle.contact_order.proofs.free_at.Statement.{statement}
 use Rattle.contact_order.proofs.free_at.Tie as tie
 
@@ -35,7 +36,7 @@ loop-less : tie.Need-loop-less Inv-loop μ-loop
 loop-less c = omega arith
 
 loop-again : tie.Need-loop-again Inv-loop μ-loop
-loop-again c = (omega arith, none-still (λ (j : ℕ). not (used (slot (c .before .before .before .before .before .before .args .table .now) j))) _ (c .before .before .before .loop .inv .1) (free-no _ _ (c .before .mark-at .ensures) (c .if1 .left)))
+loop-again c = (omega arith, none-more (λ (j : ℕ). not (used (slot (c .before .before .before .before .before .before .args .table .now) j))) _ (c .before .before .before .loop .inv .1) (free-no _ _ (c .before .mark-at .ensures) (c .if1 .left)))
 
 returns-2 : tie.Need-returns-2 Inv-loop μ-loop
 unfolding freeAt

@@ -5,7 +5,7 @@ use mathlib.Core.Path.{_≡_, sym, _∙_}
 use Prim.Native.Nat.{ℕ, _-_, _<_, _≤_}
 use Rattle.contacts.specs.Table.{slot}
 use Rattle.contact_order.specs.Order.{isHead, headAt}
-use Rattle.contact_order.proofs.Tests.{none-yet, none-still, found, not-found}
+use Rattle.octets.proofs.Searching.{none-yet, none-more, found, not-found}
 use Rattle.contact_order.proofs.head_at.Statement.{statement}
 use Rattle.contact_order.proofs.head_at.Tie as tie
 
@@ -35,7 +35,7 @@ loop-less : tie.Need-loop-less Inv-loop μ-loop
 loop-less c = omega arith
 
 loop-again : tie.Need-loop-again Inv-loop μ-loop
-loop-again c = (omega arith, none-still (λ (j : ℕ). isHead (c .before .before .before .before .before .before .before .args .ours .now) (c .before .before .before .before .before .before .before .args .b) (slot (c .before .before .before .before .before .before .before .args .table .now) j)) _ (c .before .before .before .loop .inv .1) (sym (c .before .is-head .ensures) ∙ c .if1 .left))
+loop-again c = (omega arith, none-more (λ (j : ℕ). isHead (c .before .before .before .before .before .before .before .args .ours .now) (c .before .before .before .before .before .before .before .args .b) (slot (c .before .before .before .before .before .before .before .args .table .now) j)) _ (c .before .before .before .loop .inv .1) (sym (c .before .is-head .ensures) ∙ c .if1 .left))
 
 returns-2 : tie.Need-returns-2 Inv-loop μ-loop
 unfolding headAt

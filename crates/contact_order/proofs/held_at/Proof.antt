@@ -5,7 +5,7 @@ use mathlib.Core.Path.{_≡_, sym, _∙_}
 use Prim.Native.Nat.{ℕ, _-_, _<_, _≤_}
 use Rattle.contacts.specs.Table.{slot}
 use Rattle.contact_order.specs.Order.{isAt, heldAt}
-use Rattle.contact_order.proofs.Tests.{none-yet, none-still, found, not-found}
+use Rattle.octets.proofs.Searching.{none-yet, none-more, found, not-found}
 use Rattle.contact_order.proofs.held_at.Statement.{statement}
 use Rattle.contact_order.proofs.held_at.Tie as tie
 
@@ -38,7 +38,7 @@ loop-less : tie.Need-loop-less Inv-loop μ-loop
 loop-less c = omega arith
 
 loop-again : tie.Need-loop-again Inv-loop μ-loop
-loop-again c = (omega arith, none-still (λ (j : ℕ). isAt (c .before .before .before .before .before .before .before .before .args .p .now) (slot (c .before .before .before .before .before .before .before .before .args .table .now) j)) _ (c .before .before .before .loop .inv .1) (sym (c .before .is-at .ensures) ∙ c .if1 .left))
+loop-again c = (omega arith, none-more (λ (j : ℕ). isAt (c .before .before .before .before .before .before .before .before .args .p .now) (slot (c .before .before .before .before .before .before .before .before .args .table .now) j)) _ (c .before .before .before .loop .inv .1) (sym (c .before .is-at .ensures) ∙ c .if1 .left))
 
 returns-2 : tie.Need-returns-2 Inv-loop μ-loop
 unfolding heldAt

@@ -50,7 +50,7 @@ use denote.Triple.Spec.{Meets, tripleOf}
 use denote.Triple.Table.{entered, cited}
 use denote.Triple.Walked.{says, Stays, stay-none-slice, stay-slice, walkOf, goes-none-slice, goes-slice, Walks, ends-at, walked, walk-meets}
 use denote.Exit.{yes}
-use Rattle.contacts.specs.Table.{putSlot}
+use Rattle.contacts.specs.Table.{slotSize, putSlot}
 use Rattle.contact_slots.specs.declared.Contact.{Contact}
 use Rattle.contact_slots.specs.Slots.{slotBytes, contactIn, tableBytes, enough}
 use Rattle.contact_slots.proofs.Rows.{laidTo, laid-none, laid-all, laid-more, size-more}
@@ -136,7 +136,7 @@ module _ {M : Type 1} (𝓤 : URA M) (H : Heap 𝓤) (A : Atoms 𝓤) (W : Given
     le : i ≤ m
     long : length now ≡ k
     laid : now ≡ laidTo i ys room
-    size : length (tableBytes (take i ys)) ≡ i * 616
+    size : length (tableBytes (take i ys)) ≡ i * slotSize
 
   abbrev Nearer : Upto → Upto → Type 0
   Nearer j u = m - j .i < m - u .i
@@ -157,7 +157,7 @@ module _ {M : Type 1} (𝓤 : URA M) (H : Heap 𝓤) (A : Atoms 𝓤) (W : Given
   abbrev Own : List ℕ → Fml
   Own l = MutSlice (named 1) κ′ u8 .own (lent γ′ l) (s′ ∷ [])
 
-  exits : (l : List ℕ) → length l ≡ k → l ≡ roomAfter ys room (tableBytes ys) → length (tableBytes ys) ≡ m * 616
+  exits : (l : List ℕ) → length l ≡ k → l ≡ roomAfter ys room (tableBytes ys) → length (tableBytes ys) ≡ m * slotSize
       → ent 𝓤 (⋆ 𝓤 H A (‵ Shared ∷ ‵ (flft κ q) ∷ ‵ Res ∷ ‵ Fact ∷ ‵ (Own l) ∷ ‵ (flft κ′ q′) ∷ [])) (Post vunit)
   exits l long e size =
       qed W (‵ Shared ∷ ‵ (flft κ q) ∷ ‵ Res ∷ ‵ Fact ∷ ‵ (Own l) ∷ ‵ (flft κ′ q′) ∷ []) ∵
@@ -191,7 +191,7 @@ module _ {M : Type 1} (𝓤 : URA M) (H : Heap 𝓤) (A : Atoms 𝓤) (W : Given
 
     -- what `lay` says of the room's last bytes
     abbrev Said : List ℕ → Type 0
-    Said l = (l ≡ cond (enough m (u .now)) (putSlot (u .now) (u .i) (slotBytes elem)) (u .now)) × (length (slotBytes elem) ≡ 616)
+    Said l = (l ≡ cond (enough m (u .now)) (putSlot (u .now) (u .i) (slotBytes elem)) (u .now)) × (length (slotBytes elem) ≡ slotSize)
 
     abbrev next : (l : u .i < m) (z : List ℕ) → length z ≡ length (u .now) → Said z → Upto
     next l z e said = record {
@@ -200,7 +200,7 @@ module _ {M : Type 1} (𝓤 : URA M) (H : Heap 𝓤) (A : Atoms 𝓤) (W : Given
       le = omega arith;
       long = e ∙ u .long;
       laid = laid-more ys room (u .i) blank l (u .size) (said .1) (u .now) z (u .long) (u .laid) (said .0) ∙ ap (λ (j : ℕ). laidTo j ys room) (sym (add-one (u .i)));
-      size = ap (λ (j : ℕ). length (tableBytes (take j ys))) (add-one (u .i)) ∙ size-more ys room (u .i) blank l (u .size) (said .1) ∙ ap (λ (j : ℕ). j * 616) (sym (add-one (u .i)));
+      size = ap (λ (j : ℕ). length (tableBytes (take j ys))) (add-one (u .i)) ∙ size-more ys room (u .i) blank l (u .size) (said .1) ∙ ap (λ (j : ℕ). j * slotSize) (sym (add-one (u .i)));
     }
 
   module _ (𝓣 : Tables 𝓤 H) (known : Triple 𝓤 (𝓣 .C #g) (G 𝓤 H A mem run)) (gt : Room T.the-row m) (gr : Room u8 k) (l0 l1 l2 l3 l4 l5 l6 l7 l8 l9 l10 l11 : ℕ) where
@@ -223,7 +223,7 @@ module _ {M : Type 1} (𝓤 : URA M) (H : Heap 𝓤) (A : Atoms 𝓤) (W : Given
     goes-on : (u : Upto) → u .i < m → Sq W (At u) (runs C Λ En mir'.turn-1 (anyQ (Turned u)))
     unfolding afterTurn
     goes-on u l =
-        let fit : Fits w64 (u .i * 616) = record { fits = omega (arith, gt .1) } in
+        let fit : Fits w64 (u .i * slotSize) = record { fits = omega (arith, gt .1) } in
         let up : Fits w64 (u .i + 1) = record { fits = omega (arith, gt .0) } in
         let i-fits : u .i < 2 ^ 64 = omega (arith, gt .0) in
         assigns ! (bin ! (load ! (from ! (stop !)) (look ! 14 refl)) (load ! (from ! (stop !)) (look ! 16 refl)) tt) (from ! (stop !)) (init ! 12 refl (tt, tt)) $
@@ -232,7 +232,7 @@ module _ {M : Type 1} (𝓤 : URA M) (H : Heap 𝓤) (A : Atoms 𝓤) (W : Given
         assigns ! (agg ! (and-then ! (load ! (from ! (stop !)) (look ! 8 refl)) (and-then ! (load ! (from ! (fld ! refl (stop !))) (look-in ! 18 (sub ! 1 refl (whole !)))) (no-more !)))) (from ! (stop !)) (init ! 6 refl (tt, (tt, (record { fits = gr .0 }, tt)))) $
         assigns ! (bin ! (load ! (from ! (stop !)) (look ! 14 refl)) (lit ! tt) fit) (from ! (stop !)) (init ! 4 refl (tt, fit)) $
         assigns ! (bin ! (load ! (from ! (fld ! refl (stop !))) (look-in ! 20 (sub ! 0 refl (whole !)))) (load ! (from ! (stop !)) (look ! 4 refl)) tt) (from ! (stop !)) (init ! 2 refl (tt, tt)) $
-        rewrite ! 2 (λ (p : ℕ). ‵ (fat fullShare tyPtr l10 0 (vptr b p))) (sym (place-is 616 o (u .i))) refl $ move ! (24 ∷ 25 ∷ []) $
+        rewrite ! 2 (λ (p : ℕ). ‵ (fat fullShare tyPtr l10 0 (vptr b p))) (sym (place-is slotSize o (u .i))) refl $ move ! (24 ∷ 25 ∷ []) $
         looks-slice ! tt T.the-row (Is T.the-row) (shows 𝓤 H A T.the-row) vals (LL.tells T.the-type T′.the-laws) (LL.copy T.the-type T′.the-copy 𝓤 H A W) ys b o (λ p.
         elem-out ! T.the-row (Is T.the-row) (shows 𝓤 H A T.the-row) vals (LL.tells T.the-type T′.the-laws) p ys (u .i) blank b o l (λ ge.
         -- [contact i; what it owns; the others; what shuts; the fractured borrow; _11; …; _0; …; res; the fact; the room; [κ′]]
@@ -265,7 +265,7 @@ module _ {M : Type 1} (𝓤 : URA M) (H : Heap 𝓤) (A : Atoms 𝓤) (W : Given
         assigns ! (of-opd ! (unit-lit !)) (from ! (stop !)) (init ! 22 refl (tt, tt)) $
         returns ! (look ! 22 refl) $ forget ! 12 refl $ forget ! 14 refl $ forget ! 16 refl $ forget ! 18 refl $ forget ! 20 refl $ forget ! 22 refl $
         move ! (22 ∷ 23 ∷ []) $ free1 ! $ move ! (20 ∷ 21 ∷ []) $ free1 ! $ move ! (18 ∷ 19 ∷ []) $ free1 ! $ move ! (16 ∷ 17 ∷ []) $ free1 ! $ move ! (14 ∷ 15 ∷ []) $ free1 ! $ move ! (12 ∷ 13 ∷ []) $ free1 ! $ move ! (10 ∷ 11 ∷ []) $ free1 ! $ move ! (8 ∷ 9 ∷ []) $ free1 ! $ move ! (6 ∷ 7 ∷ []) $ free1 ! $ move ! (4 ∷ 5 ∷ []) $ free1 ! $ move ! (2 ∷ 3 ∷ []) $ free1 ! $ free1 ! $ free0 ! $
-        by ! (exits (u .now) (u .long) (u .laid ∙ ap (λ (j : ℕ). laidTo j ys room) e ∙ laid-all ys room) (ap (λ (c : List Contact). length (tableBytes c)) (sym (take-length ys) ∙ ap (λ (j : ℕ). take j ys) (sym e)) ∙ u .size ∙ ap (λ (j : ℕ). j * 616) e))
+        by ! (exits (u .now) (u .long) (u .laid ∙ ap (λ (j : ℕ). laidTo j ys room) e ∙ laid-all ys room) (ap (λ (c : List Contact). length (tableBytes c)) (sym (take-length ys) ∙ ap (λ (j : ℕ). take j ys) (sym e)) ∙ u .size ∙ ap (λ (j : ℕ). j * slotSize) e))
 
     turns : (u : Upto) → Sq W (At u) (runs C Λ En mir'.turn-1 (anyQ (Turned u)))
     turns u = elim (eq-or-lt-of-le (u .le)) [ inl e ↦ ends u (omega arith) | inr l ↦ goes-on u l ]

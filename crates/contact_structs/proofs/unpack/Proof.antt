@@ -65,6 +65,7 @@ use Rattle.contact_structs.proofs.unpack as f
 use Rattle.contact_structs.proofs.unpack.Statement as stated
 use Rattle.contact_structs.proofs.unpack.Code as code
 use Rattle.contact_structs.proofs.unpack.Code.Mir as mir'
+use Rattle.contacts.specs.Table.{slotSize}
 
 -- the machine values of a contact
 abbrev vals : Contact → List Val
@@ -218,7 +219,7 @@ module _ {M : Type 1} (𝓤 : URA M) (H : Heap 𝓤) (A : Atoms 𝓤) (W : Given
     goes-on : (u : Upto) → u .i < m → Sq W (At u) (runs C Λ En mir'.turn-1 (anyQ (Turned u)))
     unfolding afterTurn
     goes-on u l =
-        let fit : Fits w64 (u .i * 616) = record { fits = omega (arith, gt .1) } in
+        let fit : Fits w64 (u .i * slotSize) = record { fits = omega (arith, gt .1) } in
         let up : Fits w64 (u .i + 1) = record { fits = omega (arith, gt .0) } in
         let i-fits : u .i < 2 ^ 64 = omega (arith, gt .0) in
         let within : u .i < length (u .now) = omega (arith, u .long) in
@@ -226,7 +227,7 @@ module _ {M : Type 1} (𝓤 : URA M) (H : Heap 𝓤) (A : Atoms 𝓤) (W : Given
         rewrite ! 8 (λ (t : Bool). ‵ (fat fullShare tyBool l6 0 (vbool t))) (lt-ltb (u .i) m l) refl $ stays ! (load ! (from ! (stop !)) (look ! 8 refl)) $
         assigns ! (bin ! (load ! (from ! (stop !)) (look ! 12 refl)) (lit ! tt) fit) (from ! (stop !)) (init ! 6 refl (tt, fit)) $
         assigns ! (bin ! (load ! (from ! (fld ! refl (stop !))) (look-in ! 18 (sub ! 0 refl (whole !)))) (load ! (from ! (stop !)) (look ! 6 refl)) tt) (from ! (stop !)) (init ! 4 refl (tt, tt)) $
-        rewrite ! 4 (λ (p : ℕ). ‵ (fat fullShare tyPtr l8 0 (vptr b p))) (sym (place-is 616 o (u .i))) refl $ move ! (22 ∷ 23 ∷ 24 ∷ []) $
+        rewrite ! 4 (λ (p : ℕ). ‵ (fat fullShare tyPtr l8 0 (vptr b p))) (sym (place-is slotSize o (u .i))) refl $ move ! (22 ∷ 23 ∷ 24 ∷ []) $
         opens-slice ! tt T.the-row (u .now) b o $ elem-out ! T.the-row (Is T.the-row) (shows 𝓤 H A T.the-row) vals (LL.tells T.the-type T′.the-laws) fullShare (u .now) (u .i) blank b o within (λ ge.
         -- [contact i; what it owns; the others; the open borrow; obs; auth; _10; …; _0; …; the room; [κ′]]
         assigns ! (of-opd ! (load ! (from ! (hop ! (look ! 10 refl) (stop !))) (look-raw ! 0 refl))) (from ! (stop !)) (init ! 8 refl (LL.lawful T.the-type T′.the-laws 𝓤 H A W .typed (elem u) (vals (elem u)) ge .0)) $
@@ -241,7 +242,7 @@ module _ {M : Type 1} (𝓤 : URA M) (H : Heap 𝓤) (A : Atoms 𝓤) (W : Given
         land ! (from ! (stop !)) (store ! 12 refl (LL.lawful T.the-type T′.the-laws 𝓤 H A W .typed r (v ∷ []) is .0)) $
         assigns ! (bin ! (load ! (from ! (stop !)) (look ! 22 refl)) (lit ! tt) fit) (from ! (stop !)) (store ! 16 refl (tt, fit)) $
         assigns ! (bin ! (load ! (from ! (fld ! refl (stop !))) (look-in ! 28 (sub ! 0 refl (whole !)))) (load ! (from ! (stop !)) (look ! 16 refl)) tt) (from ! (stop !)) (init ! 10 refl (tt, tt)) $
-        rewrite ! 10 (λ (p : ℕ). ‵ (fat fullShare tyPtr l10 0 (vptr b p))) (sym (place-is 616 o (u .i))) refl $
+        rewrite ! 10 (λ (p : ℕ). ‵ (fat fullShare tyPtr l10 0 (vptr b p))) (sym (place-is slotSize o (u .i))) refl $
         assigns ! (of-opd ! (load ! (from ! (stop !)) (look ! 12 refl))) (from ! (hop ! (look ! 10 refl) (stop !))) (store-raw ! 4 refl (LL.lawful T.the-type T′.the-laws 𝓤 H A W .typed r (v ∷ []) is .0)) $
         move ! (4 ∷ 0 ∷ 6 ∷ 7 ∷ 8 ∷ 9 ∷ []) $
         -- [contact i; the result; the others; the open borrow; obs; auth; [κ′]; true; the room; what it owns; _10; …; _0; …]

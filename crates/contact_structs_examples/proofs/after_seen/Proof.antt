@@ -46,9 +46,9 @@ use denote.Exit.{yes}
 use Rattle.peer.specs.declared.Peer.{Peer}
 use Rattle.peer.proofs.Peer as P
 use Rattle.peer.proofs.Peer.Laws as P′
-use Rattle.contact_calls.specs.declared.SeenOutcome.{SeenOutcome}
-use Rattle.contact_calls.proofs.SeenOutcome as O
-use Rattle.contact_calls.proofs.SeenOutcome.Laws as O′
+use Rattle.sightings.specs.declared.Sighting.{Sighting}
+use Rattle.sightings.proofs.Sighting as O
+use Rattle.sightings.proofs.Sighting.Laws as O′
 use Rattle.host_calls.specs.Hosts.{seenAfter}
 use Rattle.contact_slots.specs.declared.Contact.{Contact}
 use Rattle.contact_slots.specs.Slots.{tableBytes}
@@ -142,8 +142,8 @@ module _ {M : Type 1} (𝓤 : URA M) (H : Heap 𝓤) (A : Atoms 𝓤) (W : Given
   asked : (ν l : ℕ) (δ : GName) → ent 𝓤 (onEntry 𝓤 H A g.signature (ν ∷ [], (κ, (κ-id, (κ-ad, tt)))) (fullShare, (q, (q-id, (q-ad, tt)))) (args l δ) (passed ν l)) (G 𝓤 H A mem run .pre (to ν l δ))
   asked ν l δ = qed W ((‵ (flft (ν ∷ []) fullShare) ⊛ ‵ (flft κ q) ⊛ ‵ (flft κ-id q-id) ⊛ ‵ (flft κ-ad q-ad) ⊛ ‵ ftrue) ∷ ‵ (owns (P.the-row ∷ MutSlice (named 0) (ν ∷ []) T.the-row ∷ MutSlice (named 1) κ u8 ∷ ShrSlice (named 2) κ-id u8 ∷ Boolean ∷ ShrSlice (named 3) κ-ad u8 ∷ []) (args l δ) (passed ν l)) ∷ []) ∵ join ! $ frame ! $ done !
 
-  abbrev Said : SeenOutcome → List Contact → List ℕ → Type 0
-  Said a zs r = (a ≡ seenOn me ys room id false) × (zs ≡ contactsAfter ys room After) × (r ≡ roomAfter ys room After)
+  abbrev Said : Sighting → List Contact → List ℕ → Type 0
+  Said a zs r = (a ≡ seenOn me ys room id false addresses) × (zs ≡ contactsAfter ys room After) × (r ≡ roomAfter ys room After)
 
   module _ (C : Calls 𝓤 H) (Λ : Loops 𝓤 H) (fm : FmC 𝓤 H (W .laws) C) (known : Triple 𝓤 (C #g) (G 𝓤 H A mem run)) where
     walk : Is P.the-row me (P-vals me) → Is Pair ys (mach ys ∷ []) → Room u8 k → Room u8 (length id) → Room u8 (length addresses)
@@ -169,7 +169,7 @@ module _ {M : Type 1} (𝓤 : URA M) (H : Heap 𝓤) (A : Atoms 𝓤) (W : Given
         fjoin ! $ owned ! P.the-row (Is P.the-row) (LL.makes P.the-type P′.the-plain 𝓤 H A) me _ gm $ fjoin ! $ nothing ! $ move ! (7 ∷ 0 ∷ []) $ join ! $
         move ! (7 ∷ 0 ∷ []) $ join ! $ move ! (7 ∷ 0 ∷ []) $ join ! $ move ! (5 ∷ 0 ∷ []) $ join ! $ use2 W (raw (G 𝓤 H A mem run .pre (to ν l6 δ))) (asked ν l6 δ) $
         calls-at ! fm (G 𝓤 H A mem run) known (to ν l6 δ) (and-then ! (load ! (from ! (stop !)) (look ! 27 refl)) (and-then ! (load ! (from ! (stop !)) (look ! 12 refl)) (and-then ! (load ! (from ! (stop !)) (look ! 8 refl)) (and-then ! (load ! (from ! (stop !)) (look ! 21 refl)) (and-then ! (false-lit !) (and-then ! (load ! (from ! (stop !)) (look ! 19 refl)) (no-more !))))))) (λ v.
-        use1 W (later (some (λ (a : SeenOutcome). ((‵ (flft (ν ∷ []) fullShare) ⊛ ‵ (flft κ q) ⊛ ‵ (flft κ-id q-id) ⊛ ‵ (flft κ-ad q-ad) ⊛ ‵ ftrue) ⊛ ‵ (O.the-row .own a (v ∷ []))) ⊛ raw (ensured 𝓤 H A g.ended (g.clauses 𝓤 H A mem run) (ν ∷ [], (κ, (κ-id, (κ-ad, tt)))) (args l6 δ) tt a)))) (id⊢ 𝓤 _) $ await ! tt $ pick ! (λ a.
+        use1 W (later (some (λ (a : Sighting). ((‵ (flft (ν ∷ []) fullShare) ⊛ ‵ (flft κ q) ⊛ ‵ (flft κ-id q-id) ⊛ ‵ (flft κ-ad q-ad) ⊛ ‵ ftrue) ⊛ ‵ (O.the-row .own a (v ∷ []))) ⊛ raw (ensured 𝓤 H A g.ended (g.clauses 𝓤 H A mem run) (ν ∷ [], (κ, (κ-id, (κ-ad, tt)))) (args l6 δ) tt a)))) (id⊢ 𝓤 _) $ await ! tt $ pick ! (λ a.
         split ! $ move ! (1 ∷ []) $
         use1 W (some (λ (c : Unit {0} × (List Contact × (List ℕ × (Unit {0} × (Unit {0} × (Unit {0} × Unit {0})))))). ‵ (lasts g.ended (ν ∷ [], (κ, (κ-id, (κ-ad, tt)))) (args l6 δ) c) ⊛ raw (fact 𝓤 (Said a (c .1 .0) (c .1 .1 .0))))) (id⊢ 𝓤 _) $ pick ! (λ c.
         split ! $ move ! (1 ∷ []) $ heard ! (Said a (c .1 .0) (c .1 .1 .0)) (λ said. fsplit ! $ move ! (1 ∷ []) $ fsplit ! $ fsplit ! $ move ! (1 ∷ []) $ feqL ! (λ lt.

@@ -4,9 +4,10 @@ use Prim.Native.Nat.{ℕ, _+_, _*_, _≤_}
 use mathlib.Core.List.{List}
 use lib.ListN.{length}
 use native.Mathlib.Omega.{arith}
-use Rattle.contact_table.specs.Table.{addressSize}
+use Rattle.contact_table.specs.Table.{slotSize, addressSize}
 use Rattle.contact_table.specs.Contact.{entryAddress}
-use Rattle.contact_table.proofs.Cuts.{cut-end, entry-address, entry-no-address, slot-most}
+use Rattle.contact_table.proofs.Cuts.{entry-address, entry-no-address, slot-most}
+use Rattle.octets.proofs.Parts.{cut-end}
 use borrow.Author.Needs.{needs}
 use Rattle.contact_table.proofs.address_of.Statement.{statement}
 use Rattle.contact_table.proofs.address_of.Tie as tie
@@ -24,7 +25,7 @@ part-result-end : tie.Need-part-result-end
 part-result-end c = search needs
 
 returns : tie.Need-returns
-returns c = cut-end (c .before .before .slot-of .result .now) (length (c .before .before .slot-of .result .now)) ∙ entry-no-address (c .before .before .slot-of .result .now) (c .before .before .before .before .args .k) (length (c .before .before .slot-of .result .now)) (subst (λ (s : List ℕ). length s ≤ 616) (sym (c .before .before .slot-of .ensures)) (slot-most (c .before .before .before .before .args .table .now) (c .before .before .before .before .args .i))) (c .before .if1 .taken) (omega arith) ∙ ap (λ (s : List ℕ). entryAddress s (c .before .before .before .before .args .k)) (c .before .before .slot-of .ensures)
+returns c = cut-end (c .before .before .slot-of .result .now) (length (c .before .before .slot-of .result .now)) ∙ entry-no-address (c .before .before .slot-of .result .now) (c .before .before .before .before .args .k) (length (c .before .before .slot-of .result .now)) (subst (λ (s : List ℕ). length s ≤ slotSize) (sym (c .before .before .slot-of .ensures)) (slot-most (c .before .before .before .before .args .table .now) (c .before .before .before .before .args .i))) (c .before .if1 .taken) (omega arith) ∙ ap (λ (s : List ℕ). entryAddress s (c .before .before .before .before .args .k)) (c .before .before .slot-of .ensures)
 
 mul-up-to : tie.Need-mul-up-to
 mul-up-to c = search needs

@@ -3,10 +3,12 @@ use mathlib.Core.Path.{_∙_}
 use lib.ListN.{length}
 use Prim.Native.Nat.{_*_}
 use native.Mathlib.Omega.{arith}
-use Rattle.contact_table.proofs.Cuts.{slot-none, slot-short, cut-end}
+use Rattle.contact_table.proofs.Cuts.{slot-none, slot-short}
+use Rattle.octets.proofs.Parts.{cut-end}
 use borrow.Author.Needs.{needs}
 use Rattle.contact_table.proofs.slot_of.Statement.{statement}
 use Rattle.contact_table.proofs.slot_of.Tie as tie
+use Rattle.contact_table.specs.Table.{slotSize}
 
 slot-at-requires : tie.Need-slot-at-requires
 slot-at-requires c κs = search needs
@@ -39,7 +41,7 @@ part-result-end-2 : tie.Need-part-result-end-2
 part-result-end-2 c = search needs
 
 returns-3 : tie.Need-returns-3
-returns-3 c = cut-end (c .before .before .before .before .args .table .now) (c .before .before .before .before .args .i * 616) ∙ slot-short (c .before .before .before .before .args .table .now) (c .before .before .before .before .args .i) (c .before .before .if1 .left)
+returns-3 c = cut-end (c .before .before .before .before .args .table .now) (c .before .before .before .before .args .i * slotSize) ∙ slot-short (c .before .before .before .before .args .table .now) (c .before .before .before .before .args .i) (c .before .before .if1 .left)
 
 pub slot-of-spec : {M : Type 1} → statement M
 slot-of-spec =

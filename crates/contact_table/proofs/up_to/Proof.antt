@@ -2,7 +2,7 @@
 use mathlib.Core.Path.{_∙_}
 use native.Mathlib.Omega.{arith}
 use lib.ListN.{length}
-use Rattle.contact_table.proofs.Cuts.{cut-end, cut-none, cut-few, cut-whole}
+use Rattle.octets.proofs.Parts.{cut-end, cut-none, cut-few, cut-whole}
 use borrow.Author.Needs.{needs}
 use Rattle.contact_table.proofs.up_to.Statement.{statement}
 use Rattle.contact_table.proofs.up_to.Tie as tie

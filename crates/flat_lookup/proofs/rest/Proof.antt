@@ -2,7 +2,7 @@
 use mathlib.Core.Path.{_∙_}
 use native.Mathlib.Omega.{arith}
 use lib.ListN.{length}
-use Rattle.contact_table.proofs.Cuts.{cut-end}
+use Rattle.octets.proofs.Parts.{cut-end}
 use Rattle.flat_lookup.proofs.Padding.{cut-past}
 use borrow.Author.Needs.{needs}
 use Rattle.flat_lookup.proofs.rest.Statement.{statement}

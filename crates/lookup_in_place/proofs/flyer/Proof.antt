@@ -1,9 +1,9 @@
 -- `flyer`: from i on. Assumes nothing.
 use Rattle.lookup_in_place.proofs.Parts.{all-there}
 use Rattle.flat_lookup.specs.FlatLookup.{lookupIn}
-use Rattle.lookup.proofs.Lists.{seek-hit, seek-miss, seek-end}
+use Rattle.octets.proofs.Finding.{seek-hit, seek-miss, seek-end}
 use Rattle.lookup_candidates.specs.Candidates.{flies}
-use Rattle.lookup.specs.Lists.{firstIn}
+use Rattle.octets.specs.Search.{firstIn}
 use native.Mathlib.Omega.{arith}
 use lib.ListN.{take, drop}
 use mathlib.Core.Path.{_≡_}

@@ -1,7 +1,7 @@
 -- `is_known`: none before i. Assumes nothing.
 use Rattle.lookup_in_place.proofs.Arrivals.{any-hit, any-miss, any-end}
 use Rattle.lookup_candidates.specs.Candidates.{liesAt}
-use Rattle.lookup.specs.Lists.{anyIn}
+use Rattle.octets.specs.Search.{anyIn}
 use Rattle.lookup_in_place.proofs.Parts.{all-there}
 use borrow.Author.Needs.{needs}
 use Rattle.flat_lookup.specs.FlatLookup.{lookupIn}

@@ -1,7 +1,7 @@
 -- `marks_in`: the first i marks stand there. Assumes nothing.
 use Rattle.lookup_in_place.proofs.Parts.{all-there, mark-filled}
 use Rattle.flat_lookup.specs.FlatLookup.{lookupIn}
-use Rattle.lookup.proofs.Lists.{Mapping, map-all}
+use Rattle.octets.proofs.Finding.{Mapping, map-all}
 use Rattle.lookup_candidates.specs.Candidates.{markOf}
 use native.Mathlib.Omega.{arith}
 use lib.ListN.{length-replicate}

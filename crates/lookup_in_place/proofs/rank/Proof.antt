@@ -1,7 +1,7 @@
 -- `rank`: all before i are nearer. Assumes nothing.
-use Rattle.lookup.proofs.Lists.{seek-hit, seek-miss, seek-end}
+use Rattle.octets.proofs.Finding.{seek-hit, seek-miss, seek-end}
 use Rattle.lookup.specs.Inner.{beyond}
-use Rattle.lookup.specs.Lists.{firstIn}
+use Rattle.octets.specs.Search.{firstIn}
 use Rattle.lookup_in_place.proofs.Parts.{all-there}
 use borrow.Author.Needs.{needs}
 use Rattle.flat_lookup.specs.FlatLookup.{lookupIn}

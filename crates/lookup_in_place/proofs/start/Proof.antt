@@ -1,7 +1,9 @@
 -- `start`: each refusal, or begun and settled. Assumes nothing.
 use mathlib.Core.Path.{refl}
 use lib.ListN.{length}
-use Rattle.lookup.specs.Lookup.{keyMost, limitMost, startOf}
+use Rattle.limits.specs.Limits.{mostKey}
+use Rattle.message.specs.Kinds.{keyFits}
+use Rattle.lookup.specs.Lookup.{limitMost, startOf}
 use Rattle.lookup.specs.Value.{Step}
 use Rattle.lookup.proofs.Starting.{range-most, start-form, start-key, start-own, start-limit, start-begun}
 use Rattle.lookup_in_place.proofs.Starting.{start-short, start-refused, start-settled, begun-settles}
@@ -70,7 +72,8 @@ returns-5 : tie.Need-returns-5
 returns-5 c = start-refused (c .before .before .before .before .before .before .before .before .before .before .before .before .before .before .before .before .before .before .args .m .now) _ (step (c .before .before .before .before .before .before .before .before .before .before .before .before .before .before .before .before .before .before)) _ _ (c .before .before .before .before .before .before .before .before .before .before .before .before .before .if1 .left) (start-limit _ _ _ _ _ _ _ (c .before .before .before .before .before .before .before .before .before .before .before .in-form .ensures) (c .before .before .before .before .before .before .before .before .before .before .if2 .left) _ (c .before .before .before .before .before .before .before .before .before .key-fits .ensures) (c .before .before .before .before .before .before .before .before .if3 .left) _ (c .before .before .before .before .before .before .before .id-fits .ensures) (c .before .before .before .before .before .before .if4 .left) _ (c .before .before .before .before .before .limit-fits .ensures) (c .before .before .before .before .if5 .taken) refl) (c .before .before .refuse4 .ensures)
 
 begin-requires : tie.Need-begin-requires
-begin-requires c κs = (c .before .before .before .before .before .before .before .before .before .before .if1 .left, range-most (length (c .before .before .before .before .before .before .before .before .before .before .before .before .before .before .before .args .key .now)) keyMost _ (c .before .before .before .before .before .before .key-fits .ensures) (c .before .before .before .before .before .if3 .left), range-most (c .before .before .before .before .before .before .before .before .before .before .before .before .before .before .before .args .limit) limitMost _ (c .before .before .limit-fits .ensures) (c .before .if5 .left))
+unfolding keyFits
+begin-requires c κs = (c .before .before .before .before .before .before .before .before .before .before .if1 .left, range-most (length (c .before .before .before .before .before .before .before .before .before .before .before .before .before .before .before .args .key .now)) mostKey _ (c .before .before .before .before .before .before .key-fits .ensures) (c .before .before .before .before .before .if3 .left), range-most (c .before .before .before .before .before .before .before .before .before .before .before .before .before .before .before .args .limit) limitMost _ (c .before .before .limit-fits .ensures) (c .before .if5 .left))
 
 settle-requires : tie.Need-settle-requires
 settle-requires c κs = begun-settles (c .before .before .before .before .before .before .before .before .before .before .before .before .before .before .before .before .before .before .before .args .m .now) _ (c .before .before .before .before .before .before .before .before .before .before .before .before .before .before .before .before .before .before .before .args .table .now) (c .before .before .before .before .before .before .before .before .before .before .before .before .before .before .before .before .before .before .before .args .key .now) (c .before .before .before .before .before .before .before .before .before .before .before .before .before .before .before .before .before .before .before .args .limit) (c .before .before .before .before .before .before .before .before .before .before .before .before .before .before .if1 .left) (c .before .before .before .begin .ensures)

@@ -1,60 +1,21 @@
--- `sent`: n of the first i are no longer idle. Assumes nothing.
-use Prim.Native.Nat.{_≤_, _-_}
-use mathlib.Core.Path.{_≡_, sym, _∙_}
-use lib.ListN.{length}
+-- `sent`: all but the idle. Assumes nothing.
 use native.Mathlib.Omega.{arith}
+use lib.ListN.{length}
 use borrow.Author.Needs.{needs}
-use Rattle.octets.specs.Search.{count}
-use Rattle.octets.proofs.Searching.{count-zero, count-le}
-use Rattle.lookup_marks.proofs.Scans.{asked, sent-end, sent-one, sent-none}
+use Rattle.octets.proofs.Searching.{count-le}
+use Rattle.lookup_marks.specs.Marks.{marked, idle}
+use Rattle.lookup_marks.proofs.Scans.{sent-rest}
 use Rattle.lookup_marks.proofs.sent.Statement.{statement}
 use Rattle.lookup_marks.proofs.sent.Tie as tie
 
-abbrev Inv-loop : tie.InvT-loop
-Inv-loop marks n₀ i₀ n i = (i ≤ length marks) × (n ≡ count i (asked marks))
+with-mark-requires : tie.Need-with-mark-requires
+with-mark-requires c κs = search needs
 
-abbrev μ-loop : tie.MeasureT-loop
-μ-loop marks n₀ i₀ n i = length marks - i
+sub-result : tie.Need-sub-result
+sub-result c = omega (arith, c .with-mark .ensures, count-le (marked idle (c .before .before .args .marks .now)) (length (c .before .before .args .marks .now)))
 
-loop-holds : tie.Need-loop-holds Inv-loop μ-loop
-loop-holds c = (omega arith, sym (count-zero (asked (c .args .marks .now))))
-
-shared-slice-read-m : tie.Need-shared-slice-read-m Inv-loop μ-loop
-shared-slice-read-m c = search needs
-
-add-i : tie.Need-add-i Inv-loop μ-loop
-add-i c = search needs
-
-loop-less : tie.Need-loop-less Inv-loop μ-loop
-loop-less c = search needs
-
-loop-again : tie.Need-loop-again Inv-loop μ-loop
-loop-again c = (omega arith, c .before .before .before .loop .inv .1 ∙ sym (sent-none (c .before .before .before .before .args .marks .now) (c .before .before .before .loop .i) (c .if1 .taken)))
-
-add-n : tie.Need-add-n Inv-loop μ-loop
-add-n c = omega (arith, count-le (asked (c .before .before .before .before .args .marks .now)) (c .before .before .before .loop .i))
-
-loop-less-2 : tie.Need-loop-less-2 Inv-loop μ-loop
-loop-less-2 c = search needs
-
-loop-again-2 : tie.Need-loop-again-2 Inv-loop μ-loop
-loop-again-2 c = (omega arith, omega (arith, c .before .before .before .loop .inv .1, sent-one (c .before .before .before .before .args .marks .now) (c .before .before .before .loop .i) (c .if1 .left)))
-
-returns : tie.Need-returns Inv-loop μ-loop
-returns c = c .before .loop .inv .1 ∙ sent-end _ _ (c .loop-test .left) (c .before .loop .inv .0)
+returns : tie.Need-returns
+returns c = sent-rest _ (c .with-mark .ensures)
 
 pub sent-spec : {M : Type 1} → statement M
-sent-spec =
-    tie.close
-    (tie.spec
-    Inv-loop
-    μ-loop
-    loop-holds
-    shared-slice-read-m
-    add-i
-    loop-less
-    loop-again
-    add-n
-    loop-less-2
-    loop-again-2
-    returns)
+sent-spec = tie.close (tie.spec with-mark-requires sub-result returns)

@@ -1,4 +1,6 @@
 -- `node::receive` meets its contract. Assumes nothing.
+use Rattle.replies.specs.Lent.{lent}
+use Rattle.node.specs.Node.{linked}
 use Rattle.node.proofs.Receiving.{receive-closed, receive-taken}
 use borrow.Author.Needs.{needs}
 use Rattle.node.proofs.receive.Statement.{statement}
@@ -32,7 +34,7 @@ same-length-4 : tie.Need-same-length-4
 same-length-4 c = search needs
 
 returns : tie.Need-returns
-returns c = let a = c .before .before .before .before .before .before .before .before .before .before .before .before .before .before .args in receive-closed (a .me) (a .conn) (a .buffer .now) (a .piece .now) (a .contacts .now) (a .records .now) (a .reply .now) _ (c .before .before .before .before .gate-of .ensures) _ _ (c .before .before .r .given .1) (c .hand-back .ensures)
+returns c = let a = c .before .before .before .before .before .before .before .before .before .before .before .before .before .before .args in receive-closed (a .me) (linked (a .conn) (a .buffer .now)) (a .piece .now) (lent (a .contacts .now) (a .records .now) (a .reply .now)) _ (c .before .before .before .before .gate-of .ensures) _ _ (c .before .before .r .given .1) (c .hand-back .ensures)
 
 same-length-5 : tie.Need-same-length-5
 same-length-5 c = search needs
@@ -47,7 +49,7 @@ same-length-8 : tie.Need-same-length-8
 same-length-8 c = search needs
 
 returns-2 : tie.Need-returns-2
-returns-2 c = let a = c .before .before .before .before .before .before .before .before .before .before .before .before .before .before .before .before .before .before .before .before .before .before .before .before .before .args in receive-taken (a .me) (a .conn) (a .buffer .now) (a .piece .now) (a .contacts .now) (a .records .now) (a .reply .now) _ (c .before .before .before .before .before .before .before .before .before .before .before .before .before .before .before .gate-of .ensures) _ _ _ _ _ (c .before .before .before .before .before .before .before .before .before .before .before .before .before .enum-told .given .1) (c .before .before .before .before .before .before .before .before .take-bytes .ensures)
+returns-2 c = let a = c .before .before .before .before .before .before .before .before .before .before .before .before .before .before .before .before .before .before .before .before .before .before .before .before .before .args in receive-taken (a .me) (linked (a .conn) (a .buffer .now)) (a .piece .now) (lent (a .contacts .now) (a .records .now) (a .reply .now)) _ (c .before .before .before .before .before .before .before .before .before .before .before .before .before .before .before .gate-of .ensures) _ _ _ _ _ (c .before .before .before .before .before .before .before .before .before .before .before .before .before .enum-told .given .1) (c .before .before .before .before .before .before .before .before .take-bytes .ensures)
 
 pub receive-spec : {M : Type 1} → statement M
 receive-spec =

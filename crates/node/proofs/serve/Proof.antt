@@ -1,4 +1,5 @@
 -- `node::serve` meets its contract. Assumes nothing.
+use Rattle.replies.specs.Lent.{lent}
 use Rattle.node.proofs.Receiving.{serve-refused, serve-replied}
 use borrow.Author.Needs.{needs}
 use Rattle.node.proofs.serve.Statement.{statement}
@@ -32,7 +33,7 @@ same-length-3 : tie.Need-same-length-3
 same-length-3 c = search needs
 
 returns : tie.Need-returns
-returns c = let a = c .before .before .before .before .before .before .before .before .before .before .before .before .before .before .before .before .before .args in serve-refused (a .me) (a .conn) (a .taken) (a .body .now) (a .contacts .now) (a .records .now) (a .reply .now) _ _ _ (c .before .before .before .before .before .before .before .before .answer .ensures) _ _ (c .before .before .r .given .1) (c .refuse .ensures)
+returns c = let a = c .before .before .before .before .before .before .before .before .before .before .before .before .before .before .before .before .before .args in serve-refused (a .me) (a .conn) (a .taken) (a .body .now) (lent (a .contacts .now) (a .records .now) (a .reply .now)) _ _ _ (c .before .before .before .before .before .before .before .before .answer .ensures) _ _ (c .before .before .r .given .1) (c .refuse .ensures)
 
 same-length-4 : tie.Need-same-length-4
 same-length-4 c = search needs
@@ -44,7 +45,7 @@ same-length-6 : tie.Need-same-length-6
 same-length-6 c = search needs
 
 returns-2 : tie.Need-returns-2
-returns-2 c = let a = c .before .before .before .before .before .before .before .before .before .before .before .before .before .before .before .before .before .before .before .before .before .args in serve-replied (a .me) (a .conn) (a .taken) (a .body .now) (a .contacts .now) (a .records .now) (a .reply .now) _ _ _ (c .before .before .before .before .before .before .before .before .before .before .before .before .answer .ensures) _ _ _ _ (c .before .before .before .before .before .before .n .given .1) (c .before .before .before .see-sender .ensures) (c .hand-back .ensures)
+returns-2 c = let a = c .before .before .before .before .before .before .before .before .before .before .before .before .before .before .before .before .before .before .before .before .before .args in serve-replied (a .me) (a .conn) (a .taken) (a .body .now) (lent (a .contacts .now) (a .records .now) (a .reply .now)) _ _ _ (c .before .before .before .before .before .before .before .before .before .before .before .before .answer .ensures) _ _ _ _ (c .before .before .before .before .before .before .n .given .1) (c .before .before .before .see-sender .ensures) (c .hand-back .ensures)
 
 pub serve-spec : {M : Type 1} → statement M
 serve-spec =

@@ -1,6 +1,8 @@
 -- `node::take_bytes` meets its contract. Assumes nothing.
 use native.Mathlib.Omega.{arith}
 use Rattle.connections.proofs.Bounds.{message-there, prefix-length}
+use Rattle.replies.specs.Lent.{lent}
+use Rattle.node.specs.Node.{linked}
 use Rattle.node.proofs.Receiving.{take-message, take-refused, take-more}
 use borrow.Author.Needs.{needs}
 use Rattle.node.proofs.take_bytes.Statement.{statement}
@@ -56,19 +58,19 @@ same-length-4 : tie.Need-same-length-4
 same-length-4 c = search needs
 
 returns : tie.Need-returns
-returns c = let a = c .before .before .before .before .before .before .before .before .before .before .before .before .before .before .before .before .before .before .before .before .before .before .before .before .args in take-message (a .me) (a .conn) (a .buffer .now) (a .piece .now) (a .contacts .now) (a .records .now) (a .reply .now) _ _ (c .before .before .before .before .before .before .before .before .before .before .before .before .before .before .before .before .before .receive .ensures) _ (c .before .before .before .before .before .before .before .before .before .before .before .before .before .before .with-framing .ensures) _ _ _ _ _ (c .before .before .before .before .before .before .before .before .before .before .before .before .event .given .1) (c .before .before .before .before .before .before .whole .ensures)
+returns c = let a = c .before .before .before .before .before .before .before .before .before .before .before .before .before .before .before .before .before .before .before .before .before .before .before .before .args in take-message (a .me) (linked (a .conn) (a .buffer .now)) (a .piece .now) (lent (a .contacts .now) (a .records .now) (a .reply .now)) _ _ (c .before .before .before .before .before .before .before .before .before .before .before .before .before .before .before .before .before .receive .ensures) _ (c .before .before .before .before .before .before .before .before .before .before .before .before .before .before .with-framing .ensures) _ _ _ _ _ (c .before .before .before .before .before .before .before .before .before .before .before .before .event .given .1) (c .before .before .before .before .before .before .whole .ensures)
 
 same-length-5 : tie.Need-same-length-5
 same-length-5 c = search needs
 
 returns-2 : tie.Need-returns-2
-returns-2 c = let a = c .before .before .before .before .before .before .before .before .before .before .before .before .before .before .args in take-refused (a .me) (a .conn) (a .buffer .now) (a .piece .now) (a .contacts .now) (a .records .now) (a .reply .now) _ _ (c .before .before .before .before .before .before .before .receive .ensures) _ (c .before .before .before .before .with-framing .ensures) _ _ (c .before .before .event2 .given .1) (c .refuse .ensures)
+returns-2 c = let a = c .before .before .before .before .before .before .before .before .before .before .before .before .before .before .args in take-refused (a .me) (linked (a .conn) (a .buffer .now)) (a .piece .now) (lent (a .contacts .now) (a .records .now) (a .reply .now)) _ _ (c .before .before .before .before .before .before .before .receive .ensures) _ (c .before .before .before .before .with-framing .ensures) _ _ (c .before .before .event2 .given .1) (c .refuse .ensures)
 
 same-length-6 : tie.Need-same-length-6
 same-length-6 c = search needs
 
 returns-3 : tie.Need-returns-3
-returns-3 c = let a = c .before .before .before .before .before .before .before .before .before .before .before .before .before .args in take-more (a .me) (a .conn) (a .buffer .now) (a .piece .now) (a .contacts .now) (a .records .now) (a .reply .now) _ _ (c .before .before .before .before .before .before .receive .ensures) _ (c .before .before .before .with-framing .ensures) _ (c .before .enum-told .given .1) (c .hand-back .ensures)
+returns-3 c = let a = c .before .before .before .before .before .before .before .before .before .before .before .before .before .args in take-more (a .me) (linked (a .conn) (a .buffer .now)) (a .piece .now) (lent (a .contacts .now) (a .records .now) (a .reply .now)) _ _ (c .before .before .before .before .before .before .receive .ensures) _ (c .before .before .before .with-framing .ensures) _ (c .before .enum-told .given .1) (c .hand-back .ensures)
 
 pub take-bytes-spec : {M : Type 1} → statement M
 take-bytes-spec =

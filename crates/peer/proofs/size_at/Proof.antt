@@ -1,14 +1,10 @@
 -- `peer::size_at` meets its contract. Assumes nothing.
 use native.Mathlib.Omega.{arith}
 use Prim.Native.Nat.{_+_}
-use Rattle.peer.proofs.Lists.{size-read}
 use borrow.Author.Needs.{needs}
-use Prim.Native.Nat.{_+_}
+use Rattle.peer.proofs.Lists.{size-read}
 use Rattle.peer.proofs.size_at.Statement.{statement}
-use Prim.Native.Nat.{_+_}
 use Rattle.peer.proofs.size_at.Tie as tie
-use Prim.Native.Nat.{_+_}
-use Prim.Native.Nat.{_+_}
 
 shared-slice-read-low : tie.Need-shared-slice-read-low
 shared-slice-read-low c = search needs
@@ -32,7 +28,7 @@ add-result : tie.Need-add-result
 add-result c = omega (arith, c .shared-slice-known2 .given (c .before .before .args .at + 1), c .shared-slice-known2 .given (c .before .before .args .at))
 
 returns : tie.Need-returns
-returns c = (size-read (c .before .before .args .list .now) (c .before .before .args .at) (c .before .before .pre), omega (arith, c .shared-slice-known2 .given (c .before .before .args .at + 1), c .shared-slice-known2 .given (c .before .before .args .at)))
+returns c = (size-read (c .before .before .args .list .now) (c .before .before .args .at), omega (arith, c .shared-slice-known2 .given (c .before .before .args .at + 1), c .shared-slice-known2 .given (c .before .before .args .at)))
 
 pub size-at-spec : {M : Type 1} → statement M
 size-at-spec =

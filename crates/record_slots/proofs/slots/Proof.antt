@@ -1,15 +1,15 @@
--- `slots` counts the whole slots, up to 256.
-use native.Mathlib.Omega.{arith}
-use mathlib.Core.Path.{refl}
-use Rattle.record_slots.proofs.Laying.{slots-few, slots-many}
+-- `slots` counts as `keyed_slots` does.
+use mathlib.Core.Path.{_∙_}
+use Rattle.record_slots.proofs.Keyed.{slots-same}
+use borrow.Author.Needs.{needs}
 use Rattle.record_slots.proofs.slots.Statement.{statement}
 use Rattle.record_slots.proofs.slots.Tie as tie
 
-returns : tie.Need-returns
-returns c = slots-few (c .before .args .store .now) refl (omega arith)
+slots-requires : tie.Need-slots-requires
+slots-requires c κs = search needs
 
-returns-2 : tie.Need-returns-2
-returns-2 c = slots-many (c .before .args .store .now) refl (omega arith)
+returns : tie.Need-returns
+returns c = c .slots .ensures ∙ slots-same (c .before .before .args .store .now)
 
 pub slots-spec : {M : Type 1} → statement M
-slots-spec = tie.close (tie.spec returns returns-2)
+slots-spec = tie.close (tie.spec slots-requires returns)

@@ -10,7 +10,7 @@ same-bytes-requires : tie.Need-same-bytes-requires
 same-bytes-requires c κs = search needs
 
 returns : tie.Need-returns
-returns c = put-other _ _ _ _ _ _ (c .before .same-bytes .ensures) (c .if1 .taken)
+returns c = λ t. put-other t _ _ _ _ _ _ (c .before .same-bytes .ensures) (c .if1 .taken)
 
 offer-requires : tie.Need-offer-requires
 offer-requires c κs = search needs
@@ -31,13 +31,13 @@ same-length-2 : tie.Need-same-length-2
 same-length-2 c = search needs
 
 returns-2 : tie.Need-returns-2
-returns-2 c = put-taken _ _ _ _ _ _ (c .before .before .before .before .before .before .before .before .before .before .before .same-bytes .ensures) (c .before .before .before .before .before .before .before .before .before .before .if1 .left) _ (c .before .before .before .before .before .before .before .before .offer .ensures .1) (sym (c .before .before .before .before .before .before .before .before .offer .ensures .0) ∙ c .before .before .before .before .enum-told .given .1) _ _ (c .before .before .echo .ensures)
+returns-2 c = λ t. put-taken t _ _ _ _ _ _ (c .before .before .before .before .before .before .before .before .before .before .before .same-bytes .ensures) (c .before .before .before .before .before .before .before .before .before .before .if1 .left) _ (c .before .before .before .before .before .before .before .before .offer .ensures .1) (sym (c .before .before .before .before .before .before .before .before .offer .ensures .0) ∙ c .before .before .before .before .enum-told .given .1) _ _ (c .before .before .echo .ensures)
 
 same-length-3 : tie.Need-same-length-3
 same-length-3 c = search needs
 
 returns-3 : tie.Need-returns-3
-returns-3 c = put-refused _ _ _ _ _ _ (c .before .before .before .before .before .before .before .before .same-bytes .ensures) (c .before .before .before .before .before .before .before .if1 .left) _ (c .before .before .before .before .before .offer .ensures .1) _ (sym (c .before .before .before .before .before .offer .ensures .0) ∙ c .before .r .given .1)
+returns-3 c = λ t. put-refused t _ _ _ _ _ _ (c .before .before .before .before .before .before .before .before .same-bytes .ensures) (c .before .before .before .before .before .before .before .if1 .left) _ (c .before .before .before .before .before .offer .ensures .1) _ (sym (c .before .before .before .before .before .offer .ensures .0) ∙ c .before .r .given .1)
 
 pub answer-put-spec : {M : Type 1} → statement M
 answer-put-spec =

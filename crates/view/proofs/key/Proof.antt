@@ -20,7 +20,7 @@ use Rattle.view.proofs.key.Key.{name as #f}
 use Rattle.view.proofs.key.Statement as stated
 use Rattle.view.proofs.key.Code as code
 
-abbrev Says : (κs : Lfts 1) → View → Passed κs [] → typeAt forms.part κs .Denot → Type 0
+abbrev Says : (κs : Lfts 1) → View → Passed {n = 1} κs [] → typeAt forms.part κs .Denot → Type 0
 Says κs d a r = r ≡ keyOf (now (d .body)) (d .at)
 
 pub key-spec : {M : Type 1} → stated.statement M

@@ -23,7 +23,7 @@ use Rattle.view.proofs.key_of.Key.{name as #h}
 use Rattle.view.proofs.key_of.Statement as stated
 use Rattle.view.proofs.key_of.Code as code
 
-abbrev Says : (κs : Lfts 1) → View → Passed κs [] → typeAt forms.bytes κs .Denot → Type 0
+abbrev Says : (κs : Lfts 1) → View → Passed {n = 1} κs [] → typeAt forms.bytes κs .Denot → Type 0
 Says κs d a r = now r ≡ keyBytes (now (d .body)) (d .at)
 
 pub key-of-spec : {M : Type 1} → stated.statement M

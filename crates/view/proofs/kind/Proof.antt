@@ -20,7 +20,7 @@ use Rattle.view.proofs.kind.Key.{name as #f}
 use Rattle.view.proofs.kind.Statement as stated
 use Rattle.view.proofs.kind.Code as code
 
-abbrev Says : (κs : Lfts 1) → View → Passed κs [] → typeAt forms.number κs .Denot → Type 0
+abbrev Says : (κs : Lfts 1) → View → Passed {n = 1} κs [] → typeAt forms.number κs .Denot → Type 0
 Says κs d a r = r ≡ kindOf (now (d .body)) (d .at)
 
 pub kind-spec : {M : Type 1} → stated.statement M

@@ -20,7 +20,7 @@ use Rattle.view.proofs.record_key.Key.{name as #f}
 use Rattle.view.proofs.record_key.Statement as stated
 use Rattle.view.proofs.record_key.Code as code
 
-abbrev Says : (κs : Lfts 1) → View → Passed κs [] → typeAt forms.entry κs .Denot → Type 0
+abbrev Says : (κs : Lfts 1) → View → Passed {n = 1} κs [] → typeAt forms.entry κs .Denot → Type 0
 Says κs d a r = r ≡ recordKeyOf (now (d .body)) (d .at)
 
 pub record-key-spec : {M : Type 1} → stated.statement M

@@ -20,7 +20,7 @@ use Rattle.view.proofs.record_value.Key.{name as #f}
 use Rattle.view.proofs.record_value.Statement as stated
 use Rattle.view.proofs.record_value.Code as code
 
-abbrev Says : (κs : Lfts 1) → View → Passed κs [] → typeAt forms.entry κs .Denot → Type 0
+abbrev Says : (κs : Lfts 1) → View → Passed {n = 1} κs [] → typeAt forms.entry κs .Denot → Type 0
 Says κs d a r = r ≡ recordValueOf (now (d .body)) (d .at)
 
 pub record-value-spec : {M : Type 1} → stated.statement M

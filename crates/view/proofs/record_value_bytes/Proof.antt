@@ -20,7 +20,7 @@ use Rattle.view.proofs.record_value_bytes.Key.{name as #f}
 use Rattle.view.proofs.record_value_bytes.Statement as stated
 use Rattle.view.proofs.record_value_bytes.Code as code
 
-abbrev Says : (κs : Lfts 1) → View → Passed κs [] → typeAt forms.bytes κs .Denot → Type 0
+abbrev Says : (κs : Lfts 1) → View → Passed {n = 1} κs [] → typeAt forms.bytes κs .Denot → Type 0
 Says κs d a r = now r ≡ recordValueBytes (now (d .body)) (d .at)
 
 pub record-value-bytes-spec : {M : Type 1} → stated.statement M

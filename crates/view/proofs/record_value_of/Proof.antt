@@ -23,7 +23,7 @@ use Rattle.view.proofs.record_value_of.Key.{name as #h}
 use Rattle.view.proofs.record_value_of.Statement as stated
 use Rattle.view.proofs.record_value_of.Code as code
 
-abbrev Says : (κs : Lfts 1) → View → Passed κs [] → typeAt forms.bytes κs .Denot → Type 0
+abbrev Says : (κs : Lfts 1) → View → Passed {n = 1} κs [] → typeAt forms.bytes κs .Denot → Type 0
 Says κs d a r = now r ≡ recordValueBytes (now (d .body)) (d .at)
 
 pub record-value-of-spec : {M : Type 1} → stated.statement M

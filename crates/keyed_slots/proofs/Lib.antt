@@ -1,0 +1,4 @@
+pub mod Laying
+pub mod Finding
+pub mod Ordering
+pub mod Writing
