@@ -4,9 +4,12 @@ use crate::answer::{view_numbers, Answer};
 use crate::calls::Call;
 use crate::doubts;
 use crate::twin::Twin;
+use starterbell_model::answers::Sender;
 use starterbell_model::contacts;
 use starterbell_model::message::{self, Message, View};
 use starterbell_model::node::Side;
+use starterbell_model::peer::first_usable;
+use starterbell_model::place::place_of;
 use starterbell_model::recipe::{self, differences, is_leaper, outranks};
 use starterbell_model::records;
 use starterbell_model::steps::Step;
@@ -38,7 +41,7 @@ const REACHABLE: [(&str, &[u32]); 20] = [
 ];
 
 /// Beside the numbers: what a long run has to meet too, and after that what crate::doubts has.
-const MET: [&str; 46] = [
+const MET: [&str; 50] = [
     "receive: the sender moved",
     "receive: the sender joined",
     "receive: the sender's bucket is full",
@@ -54,6 +57,10 @@ const MET: [&str; 46] = [
     "reply to PING",
     "reply of 14,000 bytes or more",
     "reply by a box with odd addresses",
+    "reply to a sender with odd addresses that asks for itself",
+    "receive: a sender with odd addresses joined",
+    "receive: a sender with odd addresses moved, some of them usable",
+    "receive: a sender with odd addresses moved, none of them usable",
     "receive: a put in two record fields is taken",
     "reply: 0 for the view",
     "reply: 0 for a view of the last record field alone",
@@ -212,6 +219,7 @@ impl Coverage {
         if answer.code == 65 {
             self.note_reply(twin, answer);
             let body = whole_body(piece, &answer.numbers);
+            self.note_sender(&world.lines[line].conn.peer, body, answer);
             if is_split(body) && message::read(body).is_ok_and(|view| view.kind == message::PUT_VALUE) {
                 self.meet("receive: a put in two record fields is taken");
             }
@@ -279,9 +287,26 @@ impl Coverage {
         if answer.numbers[1] >= 14_000 {
             self.meet("reply of 14,000 bytes or more");
         }
-        let odd = me.addresses.len() > 4 || me.addresses.iter().any(|a| a.is_empty() || a.len() > 128);
-        if kind == 4 && odd && reply[..answer.numbers[1] as usize].windows(me.id.len()).any(|w| w == me.id) {
+        if kind == 4 && odd(&me.addresses) && reply[..answer.numbers[1] as usize].windows(me.id.len()).any(|w| w == me.id) {
             self.meet("reply by a box with odd addresses");
+        }
+    }
+
+    /// A sender with addresses that no open gives.
+    fn note_sender(&mut self, sender: &Sender, body: &[u8], answer: &Answer) {
+        if !odd(&sender.addresses) {
+            return;
+        }
+        match (answer.numbers[2], first_usable(&sender.addresses).is_empty()) {
+            (1, false) => self.meet("receive: a sender with odd addresses moved, some of them usable"),
+            (1, true) => self.meet("receive: a sender with odd addresses moved, none of them usable"),
+            (2, _) => self.meet("receive: a sender with odd addresses joined"),
+            _ => {}
+        }
+        // one that joined wasn't held
+        let asks = message::decode(body).is_ok_and(|m| m.kind == message::FIND_NODE && place_of(&m.key) == sender.place);
+        if asks && answer.numbers[2] == 2 {
+            self.meet("reply to a sender with odd addresses that asks for itself");
         }
     }
 
@@ -316,6 +341,11 @@ impl Coverage {
         }
         println!("streams cut in other ways: {}", self.cuttings);
     }
+}
+
+/// Whether there are more than four addresses, or one that isn't usable.
+fn odd(addresses: &[Vec<u8>]) -> bool {
+    first_usable(addresses) != addresses
 }
 
 /// The first bytes, at most so many.

@@ -7,6 +7,7 @@ use starterbell_model::node::{Conn, Side};
 use starterbell_model::peer::{Me, Mode};
 use starterbell_model::place::Place;
 use starterbell_model::stream::Framing;
+use std::ops::Range;
 
 pub const BOX: usize = 616;
 pub const CONNECTION: usize = 640;
@@ -50,11 +51,9 @@ fn peer_in(bytes: &[u8]) -> (Vec<u8>, Place, Vec<Vec<u8>>) {
     (held(&bytes[40..104], bytes[2]), place_at(bytes, 8), (0..bytes[3] as usize).map(address).collect())
 }
 
-/// The places of a peer's bytes that say nothing: after its id, lengths past the number of addresses, after each address. For a peer in form.
-pub fn unsaid(peer: &[u8]) -> Vec<usize> {
-    let count = peer[3] as usize;
-    let room = |k: usize| (if k < count { 104 + 128 * k + peer[4 + k] as usize } else { 104 + 128 * k })..232 + 128 * k;
-    (40 + peer[2] as usize..104).chain(4 + count..8).chain((0..4).flat_map(room)).collect()
+/// The places of a peer's bytes that follow its id, and say nothing. For an id of up to 64 bytes.
+pub fn after_id(peer: &[u8]) -> Range<usize> {
+    40 + peer[2] as usize..104
 }
 
 pub fn box_bytes(me: &Me) -> Vec<u8> {

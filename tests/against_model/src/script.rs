@@ -10,11 +10,12 @@ use starterbell_model::gen::{self, Rng, Source};
 use starterbell_model::limits::{BODY, CONTACT_SLOT, RECORD_SLOT, REPLY};
 use starterbell_model::lookup::{Lookup, Mark};
 use starterbell_model::message::{self, encode, Message, View};
+use starterbell_model::node::Side;
 use starterbell_model::peer::Mode;
 use starterbell_model::records;
 use starterbell_model::steps::{Memory, Step};
 use starterbell_model::wire::Span;
-use starterbell_model::writer::{peer_list, peers_of};
+use starterbell_model::writer::{framed, peer_list, peers_of};
 
 #[derive(Clone, Debug)]
 pub enum Action {
@@ -203,7 +204,8 @@ impl Script {
 
     fn odd(&mut self, twin: &Twin) -> Action {
         let (lines, lookups) = (twin.world.lines.len(), twin.world.lookups.len());
-        match self.rng.below(26) {
+        match self.rng.below(27) {
+            26 if lines > 0 => self.odd_sender(lines),
             23..=25 => self.write_doubt(twin),
             21..=22 => self.hold_leaper(twin),
             20 if lines > 0 => {
@@ -346,6 +348,21 @@ impl Script {
             _ => (rng.below(layout::CONNECTION), rng.byte()),
         };
         Action::Write { region, at, bytes: vec![byte] }
+    }
+
+    /// A connection is opened, and gets a count and lengths of addresses that no open gives. Then its peer, which isn't held, asks for itself, and may join.
+    fn odd_sender(&mut self, lines: usize) -> Action {
+        let rng = &mut self.rng;
+        let (line, id) = (rng.below(lines), gen::id(rng));
+        let open = Step::Open { line, id: id.clone(), mode: Mode::Server, addresses: gen::address_list(rng), side: Side::Serving };
+        let mut numbers = vec![*rng.pick(&[1, 2, 3, 4, 5, 255])];
+        numbers.extend((0..4).map(|_| *rng.pick(&[0, 1, 127, 128, 129, 255])));
+        let asks = framed(&encode(&Message { kind: message::FIND_NODE, key: id, ..Message::default() }));
+        self.source.send(line, asks.clone());
+        self.later.push((1, Action::Write { region: Region::Connection(line), at: 3, bytes: numbers }));
+        let call = self.call(Step::Receive { line, piece: asks });
+        self.later.push((1, Action::Call(call)));
+        Action::Call(self.call(open))
     }
 
     fn poke_lookup(&mut self, twin: &Twin, region: Region) -> Action {

@@ -126,14 +126,12 @@ impl Twin {
         answer
     }
 
-    /// The model's connections are values. Where a host wrote into the bytes of one that say nothing, a sighting carries them into the contact's slot: all of
-    /// them where it joins, those of its addresses where it takes new ones.
+    /// The model's connections are values. Where a host wrote into the bytes of one that follow its id, a sighting that joins carries them into the contact's slot.
     fn carry(&mut self, line: usize, answer: &Answer) {
         let peer = &self.connections[line][..layout::BOX];
         let [_, _, sighting, slot] = answer.numbers[..4] else { return };
-        let carried = |at: &usize| sighting == 2 || (sighting == 1 && peer[3] > 0 && !(40..104).contains(at));
-        if answer.code == 65 {
-            for at in layout::unsaid(peer).into_iter().filter(carried) {
+        if answer.code == 65 && sighting == 2 {
+            for at in layout::after_id(peer) {
                 self.world.contacts[slot as usize * layout::BOX + at] = peer[at];
             }
         }

@@ -3,7 +3,7 @@
 use crate::contacts::{self, Seen};
 use crate::limits;
 use crate::message::{self, Message, Peer, Record, ADD_PROVIDER, FIND_NODE, GET_PROVIDERS, GET_VALUE, PUT_VALUE};
-use crate::peer::{Me, Mode};
+use crate::peer::{first_usable, Me, Mode};
 use crate::place::{place_of, Place};
 use crate::records;
 use crate::writer;
@@ -18,10 +18,9 @@ pub struct Sender {
     pub addresses: Vec<Vec<u8>>,
 }
 
-/// An entry of closerPeers. Addresses in form pass whole; of a box's own, which are never judged, the first four do, each cut at 128 bytes.
+/// An entry of closerPeers. Of a contact in form all addresses are usable. "Its first four usable addresses come from the box's start .. or the open."
 fn peer(id: &[u8], addresses: &[Vec<u8>]) -> Peer {
-    let cut = |a: &Vec<u8>| a[..a.len().min(limits::ADDRESS)].to_vec();
-    Peer { id: id.to_vec(), addresses: addresses.iter().take(limits::ADDRESSES).map(cut).collect(), connection: 0 }
+    Peer { id: id.to_vec(), addresses: first_usable(addresses), connection: 0 }
 }
 
 /// "FIND_NODE, GET_VALUE: key of 1 to 128 bytes, else 8. closerPeers are the 20 nearest contacts" that aren't doubtful, "connection 0."
@@ -71,6 +70,7 @@ pub fn reply(me: &Me, sender: &Sender, body: &[u8], table: &[u8], store: &mut [u
 }
 
 /// "The reply is worked out first; then a server-mode sender is seen (a client isn't; no 18), and that outcome stands beside the reply."
+/// A sighting takes the first four usable addresses.
 /// How many bytes of the reply buffer are the reply, and the sighting; or 5 to 11, and nothing changes.
 pub fn answer(me: &Me, sender: &Sender, body: &[u8], table: &mut [u8], store: &mut [u8], out: &mut [u8]) -> Result<(usize, Option<Seen>), Refusal> {
     let whole = reply(me, sender, body, table, store)?;
@@ -80,6 +80,6 @@ pub fn answer(me: &Me, sender: &Sender, body: &[u8], table: &mut [u8], store: &m
         return Ok((whole.len(), None));
     }
     let all = contacts::entries(table, &me.place)?;
-    let sighting = contacts::seen_place(table, &all, &me.place, &sender.id, &sender.place, &sender.addresses);
+    let sighting = contacts::seen_place(table, &all, &me.place, &sender.id, &sender.place, &first_usable(&sender.addresses));
     Ok((whole.len(), Some(sighting)))
 }

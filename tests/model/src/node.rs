@@ -4,7 +4,7 @@ use crate::answers::{self, Sender};
 use crate::contacts::{self, Seen};
 use crate::limits;
 use crate::message::{self, View};
-use crate::peer::{id_fits, is_usable, usable};
+use crate::peer::{id_fits, usable};
 pub use crate::peer::{Me, Mode};
 use crate::place::Place;
 use crate::records;
@@ -59,15 +59,9 @@ pub struct Received {
 }
 
 impl Conn {
-    /// "Open connections a peer 12 allows", and the framing's form. The place isn't hashed again. A shut connection has no form.
+    /// "Open connections a peer 12 allows", by id and place, and the framing's form. The place isn't hashed again. A shut connection has no form.
     pub fn in_form(&self, ours: &Place) -> bool {
-        let peer = &self.peer;
-        self.framing == Framing::Shut
-            || (id_fits(&peer.id)
-                && peer.place != *ours
-                && peer.addresses.len() <= limits::ADDRESSES
-                && peer.addresses.iter().all(|a| is_usable(a))
-                && self.framing.in_form())
+        self.framing == Framing::Shut || (id_fits(&self.peer.id) && self.peer.place != *ours && self.framing.in_form())
     }
 }
 

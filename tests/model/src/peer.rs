@@ -38,9 +38,14 @@ pub fn is_usable(address: &[u8]) -> bool {
     (1..=limits::ADDRESS).contains(&address.len())
 }
 
-/// "1 to 128 bytes; the first four usable."
+/// "1 to 128 bytes; the first four usable": of a list that is handed in.
 pub fn usable(list: &[u8]) -> Vec<Vec<u8>> {
-    addresses_of(list).into_iter().filter(|a| is_usable(a)).take(limits::ADDRESSES).collect()
+    first_usable(&addresses_of(list))
+}
+
+/// The same of the box or of a connection's peer, whose numbers can be anything.
+pub fn first_usable(addresses: &[Vec<u8>]) -> Vec<Vec<u8>> {
+    addresses.iter().filter(|a| is_usable(a)).take(limits::ADDRESSES).cloned().collect()
 }
 
 #[derive(Clone, Copy, Debug, PartialEq, Eq)]

@@ -647,6 +647,24 @@ fn addresses_of_a_sighting() {
 }
 
 #[test]
+fn addresses_that_no_open_gives() {
+    let odd = vec![vec![], vec![1; 128], vec![2; 129], vec![], vec![3]];
+    let kept = [vec![1; 128], vec![3]];
+    let mut bench = Bench::new(Mode::Server, Side::Serving);
+    bench.conn.peer.addresses = odd.clone();
+    bench.me.addresses = odd;
+    for id in [&b"a bench"[..], b"this box"] {
+        let (_, Answer::Replied { length, .. }) = bench.hand(&find(id)) else { panic!("a connection's addresses don't count for its form") };
+        let said = message::decode(&bench.reply[2..length]).expect("a reply").closer.pop().expect("an entry");
+        assert_eq!((&said.id[..], &said.addresses[..]), (id, &kept[..]), "an entry has the usable ones");
+    }
+    assert_eq!(contacts::contact(&bench.contacts, 0).addresses, kept, "and so has a contact");
+    bench.conn.peer.addresses = vec![vec![], vec![4; 129]];
+    bench.hand(&ping());
+    assert_eq!(contacts::contact(&bench.contacts, 0).addresses, kept, "none usable: the old ones stay");
+}
+
+#[test]
 fn a_held_place_keeps_its_stored_id() {
     let me = me();
     let mut table = contacts::slot_bytes(&Contact { rank: 0, doubtful: true, place: place_of(b"true"), id: b"stored".to_vec(), addresses: vec![] });

@@ -219,6 +219,12 @@ impl Source {
         Step::Receive { line, piece: self.unsent[line][..n].to_vec() }
     }
 
+    /// What is still to be handed over on a line, in place of what was.
+    pub fn send(&mut self, line: usize, bytes: Vec<u8>) {
+        self.unsent.resize(self.unsent.len().max(line + 1), vec![]);
+        self.unsent[line] = bytes;
+    }
+
     /// Tells how many bytes of a piece were taken, so that the rest is handed over next.
     pub fn taken(&mut self, line: usize, n: usize) {
         self.unsent[line].drain(..n);
