@@ -1,5 +1,5 @@
 #!/usr/bin/env python3
-"""contacts_model: what crates/contacts_examples has to write, from a plain model of document 01's contact table.
+"""contacts_model: what crates/contacts_examples has to write, from a plain model of the contact table (RULES, Places and contacts).
 
 Each bucket is a list of places, the head first; each contact has a slot, its id and its addresses. The table's bytes are written out
 from that whenever their hash is asked for.

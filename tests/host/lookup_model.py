@@ -1,5 +1,5 @@
 #!/usr/bin/env python3
-"""lookup_model: what crates/lookup_examples has to write, from a plain model of document 01's lookup and of the networks in that program.
+"""lookup_model: what crates/lookup_examples has to write, from a plain model of the lookup (RULES, Lookup) and of the networks in that program.
 
 A lookup is a dictionary of marks by peer id, sorted by distance whenever an order is asked for.
 """

@@ -1,7 +1,7 @@
 /* protoc SEED COUNT: holds reading and writing of messages against Google's protobuf library.
 
-   Ours and the library are held against one small model of the wire format, `Model`. It has a switch for each rule in which document 01 and the
-   library differ: with all switches at document 01's side it has to give what ours gives, to the byte, and with all at the library's side what
+   Ours and the library are held against one small model of the wire format, `Model`. It has a switch for each rule in which RULES, Messages, and the
+   library differ: with all switches at our rules' side it has to give what ours gives, to the byte, and with all at the library's side what
    the library gives. So a difference between the two is either one of these rules, and is counted by its kind, or the test fails. It fails too
    where a rule made no difference in the whole run: then the test would not know the rule. docs/DECISIONS.md lists them. */
 #include <cstdint>
@@ -193,7 +193,7 @@ static Outcome library(const string &body) {
 
 /* ---- the model */
 
-/* The rules in which document 01 and the library differ. */
+/* The rules in which RULES, Messages, and the library differ. */
 enum Rule { GROUPS, WIDE_TAG, LONG_LENGTH, WIDE_VARINT, UTF8, CONNECTION, TYPE, LONG_BODY, RULES };
 
 static const char *const rule_names[RULES] = {
@@ -222,7 +222,7 @@ static bool is_utf8(const string &s) {
     return true;
 }
 
-/* A body read by rules, each document 01's (false) or the library's (true). */
+/* A body read by rules, each ours (false) or the library's (true). */
 class Model {
 public:
     Model(const string &body, unsigned library_rules) : s(body), rules(library_rules) {}
@@ -378,7 +378,7 @@ static void count_rules(const string &body, const Outcome &mine, const Outcome &
 static Outcome compare(const string &body, Counts &counts) {
     Outcome mine = ours(body), theirs = library(body);
     Outcome rules = Model(body, 0).read(), googles = Model(body, LIBRARY).read();
-    if (!(mine == rules)) fail("ours is not what document 01's rules give\n  ours  " + told(mine) + "\n  rules " + told(rules), body);
+    if (!(mine == rules)) fail("ours is not what our rules give\n  ours  " + told(mine) + "\n  rules " + told(rules), body);
     if (!(theirs == googles)) fail("the library differs by no rule that is known\n  library " + told(theirs) + "\n  rules   " + told(googles), body);
     counts.bodies++;
     if (mine.code == TAKEN && theirs.code == TAKEN) {
@@ -667,7 +667,7 @@ static string as_list(const vector<PeerSaid> &peers) {
     return s;
 }
 
-/* Document 01's limits, but for that of the whole body. */
+/* The limits of RULES, Messages, but for that of the whole body. */
 static bool within_limits(const Said &m) {
     if (static_cast<uint64_t>(m.kind) > 5 || m.key.size() > 128 || m.record_key.size() > 128 || m.value.size() > 2048) return false;
     for (const vector<PeerSaid> *l : {&m.closer, &m.providers})

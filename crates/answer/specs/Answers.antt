@@ -1,4 +1,4 @@
--- What a request is answered with, by its type: document 01, 'Answers to requests', refusals 5 to 11.
+-- What a request is answered with, by its type: RULES, Answers, refusals 5 to 11.
 use Prim.Native.Nat.{ℕ}
 use mathlib.Core.Bool.{cond}
 use mathlib.Core.List.{List}

@@ -28,7 +28,7 @@ RefusedChangesNothing =
     (me who : peers.Peer) (body : List ℕ) (l : Lent) (r : Refusal) → dealOf me who body l .told ≡ Refused r → dealOf me who body l .left ≡ l
 
 -- a reply of n bytes stands in the buffer: the message that the verdict calls for, within the limits, with its prefix, which reads back as the same message;
--- "bytes after a reply stay". 14,087 is document 01's largest reply body
+-- "bytes after a reply stay". 14,087 is the largest reply body (RULES, Messages)
 pub record ReadsBack (v : Verdict) (d : Dealt) (y : List ℕ) (n : ℕ) : Type 0 where
   pub says : Message
   pub verdict : v ≡ replies says
@@ -60,7 +60,7 @@ abbrev pub AnsweredByFields : peers.Peer → Type 0
 AnsweredByFields me =
     (who : peers.Peer) (a b : List ℕ) → length a ≤ mostBody → length b ≤ mostBody → decode a ≡ decode b → (l : Lent) → dealOf me who a l ≡ dealOf me who b l
 
--- document 02, (ix), "a local or remote put": a PUT_VALUE whose record has the message's key gets what the host's own put of that record is told, an echo where it
+-- RULES, Recipes, "a local or remote put": a PUT_VALUE whose record has the message's key gets what the host's own put of that record is told, an echo where it
 -- is taken, and leaves the same records
 abbrev pub SentAsTyped : peers.Peer → Type 0
 SentAsTyped me =

@@ -1,4 +1,4 @@
--- Who we are, and a connection: document 01, 'Stream' and 'Distance and contacts'. Both are values that a host holds and hands in, so any numbers may come.
+-- Who we are, and a connection: RULES, Stream, and RULES, Answers. Both are values that a host holds and hands in, so any numbers may come.
 use Prim.Native.Nat.{ℕ}
 use mathlib.Core.Bool.{Bool, cond, not, _&&_, _||_}
 use mathlib.Core.List.{List, [], _∷_}

@@ -1,5 +1,5 @@
--- Seen, settle and remove as a host calls them: document 01, 'Refusal numbers' and 'Distance and contacts'; doubt: document 02, x. Each is an answer, and what the
--- answer does to the table: a refusal does nothing.
+-- Seen, settle, remove and doubt as a host calls them: RULES, Refusals, and RULES, Places and contacts. Each is an answer, and what the answer does to the table: a
+-- refusal does nothing.
 use Prim.Native.Nat.{ℕ}
 use mathlib.Core.Bool.{Bool, not, cond}
 use mathlib.Core.List.{List}

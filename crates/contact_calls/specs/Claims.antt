@@ -25,7 +25,7 @@ use Rattle.sightings.specs.Sightings.{held, sightingOf, seenTable}
 use Rattle.sightings_kept.specs.Promises.{SameContact, HeldSeen, NewSeen, Freed, HeadKept, HeadGone, StillFits, OnlyMarked, holds}
 use Rattle.contact_calls.specs.Calls.{seenCall, seenCallTable, settleCall, settleCallTable, removeCall, removeCallTable, doubtCall, doubtCallTable, seenNumber, settleNumber, removeNumber, doubtNumber}
 
--- ---- the number that a host is told: document 01, 'Refusal numbers', "Given exactly when". In each record the cases leave none out
+-- ---- the number that a host is told: RULES, Refusals, "given exactly when". In each record the cases leave none out
 
 -- neither 0 nor 12 applies
 pub record Admits (t ours id : List ℕ) : Type 0 where
@@ -100,7 +100,7 @@ DoubtDoes t id (doubt.Refused r) u = u ≡ t
 
 -- ---- the claims
 pub record Claims : Type 0 where
-  -- each number is given exactly when document 01, and 02 of doubt, say so
+  -- each number is given exactly when RULES, Refusals, says so
   pub seenTold : (t ours id : List ℕ) (client : Bool) (addresses : List ℕ) → SeenTold t ours id client (seenNumber (seenCall t ours id client addresses))
   pub settleTold : (t ours head id : List ℕ) (client : Bool) (addresses : List ℕ) (answered : Bool)
       → SettleTold t ours head id client answered (settleNumber (settleCall t ours head id client addresses answered))

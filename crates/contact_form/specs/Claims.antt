@@ -1,4 +1,4 @@
--- What being in form comes to, as facts: document 01, 'Distance and contacts'. `claims` (proofs/Claims.antt) has all of them.
+-- What being in form comes to, as facts: RULES, Places and contacts. `claims` (proofs/Claims.antt) has all of them.
 use Prim.Native.Nat.{ℕ, _+_, _<_, _≤_}
 use mathlib.Core.Path.{_≡_}
 use mathlib.Core.Bool.{true, _&&_}

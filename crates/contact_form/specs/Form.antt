@@ -1,4 +1,4 @@
--- When a table of contacts is in form: document 01, 'Distance and contacts'. "In form: used slots have an id of 1 to 64 bytes and up to four
+-- When a table of contacts is in form: RULES, Places and contacts. "In form: used slots have an id of 1 to 64 bytes and up to four
 -- addresses of 1 to 128, no place twice or ours, at most 20 to a bucket, ranked there 0 up with no gap or tie". A free slot has no form.
 use Prim.Native.Nat.{ℕ, _+_, _-_}
 use mathlib.Core.Bool.{Bool, not, _&&_, _||_}

@@ -1,4 +1,4 @@
--- Who stands where in the contact table, and how a bucket's order closes up: document 01, 'Distance and contacts'.
+-- Who stands where in the contact table, and how a bucket's order closes up: RULES, Places and contacts.
 -- A bucket's order is its contacts' ranks: the head is seen longest ago, the tail last. A slot's mark is its rank plus 1.
 use Prim.Native.Nat.{ℕ, zero, suc, _-_}
 use mathlib.Core.Bool.{Bool, not, _&&_, cond}

@@ -1,4 +1,4 @@
--- Contacts as structs, and the flat bytes that the core works on: document 01, 'Distance and contacts': "The contacts sit in a list of records lent by the host".
+-- Contacts as structs, and the flat bytes that the core works on: RULES, Places and contacts: "The contacts sit in a list of records lent by the host".
 -- A contact's bytes are those of its slot (crates/contacts, specs/Table). The host lends room for all of them beside its contacts.
 use Prim.Native.Nat.{ℕ, zero, suc, _*_, _/_}
 use mathlib.Core.Bool.{Bool, cond}

@@ -1,4 +1,4 @@
--- Seen, settle, remove and doubt on contacts that sit in a list of structs lent by the host: document 01, 'Distance and contacts', and document 02, x. Each is host_calls' on the
+-- Seen, settle, remove and doubt on contacts that sit in a list of structs lent by the host: RULES, Places and contacts, and RULES, Shape of the code. Each is host_calls' on the
 -- bytes of the contacts, which are laid out in the room that the host lends beside them: 616 bytes for each, else refusal 0, and nothing changes.
 use Prim.Native.Nat.{ℕ}
 use mathlib.Core.Bool.{Bool, cond}

@@ -1,8 +1,8 @@
--- The contact table on flat bytes: document 01, 'Distance and contacts'. "The contacts sit in a list of records lent by the host".
+-- The contact table on flat bytes: RULES, Places and contacts. "The contacts sit in a list of records lent by the host".
 --
 --   bytes      what stands there
 --   0          its rank in its bucket plus 1; 0 where the slot is free
---   1          1 where the contact is doubtful, else 0: document 02, x
+--   1          1 where the contact is doubtful, else 0 (request x)
 --   2          length of the id, 1 to 64
 --   3          number of addresses, 0 to 4
 --   4 to 7     their lengths, 1 to 128; 0 where there is none

@@ -1,5 +1,5 @@
--- The nearest contacts of a table: document 01, "closerPeers are the 20 nearest contacts" and "the 20 nearest contacts as idle candidates"; document 02, x:
--- "passes over doubtful ones, so it gives the 20 nearest that aren't, or all such".
+-- The nearest contacts of a table: RULES, Answers, "closerPeers are the 20 nearest contacts", and RULES, Lookup, "the 20 nearest contacts as idle candidates". The
+-- query "passes over doubtful ones, so it gives the 20 nearest that aren't, or all such" (RULES, Places and contacts).
 use Prim.Native.Nat.{ℕ, zero, suc}
 use mathlib.Core.Bool.{Bool, not, _&&_, cond}
 use mathlib.Core.List.{List, [], _∷_, _++_}

@@ -1,4 +1,4 @@
-// Runs document 01's example of a full bucket, and 3,000 calls of seen, settle and remove by numbers drawn in turn, on a table of 64 slots.
+// Runs the example of a full bucket (RULES, Examples), and 3,000 calls of seen, settle and remove by numbers drawn in turn, on a table of 64 slots.
 // Then 6,000 calls with 5,000 peers on a table of 192 slots. Of so many peers only about twelve buckets have any, so that some 140 contacts are
 // held at a time, and most newcomers are turned away.
 // It writes what each call answers, or how many answered so, and the first eight bytes of the table's hash now and then.

@@ -1,4 +1,4 @@
--- The plain reading of a whole byte string: messages one after the other, then a refusal or a rest. Document 01, 'Stream'.
+-- The plain reading of a whole byte string: messages one after the other, then a refusal or a rest. RULES, Stream.
 use Prim.Native.Nat.{ℕ, zero, suc, _+_, _-_}
 use mathlib.Core.List.{List, [], _∷_}
 use mathlib.Core.Bool.{Bool, true, false, cond}

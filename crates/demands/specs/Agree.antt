@@ -1,4 +1,4 @@
--- Document 02, (xiv) 'Two benches agree', of boxes in use; proofs/Agree.antt shows it (`benches-agree`). What the store has to do with it, `NoRecords`, `SameSet`,
+-- Request xiv, 'Two benches agree', of boxes in use; proofs/Agree.antt shows it (`benches-agree`). What the store has to do with it, `NoRecords`, `SameSet`,
 -- `HoldSame` and `Highest`, is crate records_history's, specs/Agree; crate `host_demands` says the same of programs that call the box.
 use Prim.Native.Nat.{ℕ}
 use mathlib.Core.Path.{_≡_}
@@ -49,7 +49,7 @@ abbrev pub TakesAll : Line Who → List ℕ → Type 0
 TakesAll l p = framedOf (l .framing) (l .buffer) p .got .taken ≡ length p
 
 -- a bench: a box that a start gave, the world in which its host begins, and all that the host does, peers' bytes handed over among it. `empty` is "start with no
--- records", `never` "never gave 11": no line of its log since then does
+-- records", `never` "neither ever gave 11": no line of its log since then does
 pub record Bench : Type 0 where
   pub me : Peer
   pub own : Own me

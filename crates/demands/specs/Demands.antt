@@ -79,10 +79,10 @@ pub record RefusedLeaves (me : Peer) : Type 0 where
   pub put : (k key value : List ℕ) (r : Refusal) → putAnswer k key value ≡ putTold.Refused r → putAfter k key value ≡ k
   pub write : (y : List ℕ) (m : Message) (r : Refusal) → answerOf y m ≡ writer.Refused r → outAfter y m ≡ y
   pub lookup : (l : Lookup) (c : Step) (r : Refusal) → step c l .answer ≡ lookupAnswer.Refused r → step c l .lookup ≡ l
-  -- document 01's one exception: "A refused start hands back an empty one"
+  -- the one exception (RULES, Lookup): "A refused start hands back an empty one"
   pub empties : (t key : List ℕ) (limit : ℕ) (r : Refusal) → lookupStart me t key limit .answer ≡ lookupAnswer.Refused r → lookupStart me t key limit .lookup ≡ noLookup
 
--- "refuses by the numbers in document 01", 0: memory once in form, and since changed by calls alone, is in form, and then no call gives 0
+-- "refuses by the numbers in [RULES]", 0: memory once in form, and since changed by calls alone, is in form, and then no call gives 0
 pub record NeverOutOfForm (me : Peer) : Type 0 where
   pub kept : (s : World Who Box Ask) → Ready (Allowed me) (Good me) s → (cs : List (Call Turn Ask)) → AllFit Fits cs → Ready (Allowed me) (Good me) (calls (box me) s cs)
   pub receive : (l : Line Who) (a : Box) (bs : List ℕ) → Fine (Allowed me) l → Good me a
@@ -101,13 +101,13 @@ pub record NeverOutOfForm (me : Peer) : Type 0 where
   -- next, failure, and reply with the reader's view, of a lookup that a start gave and that since then came back from calls
   pub lookup : (t key : List ℕ) (limit : ℕ) → Started t (ownId me) (me .place) key limit → (cs : List Step) (c : Step) → Viewed c
       → step c (outcome step (lookupStart me t key limit) cs .lookup) .answer ≡ lookupAnswer.Refused OutOfForm → ⊥
-  -- document 01's one exception: after a start that was refused "later steps give 0"
+  -- the one exception (RULES, Lookup): after a start that was refused "later steps give 0"
   pub empty : (t key : List ℕ) (limit : ℕ) (r : Refusal) → lookupStart me t key limit .answer ≡ lookupAnswer.Refused r → (cs : List Step) (c : Step)
       → step c (outcome step (lookupStart me t key limit) cs .lookup) .answer ≡ lookupAnswer.Refused OutOfForm
 
 pub record First (me : Peer) : Type 0 where
   pub refused : RefusedLeaves me
-  -- "the numbers in document 01", each given exactly when it says so, and what each answer does: of start, open and end, of seen, settle, remove and doubt, and of put;
+  -- "the numbers in [RULES]", each given exactly when it says so, and what each answer does: of start, open and end, of seen, settle, remove and doubt, and of put;
   -- and a lookup starts where its key and its limit allow it
   pub calls : BoxCalls
   pub contacts : ContactsTold me
@@ -150,7 +150,7 @@ pub record Queries (me : Peer) : Type 0 where
   pub find : (who : Peer) (m : Message) (l : Lent) → m .kind ≡ findNode → keyFits (m .key) ≡ true
       → (r : Message) × (verdictOf me who m l ≡ replies r)
       × (r .closer ≡ map (λ i. contactEntry (slot (l .contacts) i)) (nearestSlots (l .contacts) (placeOf (m .key))) ++ lastEntry me who (l .contacts) (placeOf (m .key)))
-  -- who asks for itself is told of itself: "The extra FIND_NODE entry stands even if its peer is doubtful" (document 02, x), or is no contact; one that is given has no
+  -- who asks for itself is told of itself: "The extra FIND_NODE entry stands even if its peer is doubtful" (RULES, Answers), or is no contact; one that is given has no
   -- second entry. Who asks for us is told of us. And nobody is told of another this way
   pub extra : (who : Peer) (t : List ℕ) → (who .place ≡ me .place → ⊥)
       → ((i : ℕ) → i < slotsOf t → used (slot t i) ≡ true → place (slot t i) ≡ who .place → doubtful (slot t i) ≡ true) → lastEntry me who t (who .place) ≡ peerEntry who ∷ []
@@ -172,7 +172,7 @@ pub record Begun (s : World Who Box Ask) : Type 0 where
 pub record Second (me : Peer) : Type 0 where
   -- "Reading yields the fields the bytes carry"
   pub reads : (body : List ℕ) → ReadsWell body
-  -- "Demand 2 reads by the merged rule" (document 02, iv): of a record in several fields, the last key and the last value of all
+  -- "Demand 2 reads by the merged rule" (request iv): of a record in several fields, the last key and the last value of all
   pub split : SplitIsMerged
   -- "what is written reads back as the same fields"
   pub writes : RoundTrip
@@ -195,7 +195,7 @@ pub record Second (me : Peer) : Type 0 where
   pub done : MessageDone
   -- and what one box replies, another hears
   pub boxes : (you : Peer) → Own you → BoxToBox me you
-  -- "A query answers the twenty contacts nearest by XOR of SHA-256, or all when fewer, nearest first"; document 02, x: of the contacts that aren't doubtful
+  -- "A query answers the twenty contacts nearest by XOR of SHA-256, or all when fewer, nearest first"; by request x, of the contacts that aren't doubtful
   pub queries : Queries me
   pub nearest : (t key : List ℕ) → AreNearest t (placeOf key) (nearestSlots t (placeOf key))
   -- and that is the distance of SHA-256 of the ids: "memory once cleared, since then lent whole and changed by calls alone" holds each contact at its id's hash
@@ -276,7 +276,7 @@ pub record Third (me : Peer) : Type 0 where
   pub highest : (s : World Who Box Ask) → Ready (Allowed me) (Good me) s → (cs : List (Call Turn Ask)) → AllFit Fits cs → (key v : List ℕ)
       → Accepted key v (s .shared .state .lent .records) (since s (calls (box me) s cs))
       → (u : List ℕ) × Finds me (calls (box me) s cs .shared .state .lent .records) key u × (outranks v u ≡ false)
-  -- and that is what is found, sent to who asks for it and compared with what comes, whatever the recipe rules say of it (document 02, ix: "Records already held
+  -- and that is what is found, sent to who asks for it and compared with what comes, whatever the recipe rules say of it (RULES, Recipes: "records already held
   -- stay held and are still served and ranked"); what comes, typed or sent, is judged before it is compared
   pub found : HeldIsFound
   pub history : HighestIsFound

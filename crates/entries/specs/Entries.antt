@@ -1,4 +1,4 @@
--- Entries of closerPeers: document 01, 'Answers to requests'.
+-- Entries of closerPeers: RULES, Answers.
 use Prim.Native.Nat.{ℕ}
 use mathlib.Core.List.{List}
 use Rattle.contacts.specs.Contact.{entryId, entryAddresses}

@@ -31,7 +31,7 @@ begun [] = Nothing
 begun (a ∷ []) = One a
 begun (a ∷ b ∷ bs) = Two a b
 
--- what document 01 calls for at the start of bs, by the varint that the wire format reads in its first three bytes: one of k bytes with the value n, or none
+-- what RULES, Stream, calls for at the start of bs, by the varint that the wire format reads in its first three bytes: one of k bytes with the value n, or none
 abbrev pub calledFor : List ℕ → Varint → Prefixed
 -- "At the closing prefix byte: a zero byte that isn't the first gives 3", as the bytes aren't the minimal varint of n; "a value over 16,384 gives 4"
 calledFor bs (Value n k) = prefixed k (cond (same (take k bs) (minimal n)) (cond (leb n mostBody) (Length n) (Bad TooLong)) (Bad PrefixNotMinimal))

@@ -1,4 +1,4 @@
--- The host's other calls, for a box: document 01, 'Distance and contacts'. Those on contacts and on lookups are passed on.
+-- The host's other calls, for a box: RULES, Places and contacts. Those on contacts and on lookups are passed on.
 use Prim.Native.Nat.{ℕ}
 use mathlib.Core.Bool.{cond, not}
 use mathlib.Core.List.{List}

@@ -1,5 +1,5 @@
--- The host's calls on contacts, for a box: document 01, 'Distance and contacts', and doubt: document 02, x. As in contact_calls, and 12 where the box handed in has an id that no
--- start gives, in the order of the refusal numbers.
+-- The host's calls on contacts, for a box: RULES, Places and contacts. As in contact_calls, and 12 where the box handed in has an id that no start gives, in the order of the
+-- refusal numbers.
 use Prim.Native.Nat.{ℕ}
 use mathlib.Core.Bool.{Bool, cond, not}
 use mathlib.Core.List.{List}

@@ -1,4 +1,4 @@
--- Document 02, (xiv) 'Two benches agree', of programs that call crate `host`; proofs/Agree.antt shows it (`programs-agree`). `NoRecords`, `HoldSame` and `Highest` are
+-- Request xiv, 'Two benches agree', of programs that call crate `host`; proofs/Agree.antt shows it (`programs-agree`). `NoRecords`, `HoldSame` and `Highest` are
 -- crate records_history's, specs/Agree; `Brings` is crate demands'.
 use Prim.Native.Nat.{ℕ}
 use mathlib.Core.Path.{_≡_}
@@ -26,7 +26,7 @@ module _ (me : List ℕ) where
   SomeOffers key value m [] = ⊥
   SomeOffers key value m (c ∷ cs) = Offers m key value c ⊎ SomeOffers key value (leaves me m c) cs
 
-  -- "never gave 11": none of them returns it
+  -- "neither ever gave 11": none of them returns it
   unfoldable pub Never11 : Memory → List Export → Type 0
   Never11 m [] = Unit {0}
   Never11 m (c ∷ cs) = (returns me m c ≡ 11 → ⊥) × Never11 (leaves me m c) cs

@@ -220,7 +220,7 @@ module _ (me : List ℕ) where
     pub failure : (id : List ℕ) → returns me m (host.lookupFails j id) ≡ 0 → ⊥
     pub reply : (id body : List ℕ) (f : Fields) → readingOf body ≡ reading.Whole f → returns me m (host.lookupReplies j id body (viewNumbers f)) ≡ 0 → ⊥
 
-  -- document 01's one exception: after a start that was refused "later steps give 0"
+  -- the one exception (RULES, Lookup): after a start that was refused "later steps give 0"
   pub record StepsZero (m : Memory) (j : ℕ) : Type 0 where
     pub next : returns me m (host.lookupNext j) ≡ 0
     pub failure : (id : List ℕ) → returns me m (host.lookupFails j id) ≡ 0

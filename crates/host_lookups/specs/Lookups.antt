@@ -1,4 +1,4 @@
--- The host's calls on lookups, for a box: document 01, 'Lookup'. As in `lookup`, with the id and the place of the box.
+-- The host's calls on lookups, for a box: RULES, Lookup. As in `lookup`, with the id and the place of the box.
 use Prim.Native.Nat.{ℕ}
 use mathlib.Core.Bool.{cond}
 use mathlib.Core.List.{List, []}

@@ -1,4 +1,4 @@
--- The limits of document 01, each under one name. src/lib.rt has the same as constants. Sizes and layouts are worked out from these, each in its own crate.
+-- The limits of docs/RULES.md, each under one name. src/lib.rt has the same as constants. Sizes and layouts are worked out from these, each in its own crate.
 use Prim.Native.Nat.{ℕ, _+_, _*_}
 
 -- ---- a peer: "an id of 1 to 64 bytes and up to four addresses of 1 to 128"

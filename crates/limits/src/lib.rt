@@ -1,4 +1,4 @@
-// The limits of document 01, each under one name; specs/Limits.antt has the same for definitions. Sizes and layouts are worked out from these, each in its own
+// The limits of docs/RULES.md, each under one name; specs/Limits.antt has the same for definitions. Sizes and layouts are worked out from these, each in its own
 // crate.
 
 // A peer: its id, its addresses, how many of them are kept and what room these take, and its place.

@@ -1,4 +1,4 @@
--- The closest-peer lookup: document 01, 'Lookup'. A lookup is a value; each step takes it in and hands the next one back.
+-- The closest-peer lookup: RULES, Lookup. A lookup is a value; each step takes it in and hands the next one back.
 use Prim.Native.Nat.{ℕ, zero, suc, _-_}
 use mathlib.Core.Bool.{Bool, true, false, cond, not, _&&_, _||_}
 use mathlib.Core.List.{List, [], _∷_, _++_, map}

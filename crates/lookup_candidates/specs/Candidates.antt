@@ -1,4 +1,4 @@
--- Candidates of a lookup: document 01, 'Lookup'.
+-- Candidates of a lookup: RULES, Lookup.
 use Prim.Native.Nat.{ℕ}
 use mathlib.Core.Bool.{Bool, cond, not, _&&_}
 use mathlib.Core.List.{List, [], _∷_}

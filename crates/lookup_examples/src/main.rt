@@ -1,6 +1,6 @@
 // Runs lookups against simulated networks of 40 to 1,000 peers and writes what came of each. An honest peer names the 20 nearest of those that it
 // knows: of each of its buckets 20 peers. Some networks have peers that are silent, that answer with another type, or that name 20 peers which
-// nobody has. The last example is document 01's: 256 candidates, and a 257th marks.
+// nobody has. The last example is that of RULES, Examples: 256 candidates, and a 257th marks.
 ghost use Prim.Native.Nat.{_<_, _≤_};
 use libc::STDOUT_FILENO;
 use lookup::Answer;
@@ -461,7 +461,7 @@ fn look_up(places: &[u8], n: usize, key: u8, network: u8) {
     report(l, nearest_known(places, n, target_of(l), NOBODY));
 }
 
-// ---- document 01: "256 candidates: a 257th marks."
+// ---- RULES, Examples: "256 candidates: a 257th marks."
 
 // A FIND_NODE reply that names 20 peers, of numbers from n on.
 fn newcomers(n: usize) -> [u8; 142]

@@ -1,4 +1,4 @@
--- The marks of a lookup's candidates, nearest first: document 01, 'Lookup'. The rank of a candidate is how many are nearer.
+-- The marks of a lookup's candidates, nearest first: RULES, Lookup. The rank of a candidate is how many are nearer.
 use Prim.Native.Nat.{ℕ, suc, _-_}
 use mathlib.Core.Bool.{Bool, cond, not}
 use mathlib.Core.List.{List, [], _∷_, _++_}

@@ -1,4 +1,4 @@
--- A lookup by value: document 01, "Each step takes the lookup in and hands the next one back". What its bytes stand for, and what a step gives.
+-- A lookup by value: RULES, Lookup, "Each step takes the lookup in and hands the next one back". What its bytes stand for, and what a step gives.
 use mathlib.Core.Path.{_≡_}
 use Rattle.lookup.specs.Value as lookup
 use Rattle.flat_lookup.specs.FlatLookup.{lookupIn, lookupBytes}

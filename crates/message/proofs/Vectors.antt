@@ -14,7 +14,7 @@ use Rattle.wire.specs.declared.Span.{Span}
 use Rattle.message.specs.declared.Reading.{Reading}
 use Rattle.message.specs.declared.Reading.the-variants.{Whole, Refused}
 
--- FIND_NODE with the key AB: document 01's program example, 06 08 04 12 02 41 42
+-- FIND_NODE with the key AB: the program's example (RULES, Examples), 06 08 04 12 02 41 42
 ask : Message
 ask = record { kind = 4; key = 65 ∷ 66 ∷ []; held = none; closer = []; providers = [] }
 
@@ -51,7 +51,7 @@ reply-decoded : decode reply
 unfolding reply decode messageOf recordOf joined merged peerOf connectionOf wellMessage wellFormed items item parts values every allOf lastOf fields fieldsAt fieldsFrom more nextOf fieldAt taggedAt contentAt numberAt fixedAt bytesAt endAt varintAt placed varint before
 reply-decoded = refl
 
--- ---- one record in several occurrences (document 02)
+-- ---- one record in several occurrences (request iv)
 
 -- a PUT_VALUE without a message key, whose record's key and value are at two spans
 put : Span → Span → Reading

@@ -1,4 +1,4 @@
--- The types of messages, and the keys that they may have: document 01, 'Answers to requests' and 'Lookup'.
+-- The types of messages, and the keys that they may have: RULES, Messages, and RULES, Answers.
 use Prim.Native.Nat.{ℕ}
 use mathlib.Core.Bool.{Bool, _&&_}
 use mathlib.Core.List.{List}

@@ -1,4 +1,4 @@
--- What a message says, and how it is written: document 01, 'Message bytes', and of records document 02, (iv).
+-- What a message says, and how it is written: RULES, Messages.
 use Prim.Native.Nat.{ℕ}
 use mathlib.Core.List.{List, [], _∷_, _++_, map, flatten as joined}
 use mathlib.Core.Bool.{Bool, cond}
@@ -45,7 +45,7 @@ peerOf s =
       connection = connectionOf (lastOf 0 (values 3 (items s)));
     }
 
--- "read the record as though all its occurrences stood one after another" (document 02, iv); one, even an empty one, makes it present
+-- "read the record as though all its occurrences stood one after another" (request iv); one, even an empty one, makes it present
 unfoldable pub merged : List (List ℕ) → Option Record
 merged [] = none
 merged (b ∷ bs) = some (recordOf (joined (b ∷ bs)))

@@ -1,4 +1,4 @@
--- A read message as a view: where its parts are in the body. Document 01: "it points into the receive buffer, and each bytes field is that part of it".
+-- A read message as a view: where its parts are in the body. RULES, Messages: "it points into the receive buffer, and each bytes field is that part of it".
 use Prim.Native.Nat.{ℕ}
 use mathlib.Core.List.{List, [], _∷_, map, flatten as joined}
 use mathlib.Core.Bool.{true, false, cond, not}

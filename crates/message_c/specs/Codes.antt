@@ -41,7 +41,7 @@ numbersOf m =
     ∷ m .held .value .end
     ∷ []
 
--- document 01's number of a refusal; 255 where there is none
+-- the number of a refusal (RULES, Refusals); 255 where there is none
 abbrev pub readCode : Reading → ℕ
 readCode (Whole m) = 255
 readCode (Refused r) = numberOf r

@@ -1,4 +1,4 @@
-// Reads and writes the worked messages of document 01's 'Message bytes', and writes a line for each: what was read, or by which number it was refused.
+// Reads and writes messages that were worked out by RULES, Messages, and writes a line for each: what was read, or by which number it was refused.
 use message::Fields;
 use message::Held;
 use message::Reading;

@@ -1,4 +1,4 @@
--- Receiving: what a call does, for every input. Document 01, 'Stream', 'Answers to requests', 'Refusal numbers'.
+-- Receiving: what a call does, for every input: RULES, Stream, RULES, Answers, and RULES, Refusals.
 use Prim.Native.Nat.{ℕ}
 use mathlib.Core.Path.{_≡_}
 use mathlib.Core.List.{List}

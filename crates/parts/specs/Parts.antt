@@ -1,4 +1,4 @@
--- The parts of a view: document 01, "A read message is a view: it points into the receive buffer, and each bytes field is that part of it". A view is a
+-- The parts of a view: RULES, Messages, "A read message is a view: it points into the receive buffer, and each bytes field is that part of it". A view is a
 -- body with positions in it; where the positions aren't what the reader gives for the body, every part is refused with 0.
 use Prim.Native.Nat.{ℕ}
 use mathlib.Core.Bool.{Bool, false, cond, not, _&&_}

@@ -1,4 +1,4 @@
--- Lists of addresses as they are handed in, and those that are kept: document 01, 'Distance and contacts'.
+-- Lists of addresses as they are handed in, and those that are kept: RULES, Places and contacts.
 -- A list is one byte string. Each address is a length of two bytes, the lowest first, and then its bytes.
 use Prim.Native.Nat.{ℕ, zero, suc, _+_, _*_, _-_}
 use mathlib.Core.Bool.{Bool, cond, _&&_}

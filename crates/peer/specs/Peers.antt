@@ -1,4 +1,4 @@
--- A peer by value, and what it says: document 01, 'Distance and contacts'.
+-- A peer by value, and what it says: RULES, Places and contacts.
 use Prim.Native.Nat.{ℕ, zero, suc, _+_, _*_, min}
 use mathlib.Core.Bool.{Bool, cond, not, _&&_, _||_}
 use mathlib.Core.List.{List, [], _∷_, _++_}

@@ -1,4 +1,4 @@
--- A peer of a message, told at once: where its id is, its connection, how many addresses it has, and where the first of them are. Document 01: "Peer id=1,
+-- A peer of a message, told at once: where its id is, its connection, how many addresses it has, and where the first of them are. RULES, Messages: "Peer id=1,
 -- addrs=2 (repeated), connection=3 (0 to 3)". What each of these is stands in crates/message, specs/View.
 use Prim.Native.Nat.{ℕ}
 use mathlib.Core.List.{List, [], _∷_}

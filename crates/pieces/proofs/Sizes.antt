@@ -1,4 +1,4 @@
--- The largest sizes of document 01: a peer is at most 595 bytes with tag and length, the largest GET_VALUE reply body 14,087. Assumes nothing.
+-- The largest sizes of RULES, Messages: a peer is at most 595 bytes with tag and length, the largest GET_VALUE reply body 14,087. Assumes nothing.
 use Prim.Native.Nat.{ℕ, _+_, _*_, _≤_, _<_}
 use mathlib.Core.Path.{_≡_, ap}
 use mathlib.Core.List.{List, [], _∷_, _++_, map, append-nil}

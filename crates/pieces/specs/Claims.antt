@@ -1,4 +1,4 @@
--- The largest sizes of document 01: nothing within the limits is larger, and something is as large. proofs/Largest.antt shows each.
+-- The largest sizes of RULES, Messages: nothing within the limits is larger, and something is as large. proofs/Largest.antt shows each.
 use Prim.Native.Nat.{ℕ, _≤_, _<_}
 use mathlib.Core.Path.{_≡_}
 use mathlib.Core.List.{[]}

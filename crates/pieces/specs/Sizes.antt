@@ -1,4 +1,4 @@
--- The largest pieces of a message, worked out from the limits: document 01, 'Message bytes'. Claims.antt says that they are the largest.
+-- The largest pieces of a message, worked out from the limits: RULES, Messages. Claims.antt says that they are the largest.
 use Prim.Native.Nat.{ℕ, _+_, _*_}
 use Rattle.limits.specs.Limits.{mostId, mostAddress, mostAddresses, mostKey, mostValue, mostNear}
 

@@ -1,4 +1,4 @@
--- What distance, nearness and buckets come to: document 01, 'Distance and contacts'. proofs/Claims.antt shows each.
+-- What distance, nearness and buckets come to: RULES, Places and contacts. proofs/Claims.antt shows each.
 use Prim.Native.Nat.{ℕ, _<_}
 use mathlib.Core.Path.{_≡_}
 use mathlib.Core.Bool.{true, false, not}

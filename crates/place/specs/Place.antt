@@ -1,4 +1,4 @@
--- Places, their distance, and buckets: document 01, 'Distance and contacts'.
+-- Places, their distance, and buckets: RULES, Places and contacts.
 use Prim.Native.Nat.{ℕ, zero, suc, _/_, _%_, _^_}
 use mathlib.Core.Bool.{Bool, cond, _&&_}
 use mathlib.Core.List.{List, [], _∷_, _++_}

@@ -1,4 +1,4 @@
--- What the rank, the zigzag form and the rules of a list come to: document 01, 'Recipe', and document 02, (ix). proofs/Claims.antt shows all of it.
+-- What the rank, the zigzag form and the rules of a list come to: RULES, Recipes. proofs/Claims.antt shows all of it.
 use Prim.Native.Nat.{ℕ, suc, _-_, _<_}
 use mathlib.Core.Path.{_≡_}
 use mathlib.Core.Bool.{Bool, true, false, not, _&&_}

@@ -1,4 +1,4 @@
--- Edges of document 02's rule, (ix), by computing. Document 01's starred examples on recipes stand in crates/starred.
+-- Edges of the rule against leaps (RULES, Recipes), by computing. The starred examples on recipes stand in crates/starred.
 use Prim.Native.Nat.{ℕ}
 use mathlib.Core.Path.{_≡_, refl}
 use mathlib.Core.Bool.{true, false}

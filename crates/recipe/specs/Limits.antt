@@ -1,4 +1,4 @@
--- The limits of a recipe alone: document 01, 'Recipe, read from its end', and document 02. src/lib.rt has the same numbers as constants.
+-- The limits of a recipe alone: RULES, Recipes. src/lib.rt has the same numbers as constants.
 use Prim.Native.Nat.{ℕ}
 
 -- the trailer, which is the shortest value
@@ -15,6 +15,6 @@ turnMax = 1000000
 abbrev pub trimMax : ℕ
 trimMax = 20000
 
--- document 02, (ix): in millinewtons, either way
+-- of neighbouring trims: in millinewtons, either way
 abbrev pub leapMax : ℕ
 leapMax = 5000

@@ -1,4 +1,4 @@
--- When a value is a recipe, and which of two values ranks higher: document 01, 'Recipe, read from its end', and document 02, (ix).
+-- When a value is a recipe, and which of two values ranks higher: RULES, Recipes.
 use Prim.Native.Nat.{ℕ, zero, suc, _+_, _-_, _*_, _/_, _%_}
 use mathlib.Core.Bool.{Bool, true, false, cond, _&&_, _||_}
 use mathlib.Core.List.{List, [], _∷_}
@@ -72,7 +72,7 @@ setpoints (suc n) s = onPoint (point s) (λ turn trim k. andThen turn trim (setp
 unfoldable pub inRange : ℕ → ℤ → Bool
 inRange turn trim = leb turn turnMax && (leZ (negsuc (trimMax - 1)) trim && leZ trim (pos trimMax))
 
--- document 02, (ix): "neighbouring trims differ by" no "more than 5,000 millinewtons; exactly 5,000 passes"
+-- no leaps (request ix): "neighbouring trims differ by" no "more than 5,000 millinewtons; exactly 5,000 passes"
 unfoldable pub noLeap : ℤ → ℤ → Bool
 noLeap a b = leb (natAbs (a -ℤ b)) leapMax
 

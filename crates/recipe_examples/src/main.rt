@@ -1,4 +1,4 @@
-// Document 01's examples on recipes that aren't starred, and the edges of each limit, of document 02's too: one line for each.
+// The examples on recipes that aren't starred (RULES, Examples), and the edges of each limit (RULES, Recipes): one line for each.
 ghost use Prim.Native.Nat.{_+_, _*_, _<_, _≤_};
 ghost use lib.ListN.{length};
 

@@ -1,4 +1,4 @@
--- The record store: document 01, 'Answers to requests' (PUT_VALUE), 'Recipe' (rank). Its slots and its form are passed on.
+-- The record store: RULES, Answers (PUT_VALUE), and RULES, Recipes (rank). Its slots and its form are passed on.
 use Prim.Native.Nat.{ℕ, _+_, _*_}
 use mathlib.Core.Bool.{not, cond}
 use mathlib.Core.List.{List}
@@ -31,7 +31,7 @@ unfoldable pub findOf : List ℕ → List ℕ → Found
 findOf t k = cond (not (inForm t)) (fRefused OutOfForm) (found t k)
 
 -- ---- putting
--- a record of the key is held in slot i: "identical bytes are accepted and change nothing", which "applies only after" 9 (document 02, ix); else 10, if what is
+-- a record of the key is held in slot i: "identical bytes are accepted and change nothing", which "applies only after" 9 (RULES, Recipes); else 10, if what is
 -- held ranks higher
 unfoldable pub heldPlan : List ℕ → List ℕ → ℕ → Plan
 heldPlan held v i = cond (same held v) Keep (cond (outranks held v) (Refuse Outranked) (Write i))

@@ -6,7 +6,7 @@ use Rattle.records.specs.declared.Answer.the-variants.{Taken, Refused}
 use Rattle.records.specs.declared.Found.{Found}
 use Rattle.records.specs.declared.Found.the-variants.{Held, NotHeld, Refused as fRefused}
 
--- document 01's number of a refusal; 255 where there is none
+-- the number of a refusal (RULES, Refusals); 255 where there is none
 abbrev pub codeOf : Answer → ℕ
 codeOf Taken = 255
 codeOf (Refused r) = numberOf r

@@ -1,4 +1,4 @@
--- Document 02, (xiv) 'Two benches agree', of the record store: its words, and what they come to. proofs/Agree.antt shows all of it (`agreement`), Fakes.antt has
+-- Request xiv, 'Two benches agree', of the record store: its words, and what they come to. proofs/Agree.antt shows all of it (`agreement`), Fakes.antt has
 -- stores that don't agree. `demands` says it of boxes, `host_demands` of the programs that call them.
 use Prim.Native.Nat.{ℕ, _<_}
 use mathlib.Core.Path.{_≡_}

@@ -33,7 +33,7 @@ pub record HighestIsFound : Type 0 where
   -- "stays the one found under its key until a higher-ranking one is accepted"
   pub stays : (k v t : List ℕ) (os : List Offer) → got t k ≡ Has v → Unbeaten k v t os → got (after t os) k ≡ Has v
 
--- ---- of the value that is held under a key, whatever the recipe rules say of it: document 02, (ix), "Records already held stay held and are still served and
+-- ---- of the value that is held under a key, whatever the recipe rules say of it: RULES, Recipes, "records already held stay held and are still served and
 -- ranked"
 
 -- form never looks into a value: stores of one size, whose slots have the same bytes before the value, are both in form or both out of it

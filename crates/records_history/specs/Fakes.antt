@@ -1,4 +1,4 @@
--- Wrong stores, and that none of them agrees: document 02, (xiv). A store is here what it holds under a key after offers, with room for all of them, so that it
+-- Wrong stores, and that none of them agrees: request xiv. A store is here what it holds under a key after offers, with room for all of them, so that it
 -- never gives 11. Proved in proofs/Fakes.antt.
 use Prim.Native.Nat.{ℕ}
 use mathlib.Core.Path.{_≡_}

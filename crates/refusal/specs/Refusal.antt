@@ -1,4 +1,4 @@
--- The number of each refusal: document 01, 'Refusal numbers'.
+-- The number of each refusal: RULES, Refusals.
 use Prim.Native.Nat.{ℕ}
 use Rattle.refusal.specs.declared.Refusal.{Refusal}
 use Rattle.refusal.specs.declared.Refusal.the-variants.{OutOfForm, SmallBuffer, Shut, PrefixNotMinimal, TooLong, Malformed, UnknownType, Providers, BreaksRules, BrokenRecipe, Outranked, NoRecordSlot, BadPeer, BucketFull, NoContactSlot, NoLongerFits, NotInFlight, LookupOver, Client, EndedInside, BadConcurrency, Unwritable}

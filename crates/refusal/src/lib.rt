@@ -1,4 +1,4 @@
-// The refusals of document 01, a named case for each row of its table.
+// The refusals, a named case for each row of the table in RULES, Refusals, with its words.
 ghost use mathlib.Core.Path.{_≡_};
 ghost use Rattle.refusal.specs.Refusal.{numberOf};
 

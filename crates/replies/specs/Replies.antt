@@ -1,4 +1,4 @@
--- The replies to requests, as messages: document 01, 'Answers to requests'.
+-- The replies to requests, as messages: RULES, Answers.
 use Prim.Native.Nat.{ℕ}
 use mathlib.Core.Bool.{Bool, cond}
 use mathlib.Core.List.{List, [], _∷_, _++_, map}

@@ -1,4 +1,4 @@
--- What a request comes to by its key and record, and what that does to lent memory: document 01, 'Answers to requests', refusals 8 to 11.
+-- What a request comes to by its key and record, and what that does to lent memory: RULES, Answers, refusals 8 to 11.
 use Prim.Native.Nat.{ℕ}
 use mathlib.Core.Path.{_≡_}
 use mathlib.Core.Bool.{Bool, cond, _&&_}

@@ -1,4 +1,4 @@
--- What moves in the contact table: document 01, 'Distance and contacts'. Who stands where, the order closing up, and a contact as its slot's bytes are passed on.
+-- What moves in the contact table: RULES, Places and contacts. Who stands where, the order closing up, and a contact as its slot's bytes are passed on.
 use Prim.Native.Nat.{ℕ, _+_}
 use mathlib.Core.Bool.{cond}
 use mathlib.Core.List.{List, _∷_}

@@ -1,4 +1,4 @@
--- Seen, settle and remove on the contact table: document 01, 'Distance and contacts'; doubt: document 02, x. Each is an answer, and what the answer does to the table.
+-- Seen, settle, remove and doubt on the contact table: RULES, Places and contacts. Each is an answer, and what the answer does to the table.
 use Prim.Native.Nat.{ℕ}
 use mathlib.Core.Bool.{Bool, not, _&&_, cond}
 use mathlib.Core.List.{List}

@@ -119,7 +119,7 @@ head-there t o y b h =
     let l = first-lt (λ (k : ℕ). isHead o b (slot t k)) (slotsOf t) (r .0) (r .1) i in
     (l, first-is (λ (k : ℕ). isHead o b (slot t k)) (slotsOf t) .here l)
 
--- ---- the test of a settle is what the document says of it
+-- ---- the test of a settle is what RULES, Places and contacts, says of it
 module _ (t o head p : List ℕ) (y : inForm t o ≡ true) where
   pub fits-still : fits t o head p ≡ true → StillFits t o head p
   unfolding held isHead

@@ -1,5 +1,5 @@
--- Document 01, 'Bench examples': "Those with * are proved, gathered into a single table under one claim". The table's rows are the document's bytes, bits and
--- numbers, in its order; `Holds` says what a row means, and the claim is that each row holds.
+-- RULES, Examples: "Those with * are proved, gathered into a single table under one claim". The table's rows have the bytes, bits and numbers that stand there, in
+-- their order; `Holds` says what a row means, and the claim is that each row holds.
 use Prim.Native.Nat.{ℕ, _+_, _≤_, _<_}
 use mathlib.Core.Path.{_≡_}
 use mathlib.Core.Bool.{true}
@@ -24,7 +24,7 @@ use Rattle.replies.specs.Lent.{Lent}
 use Rattle.replies.specs.Verdicts.{refused}
 use Rattle.answer.specs.Answers.{dealOf}
 
--- ---- the kinds of rows, each with the document's bytes and numbers
+-- ---- the kinds of rows, each with the bytes and numbers of RULES, Examples
 pub data Row : Type 0 where
   -- a prefix, and the length of the message that it opens
   prefix : List ℕ → ℕ → Row

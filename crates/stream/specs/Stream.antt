@@ -1,4 +1,4 @@
--- What receiving means: a step for each byte, folded over a piece up to its first event. Document 01, 'Stream' and 'Refusal numbers'.
+-- What receiving means: a step for each byte, folded over a piece up to its first event. RULES, Stream, and RULES, Refusals.
 use Prim.Native.Nat.{ℕ, suc, _+_, _*_, _%_}
 use mathlib.Core.Path.{_≡_}
 use mathlib.Core.List.{List, [], _∷_}

@@ -1,4 +1,4 @@
-// Runs document 01's prefix examples and others, in one piece and cut, and writes what each call answers.
+// Runs the prefixes of RULES, Examples, and others, in one piece and cut, and writes what each call answers.
 use stream::Answer;
 use stream::Ending;
 use stream::Framing;
@@ -88,7 +88,7 @@ fn halves(name: &[u8], buffer: &mut [u8], a: &[u8], b: &[u8]) {
     end(g);
 }
 
-// Document 01's starred examples.
+// The starred ones of RULES, Examples.
 fn starred(buffer: &mut [u8]) {
     whole(b"00\n", buffer, &[0]);
     whole(b"80 00\n", buffer, &[128, 0]);

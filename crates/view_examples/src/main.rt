@@ -1,5 +1,5 @@
-// Reads some of document 01's messages through their views, and writes a line for each: type, key and record's value. Then a view with other positions, and
-// records in several fields.
+// Reads messages that were worked out by RULES, Messages, through their views, and writes a line for each: type, key and record's value. Then a view with other
+// positions, and records in several fields.
 use message::Fields;
 use parts::Entry;
 use parts::Number;

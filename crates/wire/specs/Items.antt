@@ -1,4 +1,4 @@
--- What the fields of a string say, and how fields are written: document 01, 'Message bytes'.
+-- What the fields of a string say, and how fields are written: RULES, Messages.
 use Prim.Native.Nat.{ℕ, zero, suc, _+_, _*_, _/_, _%_}
 use mathlib.Core.Path.{_≡_}
 use mathlib.Core.List.{List, [], _∷_, _++_, map}

@@ -1,4 +1,4 @@
--- The wire format of Protocol Buffers, read: document 01, 'Message bytes'.
+-- The wire format of Protocol Buffers, read: RULES, Messages.
 use Prim.Native.Nat.{ℕ, zero, suc, _+_, _-_, _*_, _/_, _%_, _^_}
 use mathlib.Core.List.{List, [], _∷_}
 use mathlib.Core.Bool.{Bool, true, false, cond}

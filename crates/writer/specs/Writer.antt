@@ -1,4 +1,4 @@
--- The writer as an entry point: document 01, 'Message bytes', refusals 1 and 21.
+-- The writer as an entry point: RULES, Messages, refusals 1 and 21.
 use Prim.Native.Nat.{ℕ, zero, suc, _+_, _*_}
 use mathlib.Core.List.{List, [], _∷_}
 use mathlib.Core.Bool.{Bool, cond, not}

@@ -1,4 +1,4 @@
-//! Worlds to begin with, each from its seed: mostly small, some at the limits of document 01.
+//! Worlds to begin with, each from its seed: mostly small, some at the limits of the rules.
 
 use crate::script::Script;
 use crate::twin::Twin;

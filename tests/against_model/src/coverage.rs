@@ -16,7 +16,7 @@ use starterbell_model::steps::Step;
 use starterbell_model::wire::{fields, read_varint, Span};
 use std::collections::BTreeMap;
 
-/// Each entry point, with the numbers that document 01 and the comments of crates/host allow it; `receive` by the connection's side.
+/// Each entry point, with the numbers that RULES, Refusals, and the comments of crates/host allow it; `receive` by the connection's side.
 const REACHABLE: [(&str, &[u32]); 20] = [
     ("start", &[SHORT, 12, 64]),
     ("open", &[SHORT, 12, 64]),
@@ -226,7 +226,7 @@ impl Coverage {
         }
     }
 
-    /// Document 02 (ix): leapers that are offered, and what is offered or asked for where one was held; of a peer's, what a piece had whole.
+    /// Request ix: leapers that are offered, and what is offered or asked for where one was held; of a peer's, what a piece had whole.
     fn note_leaps(&mut self, records: &[u8], step: &Step, answer: &Answer) {
         let held = |key: &[u8]| records::find(records, key).ok().flatten().map(|found| found.value).filter(|value| is_leaper(value));
         match step {

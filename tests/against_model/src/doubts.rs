@@ -1,4 +1,4 @@
-//! Document 02 (x): what a long run has to meet of doubtful contacts. It is told from the table before a call, from the call and from what it gave.
+//! Request x: what a long run has to meet of doubtful contacts. It is told from the table before a call, from the call and from what it gave.
 
 use crate::answer::Answer;
 use crate::calls::{Call, Region};

@@ -277,7 +277,7 @@ impl Script {
         Action::Write { region: Region::Contacts, at: slot + 1, bytes: vec![byte] }
     }
 
-    /// A leaper is held from now on, as one from before document 02 (ix) is: in the slot that holds its key, or else in any.
+    /// A leaper is held from now on, as one from before request ix is: in the slot that holds its key, or else in any.
     fn hold_leaper(&mut self, twin: &Twin) -> Action {
         let store = &twin.world.records;
         let key = self.rng.pick(&self.source.keys).clone();
@@ -439,7 +439,7 @@ impl Script {
         m.providers = gen::message(rng).providers;
         m.closer.extend(gen::message(rng).closer);
         if rng.one_in(3) {
-            // around the eight that one call tells, which a box that keeps to document 01 never sends
+            // around the eight that one call tells, which a box that keeps to the rules never sends
             let addresses = (0..rng.between(7, 20)).map(|_| rng.size(0, 20)).collect::<Vec<_>>();
             let addresses = addresses.into_iter().map(|n| rng.bytes(n)).collect();
             m.closer.insert(rng.below(m.closer.len() + 1), message::Peer { addresses, ..message::Peer::default() });

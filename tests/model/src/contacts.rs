@@ -16,7 +16,7 @@ const ADDRESSES_AT: usize = 104;
 #[derive(Clone, Debug, PartialEq, Eq)]
 pub struct Contact {
     pub rank: usize,
-    /// Marked by the host, document 02 (x), and not seen since.
+    /// Marked by the host (request x), and not seen since.
     pub doubtful: bool,
     pub place: Place,
     pub id: Vec<u8>,

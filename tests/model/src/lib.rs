@@ -1,6 +1,6 @@
-//! A model of the box in plain Rust, the obvious slow way, written from documents 01 and 02 and their open points and from nothing else.
+//! A model of the box in plain Rust, the obvious slow way, written from docs/RULES.md and the readings in docs/DECISIONS.md alone.
 //! It exists to be compared with the proved code: results, refusals, bytes taken, and every byte of lent memory.
-//! README.md lists what the documents leave open to the byte and what is chosen here.
+//! README.md lists what these leave open to the byte and what is chosen here.
 #![forbid(unsafe_code)]
 
 pub mod answers;

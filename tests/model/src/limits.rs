@@ -1,4 +1,4 @@
-//! The numbers of documents 01 and 02, each in one place.
+//! The numbers of docs/RULES.md, each in one place.
 
 /// The longest message body, and the least receive buffer.
 pub const BODY: usize = 16_384;
@@ -19,7 +19,7 @@ pub const SETPOINTS: usize = 200;
 pub const TURN: u64 = 1_000_000;
 /// The largest trim in zigzag form: 20,000 millinewtons.
 pub const ZIGZAG: u64 = 40_000;
-/// Document 02 (ix): by how many millinewtons neighbouring trims may differ.
+/// By how many millinewtons neighbouring trims may differ.
 pub const LEAP: i64 = 5_000;
 
 /// A bucket's size, the length of a nearest list, and how many candidates decide a lookup.

@@ -176,7 +176,7 @@ impl Lookup {
         self.candidates.sort_by_key(|c| distance(&c.place, &target));
     }
 
-    /// A reply: 0 (lookup, view), 12, 17, 16; then what it says. "Any other type marks the peer failed for good."
+    /// A reply: 0 (lookup, view), 12, 17, 16; then what it says. "Any other type .. marks the peer failed for good."
     pub fn reply(mut self, me: &Me, sender: &[u8], body: &[u8], view: &View) -> (Lookup, Step) {
         if !self.in_form() || message::read(body) != Ok(*view) {
             return (self, Step::Refused(Refusal::OutOfForm));

@@ -64,8 +64,8 @@ fn low_first(bytes: &[u8]) -> u64 {
     bytes.iter().rev().fold(0, |sum, b| sum << 8 | u64::from(*b))
 }
 
-/// What a value says by the rules of document 01 alone; none where it breaks one.
-fn read_by_01(value: &[u8]) -> Option<Recipe> {
+/// What a value says by all rules but that against leaps; none where it breaks one.
+fn read_with_leaps(value: &[u8]) -> Option<Recipe> {
     if value.len() < limits::VALUE_LEAST || value.len() > limits::VALUE {
         return None;
     }
@@ -93,15 +93,15 @@ fn leaps(recipe: &Recipe) -> bool {
     differences(&recipe.setpoints).iter().any(|by| by.abs() > limits::LEAP)
 }
 
-/// The recipe that a value is; none where it breaks a rule of document 01, or of document 02 (ix): "Refuse with 9 any recipe in which neighbouring trims
+/// The recipe that a value is; none where it breaks a rule (RULES, Recipes), that against leaps too: "Refuse with 9 any recipe in which neighbouring trims
 /// differ by more than 5,000 millinewtons; exactly 5,000 passes."
 pub fn read(value: &[u8]) -> Option<Recipe> {
-    read_by_01(value).filter(|recipe| !leaps(recipe))
+    read_with_leaps(value).filter(|recipe| !leaps(recipe))
 }
 
-/// Whether a value keeps every rule of document 01 and leaps: it may be held from before the rule, and isn't taken any more.
+/// Whether a value breaks no rule but that against leaps: it may be held from before the rule, and isn't taken any more.
 pub fn is_leaper(value: &[u8]) -> bool {
-    read_by_01(value).is_some_and(|recipe| leaps(&recipe))
+    read_with_leaps(value).is_some_and(|recipe| leaps(&recipe))
 }
 
 pub fn write_setpoints(setpoints: &[Setpoint]) -> Vec<u8> {

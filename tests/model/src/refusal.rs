@@ -1,4 +1,4 @@
-//! The refusals by name; the number of each is document 01's.
+//! The refusals by name; the number of each is that of RULES, Refusals.
 
 #[derive(Clone, Copy, Debug, PartialEq, Eq, PartialOrd, Ord, Hash)]
 #[repr(u8)]

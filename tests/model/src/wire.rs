@@ -1,4 +1,4 @@
-//! Protocol Buffers: varints and fields, as document 01 reads and writes them.
+//! Protocol Buffers: varints and fields, as RULES, Messages, has them.
 
 /// A part of a body: where it starts, and its length. What is absent is at 0 with length 0.
 #[derive(Clone, Copy, Debug, Default, PartialEq, Eq)]

@@ -1,4 +1,4 @@
-//! Every bench example of document 01, and the sizes and old mistakes it names; of document 02 (x), what a doubtful requester is told.
+//! All of RULES, Examples, the sizes and old mistakes that RULES names, and what a doubtful requester is told.
 
 use starterbell_model::contacts::{self, Newcomer, Seen, Settled};
 use starterbell_model::gen::{place_in, Rng};
@@ -239,7 +239,7 @@ fn the_extra_entry_of_find_node() {
     assert_eq!((held.len(), &held[0].id[..], sighting), (20, &b"asker"[..], Some(Seen::Moved { slot: 25 })), "it is there already");
 }
 
-/// Document 02 (x): the extra entry stands even if its peer is doubtful, and a sighting ends the doubt.
+/// Request x: the extra entry stands even if its peer is doubtful, and a sighting ends the doubt.
 #[test]
 fn a_doubtful_requester_is_the_last_entry() {
     let me = me();

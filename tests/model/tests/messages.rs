@@ -95,7 +95,7 @@ fn any_bytes_are_read_or_refused() {
     assert!(seen[0] > 5_000 && seen[1] > 3_000 && seen[2] > 50 && seen[3] > 50, "{seen:?}");
 }
 
-/// Document 02 (iv): a record's key and value, by position, from all its occurrences.
+/// Request iv: a record's key and value, by position, from all its occurrences.
 #[test]
 fn split_records() {
     let at = |at, len| Span { at, len };
@@ -171,7 +171,7 @@ fn recipes_read_back() {
     assert!(taken > 300 && taken < 6_000, "{taken}");
 }
 
-/// Both sides of document 02 (ix)'s line come up, wherever a leap can be.
+/// Both sides of request ix's line come up, wherever a leap can be.
 #[test]
 fn made_up_recipes_and_leapers() {
     let mut rng = Rng::new(18);

@@ -430,7 +430,7 @@ fn with_trims(trims: &[i64], sequence: u64, note: &[u8]) -> Vec<u8> {
     recipe::write(&Recipe { note: note.to_vec(), setpoints, sequence })
 }
 
-/// Document 02 (ix): neighbouring trims differ by 5,000 at most.
+/// Request ix: neighbouring trims differ by 5,000 at most.
 #[test]
 fn refusal_9_of_leaps() {
     let mut worked = vec![0x00, 0x00, 0x01, 0x90, 0x4e, 0x15, 0, 0, 0, 2, 0, 1, 0, 7, 0, 0, 0, 0, 0, 0, 0];
@@ -472,10 +472,10 @@ fn refusal_9_of_leaps() {
         let asked = put(b"/wind/e", b"/wind/e", &value);
         assert_eq!((bench.refused(&asked), bench.is_shut()), ((9, asked.len()), true));
     }
-    assert!(!recipe::is_leaper(&with_trims(&[0, 20_001], 1, b"")), "it breaks a rule of document 01");
+    assert!(!recipe::is_leaper(&with_trims(&[0, 20_001], 1, b"")), "it breaks another rule too");
 }
 
-/// Document 02 (ix): "Records already held stay held and are still served and ranked."
+/// Request ix: "Records already held stay held and are still served and ranked."
 #[test]
 fn a_held_leaper() {
     let leaper = |sequence, note: &[u8]| with_trims(&[0, 9_000], sequence, note);
@@ -714,7 +714,7 @@ fn a_mark_of_doubt_stays_until_its_contact_is_seen_or_answers() {
     assert_eq!(doubtful(&table, &me), [0; 0], "so is one that was removed, whatever stood in its free slot");
 }
 
-/// Document 02 (x): marked ones are passed over before the 20 are chosen.
+/// Request x: marked ones are passed over before the 20 are chosen.
 #[test]
 fn of_25_with_the_8_nearest_doubtful_17_are_nearest() {
     let me = me();

@@ -66,7 +66,7 @@ fn spoiled_memory_gives_0_and_stays() {
     assert!(spoiled_tables > 300 && spoiled_stores > 200, "{spoiled_tables} {spoiled_stores}");
 }
 
-/// The table as the documents speak of it: buckets from head to tail, nothing of slots. A contact is an id, addresses, and whether it is doubtful.
+/// The table as the rules speak of it: buckets from head to tail, nothing of slots. A contact is an id, addresses, and whether it is doubtful.
 type Buckets = BTreeMap<usize, Vec<(Vec<u8>, Vec<Vec<u8>>, bool)>>;
 
 fn as_buckets(table: &[u8], me: &Me) -> Buckets {

@@ -105,7 +105,7 @@ pub fn spoiled_table(rng: &mut Rng, ours: &Place, ids: &[Vec<u8>], slots: usize)
     spoiled
 }
 
-/// A store in form. Values needn't be recipes, for the form doesn't ask: some leap, as records from before document 02 (ix) may.
+/// A store in form. Values needn't be recipes, for the form doesn't ask: some leap, as records from before request ix may.
 pub fn store(rng: &mut Rng, keys: &[Vec<u8>], slots: usize, clean: bool) -> Vec<u8> {
     let mut held = BTreeMap::new();
     for _ in 0..rng.size(0, slots) {
