@@ -28,9 +28,9 @@
      Lent memory is plain bytes: a host may write it to a file, and lend it again after a power cut. It is then the memory that it was, and calls go on as if
      nothing had happened: what is promised of memory that was cleared once, and since then lent whole and changed by calls alone, still holds. So a record that
      was accepted stays the one found.
-     What goes together: contacts with their box, which is `me`, or the id and the addresses from which starterbell_start makes the same bytes; a lookup with the
-     box that it was started for, whose candidates in flight are then reported by starterbell_lookup_failure. Records stand for themselves. A connection isn't
-     worth saving, since its peer's stream is gone.
+     What goes together: contacts with `me`, or with the id and the addresses from which starterbell_start makes the same bytes of it again; a lookup with the `me`
+     that it was started for, and its candidates in flight are then reported by starterbell_lookup_failure. Records stand for themselves. A connection isn't worth
+     saving, since its peer's stream is gone.
      Save between two calls, never during one, and whole: write a second file and then rename it. Half of an old table and half of a new one may be in form, and
      yet be nothing that calls made. Look that all of the bytes came back: form is no checksum, and a file that was cut short may be in form.
      What is out of form gets 0 from every call that would go on from it, and isn't written. What is in form but wasn't made by calls is dealt with safely, as any
