@@ -1,8 +1,8 @@
 /* The calls of starterbell.h with structs for what they are lent and for the numbers that they give. C99 and C++11; it needs the library and nothing else.
 
    Nothing is added and nothing is hidden: each function here is one call there, whose comment says what it does. `code` is what that call returned, a refusal's
-   number or an answer, and is to be looked at first. Other fields are 0, and pointers null, where the call gave nothing for them. Memory is the host's as there;
-   a call's stack is as there, and what these structs take on top. */
+   number or an answer, and is to be looked at first. Other fields are 0, and bytes have no length, where the call gave nothing for them. Memory is the host's as
+   there; a call's stack is as there, and what these structs take on top. */
 #ifndef STARTERBELL_BOX_H
 #define STARTERBELL_BOX_H
 
@@ -243,7 +243,7 @@ static inline struct starterbell_found starterbell_box_find(const struct starter
     struct starterbell_found found;
     uint64_t out[STARTERBELL_FIND_OUT] = {0};
     found.code = starterbell_find(box->records, box->records_length, key.at, key.length, out, STARTERBELL_FIND_OUT);
-    found.value = starterbell_bytes_at(NULL, 0);
+    found.value = starterbell_nothing();
     if (found.code == STARTERBELL_FIND_HELD)
         found.value = starterbell_bytes_at(box->records + out[STARTERBELL_FIND_OUT_START], (size_t)(out[STARTERBELL_FIND_OUT_END] - out[STARTERBELL_FIND_OUT_START]));
     return found;

@@ -396,6 +396,41 @@ static void play_sighting(void) {
     expect("the sender's slot", got.slot, 1);
 }
 
+/* ---- Peers of a message */
+
+static void expect_peer(const struct starterbell_named *peer, const char *id, uint64_t connection, size_t count, const char *last) {
+    struct starterbell_bytes want = starterbell_text(id), address = starterbell_text(last);
+    expect("a peer", peer->code, STARTERBELL_PEER_AT);
+    expect_bytes("a peer's id", peer->id.at, peer->id.length, want.at, want.length);
+    expect("a peer's connection", peer->connection, connection);
+    expect("how many addresses it has", peer->address_count, count);
+    expect_bytes("its last address", peer->addresses[count - 1].at, peer->addresses[count - 1].length, address.at, address.length);
+}
+
+/* Two peers that are written and named again: for each the id and its length, its connection, and its addresses with the length of all of them and of each. */
+static void play_peers(void) {
+    static const uint8_t list[] = {1, 0, 'a', STARTERBELL_PEER_CAN_CONNECT, 9, 0, 2, 0, 'u', 'p', 3, 0, 'l', 'o', 'w', 3, 0, 'b', 'o', 'b',
+        STARTERBELL_PEER_CONNECTED, 3, 0, 1, 0, 'x'};
+    static uint8_t message[STARTERBELL_REPLY_BUFFER];
+    struct starterbell_message reply_of = starterbell_message_of(STARTERBELL_TYPE_FIND_NODE, starterbell_nothing());
+    struct starterbell_bytes body;
+    struct starterbell_named peer;
+    reply_of.closer = starterbell_bytes_at(list, sizeof list);
+    body = starterbell_bytes_at(message + 1, starterbell_message_write(message, sizeof message, &reply_of).length - 1);
+    peer = starterbell_message_peer(body, 0, 0);
+    expect_peer(&peer, "a", STARTERBELL_PEER_CAN_CONNECT, 2, "low");
+    /* after the type, and the entry's tag and length */
+    expect("where the first entry starts", peer.start, 4);
+    expect("where it ends", peer.end, 18);
+    peer = starterbell_message_peer(body, 0, peer.end);
+    expect_peer(&peer, "bob", STARTERBELL_PEER_CONNECTED, 1, "x");
+    expect("where the last entry ends", peer.end, body.length);
+    peer = starterbell_message_peer(body, 0, peer.end);
+    expect("a third peer", peer.code, STARTERBELL_PEER_NOTHING);
+    expect("its id's length", peer.id.length, 0);
+    expect("its addresses", peer.address_count, 0);
+}
+
 /* ---- Lookups */
 
 static struct starterbell_lookup lookup;
@@ -582,6 +617,7 @@ int main(void) {
     play_bucket();
     play_doubt();
     play_sighting();
+    play_peers();
     play_lookup();
     /* "256 candidates: a 257th marks" */
     play_crowd(236, STARTERBELL_LOOKUP_COMPLETE);

@@ -347,7 +347,10 @@ int main(int argc, char **argv) {
         if (used > most) most = used;
         over += used > calls[i].enough;
     }
-    if (over > 0) return 1;
+    if (over > 0) {
+        printf("stack: for %zu of these calls the header says too little\n", over);
+        return 1;
+    }
     printf("no function uses more stack than the header says, nor more than %zu bytes; a stack of %zu is enough for all of them\n", most, stack_size);
     return 0;
 }
