@@ -1,4 +1,4 @@
-/* Writes winding recipes, the values of starterbell_put and of a PUT_VALUE. C99 and C++; it needs no library.
+/* Writes winding recipes, the values of starterbell_put and of a PUT_VALUE. C99 and C++11; it needs no library.
 
    This is plain C, and not proved; starterbell_put judges every value by itself. What is written here it takes, and where a rule is broken here it gives 9:
    tests/host/recipes.c holds the two against each other. */
@@ -41,28 +41,19 @@ struct starterbell_recipe_written {
     size_t setpoint;
 };
 
-/* A rule in words, for a screen or a log. A number that is no rule gives "no rule", never null. */
+/* A rule in the words of the enum, for a screen or a log. A number that is no rule gives "no rule", never null. */
 static inline const char *starterbell_recipe_rule_text(uint32_t rule) {
-    switch (rule) {
-    case STARTERBELL_RECIPE_WRITTEN:
-        return "none: the recipe is written";
-    case STARTERBELL_RECIPE_TOO_MANY:
-        return "more than 200 setpoints";
-    case STARTERBELL_RECIPE_TURN_TOO_HIGH:
-        return "turn over 1,000,000";
-    case STARTERBELL_RECIPE_TURN_NOT_RISING:
-        return "turn not higher than the one before";
-    case STARTERBELL_RECIPE_TRIM_OUT_OF_RANGE:
-        return "trim not from -20,000 to 20,000";
-    case STARTERBELL_RECIPE_TRIM_LEAPS:
-        return "trim more than 5,000 from the one before";
-    case STARTERBELL_RECIPE_TOO_LONG:
-        return "value over 2,048 bytes";
-    case STARTERBELL_RECIPE_SMALL_BUFFER:
-        return "the buffer has no room for the value; starterbell_put would take it";
-    default:
-        return "no rule";
-    }
+    static const char *const texts[] = {
+        "none: the recipe is written",
+        "more than 200 setpoints",
+        "turn over 1,000,000",
+        "turn not higher than the one before",
+        "trim not from -20,000 to 20,000",
+        "trim more than 5,000 from the one before",
+        "value over 2,048 bytes",
+        "the buffer has no room for the value; starterbell_put would take it",
+    };
+    return rule < sizeof texts / sizeof *texts ? texts[rule] : "no rule";
 }
 
 /* ---- Parts of the writer */

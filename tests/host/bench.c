@@ -1,5 +1,5 @@
-/* bench: the examples of docs/RULES.md (Examples) and a recipe that leaps (Recipes), played through include/starterbell.h and the structs of starterbell_box.h, as
-   the host of a box would call them. It ends with status 0 and a line of what was played, or at the first difference with status 1 and a line that says it.
+/* bench: the examples of docs/RULES.md, Examples, and a recipe that leaps (RULES, Recipes), played through include/starterbell.h and the structs of starterbell_box.h,
+   as the host of a box would call them. It ends with status 0 and a line of what was played, or at the first difference with status 1 and a line that says it.
 
    It is example code too, in C99 that C++11 takes. A host lends a box all of its memory, so everything here is static: nothing is allocated, and the functions
    keep nothing. Read `struct box` for what is lent, `serve` for how bytes go in and replies come out, and `look_up` for the asking side.
@@ -622,6 +622,6 @@ int main(void) {
     /* "256 candidates: a 257th marks" */
     play_crowd(236, STARTERBELL_LOOKUP_COMPLETE);
     play_crowd(237, STARTERBELL_LOOKUP_CUT_SHORT);
-    printf("the examples of RULES, a recipe that leaps and a lookup over a loop of %d boxes, through the C header: %u comparisons\n", WORKSHOPS, compared);
+    printf("the examples of RULES and a lookup over a loop of %d boxes, through the C headers: %u comparisons\n", WORKSHOPS, compared);
     return 0;
 }
