@@ -64,11 +64,9 @@ extern "C" {
 #define STARTERBELL_CONNECTION 640
 #define STARTERBELL_LOOKUP 25256
 
-/* Bytes of a contact's slot and of a record's, and the most slots that are looked at. A part of a slot at the end isn't touched. Byte
- * STARTERBELL_CONTACT_DOUBT_AT of a contact's slot is 1 where it is doubtful, else 0. */
+/* Bytes of a contact's slot and of a record's, and the most slots that are looked at. A part of a slot at the end isn't touched. */
 #define STARTERBELL_CONTACT_SLOT 616
 #define STARTERBELL_CONTACT_SLOTS_MOST 5120
-#define STARTERBELL_CONTACT_DOUBT_AT 1
 #define STARTERBELL_RECORD_SLOT 2184
 #define STARTERBELL_RECORD_SLOTS_MOST 256
 
@@ -97,8 +95,8 @@ extern "C" {
 
 /* ---- Stack
 
-   The bytes of stack that are enough for each call, on Arm (aarch64) and on x86-64, with the most memory that may be lent: what was measured, rounded up to a
-   multiple of 256. STARTERBELL_STACK_MOST is enough for every call. */
+   Bytes of stack that are enough for each call, on Arm (aarch64) and on x86-64: the most that it used with all the memory that may be lent, rounded up to a multiple
+   of 256. That is measured (tests/stack), not proved. STARTERBELL_STACK_MOST is enough for every call. */
 #define STARTERBELL_STACK_START 2816
 #define STARTERBELL_STACK_OPEN 3584
 #define STARTERBELL_STACK_RECEIVE 16384
@@ -123,7 +121,10 @@ extern "C" {
 /* ---- What a host may read in lent memory */
 
 /* In a box, a contact's slot and the start of a connection: the length of the id, how many addresses there are, their four lengths, the place (SHA-256 of the
-   id), the id, and four rooms of 128 bytes for the addresses. Byte 0 of a contact's slot is 0 where the slot is free. */
+   id), the id, and four rooms of 128 bytes for the addresses. A contact's slot has before them its rank in its bucket plus 1, which is 0 where the slot is free, and
+   its doubt: 1 where the contact is doubtful, else 0. */
+#define STARTERBELL_CONTACT_RANK_AT 0
+#define STARTERBELL_CONTACT_DOUBT_AT 1
 #define STARTERBELL_PEER_ID_LENGTH_AT 2
 #define STARTERBELL_PEER_ADDRESS_COUNT_AT 3
 #define STARTERBELL_PEER_ADDRESS_LENGTHS_AT 4

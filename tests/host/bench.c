@@ -322,7 +322,7 @@ static unsigned bucket_holds(const uint8_t *slot) {
     unsigned i, among = 0;
     for (i = 0; i < CONTACTS; i++) {
         const uint8_t *other = starterbell_box_contact(&box.core, i);
-        among += other[0] != 0 && bucket(other, box.core.me) == bucket(slot, box.core.me);
+        among += other[STARTERBELL_CONTACT_RANK_AT] != 0 && bucket(other, box.core.me) == bucket(slot, box.core.me);
     }
     return among;
 }

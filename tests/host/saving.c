@@ -268,7 +268,7 @@ static void break_bytes(uint8_t *memory, const struct broken *bytes, size_t coun
 }
 
 static void break_contacts(void) {
-    static const struct broken bytes[] = {{"a contact of no rank in a bucket", 0, 21}, {"a doubt of 2", STARTERBELL_CONTACT_DOUBT_AT, 2},
+    static const struct broken bytes[] = {{"a contact of no rank in a bucket", STARTERBELL_CONTACT_RANK_AT, 21}, {"a doubt of 2", STARTERBELL_CONTACT_DOUBT_AT, 2},
         {"an id of no bytes", STARTERBELL_PEER_ID_LENGTH_AT, 0}, {"an id of 65 bytes", STARTERBELL_PEER_ID_LENGTH_AT, 65},
         {"five addresses", STARTERBELL_PEER_ADDRESS_COUNT_AT, 5}, {"an address of no bytes", STARTERBELL_PEER_ADDRESS_LENGTHS_AT, 0},
         {"an address of 129 bytes", STARTERBELL_PEER_ADDRESS_LENGTHS_AT, 129}};

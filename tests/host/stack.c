@@ -63,7 +63,7 @@ static void make_contacts(void) {
     for (bucket = 0; bucket <= 250; bucket++)
         for (who = 0; who < 20; who++, slot += STARTERBELL_CONTACT_SLOT) {
             memcpy(slot, me, STARTERBELL_BOX);
-            slot[0] = (uint8_t)(who + 1);
+            slot[STARTERBELL_CONTACT_RANK_AT] = (uint8_t)(who + 1);
             slot[STARTERBELL_PEER_PLACE_AT + bucket / 8] ^= (uint8_t)(0x80 >> bucket % 8);
             slot[STARTERBELL_PEER_PLACE_AT + 31] ^= (uint8_t)who;
             slot[STARTERBELL_PEER_ID_AT] = (uint8_t)bucket;
