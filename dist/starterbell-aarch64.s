@@ -1,6 +1,6 @@
 /* Starterbell for Linux on aarch64: what the proved sources of crates/host compile to. include/starterbell.h declares its functions.
    Written by tools/dist; the gate compiles the sources again and compares.
-   sources: 0636a2d1cfd495f6bd4a76f3c2bb7554d7a7d23c4dd7e1272c010996e09fffa8 */
+   sources: b17fcfe140aefa7615fcff7b96f7f397d17a7599999bce5b8d3b2df798bfe623 */
 	.section	".text.octets::lower_bytes","ax",@progbits
 	.p2align	2
 	.type	"octets::lower_bytes",@function

@@ -11,7 +11,7 @@
      A box, a connection and a lookup are bytes that only these functions write. The host may copy them; there are no pointers in them.
      Contacts and records are lists of slots, cleared by the host once before their first use (all zeros), and then written by these functions alone.
      Calls that are lent none of the same memory may run at the same time.
-     No call has used more than 16 KB of stack, measured on Arm and on x86-64 (README.md has the figures).
+     How much stack each call needs is below, in Stack.
 
    What a call returns
      A refusal's number, 0 to 21 (enum starterbell_refusal), or an answer from 64 up (enum starterbell_answer).
@@ -22,7 +22,24 @@
      An id is a peer's id, 1 to 64 bytes. A key of a lookup or request is 1 to 128 bytes.
      Addresses are one byte string: for each its length in two bytes, the lower first, and then its bytes. Those of 1 to 128 bytes are usable, and the first four
      usable ones are kept. One that runs past the end ends the list.
-     A yes or no is a number: 0 is no, any other is yes. */
+     A yes or no is a number: 0 is no, any other is yes.
+
+   Saving
+     Lent memory is plain bytes: a host may write it to a file, and lend it again after a power cut. It is then the memory that it was, and calls go on as if
+     nothing had happened: what is promised of memory that was cleared once, and since then lent whole and changed by calls alone, still holds. So a record that
+     was accepted stays the one found.
+     What goes together: contacts with `me`, or with the id and the addresses from which starterbell_start makes the same bytes of it again; a lookup with the `me`
+     that it was started for, and its candidates in flight are then reported by starterbell_lookup_failure. Records stand for themselves. A connection isn't worth
+     saving, since its peer's stream is gone.
+     Save between two calls, never during one, and whole: write a second file and then rename it. Half of an old table and half of a new one may be in form, and
+     yet be nothing that calls made. Look that all of the bytes came back: form is no checksum, and a file that was cut short may be in form.
+     What is out of form gets 0 from every call that would go on from it, and isn't written. What is in form but wasn't made by calls is dealt with safely, as any
+     bytes are; but nothing is promised about its nearest contacts, since places that are stored aren't hashed again, nor about its values, which aren't judged
+     again.
+     Bytes are for the version that wrote them (STARTERBELL_VERSION), so save that with them: another may have other limits or another layout.
+
+   Beside this header there are three, with functions in C over these: starterbell_box.h, which takes a box, a connection and a lookup as structs and answers with
+   structs; starterbell_recipe.h, which writes recipes; and starterbell_names.h, which has the refusals' texts. */
 #ifndef STARTERBELL_H
 #define STARTERBELL_H
 
@@ -33,6 +50,13 @@
 extern "C" {
 #endif
 
+/* ---- Version */
+
+#define STARTERBELL_VERSION_MAJOR 0
+#define STARTERBELL_VERSION_MINOR 1
+#define STARTERBELL_VERSION_PATCH 0
+#define STARTERBELL_VERSION "0.1.0"
+
 /* ---- Sizes */
 
 /* Bytes of a box, of a connection and of a lookup. In fewer a call gives 0; those past them aren't looked at. */
@@ -40,11 +64,9 @@ extern "C" {
 #define STARTERBELL_CONNECTION 640
 #define STARTERBELL_LOOKUP 25256
 
-/* Bytes of a contact's slot and of a record's, and the most slots that are looked at. A part of a slot at the end isn't touched. Byte
- * STARTERBELL_CONTACT_DOUBT_AT of a contact's slot is 1 where it is doubtful, else 0. */
+/* Bytes of a contact's slot and of a record's, and the most slots that are looked at. A part of a slot at the end isn't touched. */
 #define STARTERBELL_CONTACT_SLOT 616
 #define STARTERBELL_CONTACT_SLOTS_MOST 5120
-#define STARTERBELL_CONTACT_DOUBT_AT 1
 #define STARTERBELL_RECORD_SLOT 2184
 #define STARTERBELL_RECORD_SLOTS_MOST 256
 
@@ -52,27 +74,57 @@ extern "C" {
 #define STARTERBELL_RECEIVE_BUFFER 16384
 #define STARTERBELL_REPLY_BUFFER 16387
 
-/* How many numbers go to `out`, by the call. STARTERBELL_OUT_MOST is enough for every call. */
-#define STARTERBELL_SEEN_OUT 1
-#define STARTERBELL_NEAREST_OUT 21
-#define STARTERBELL_FIND_OUT 2
-#define STARTERBELL_VIEW 8
-#define STARTERBELL_PEER_OUT 22
-#define STARTERBELL_PEER_ADDRESS_OUT 2
-#define STARTERBELL_WRITE_OUT 1
-#define STARTERBELL_RECEIVE_OUT 12
-#define STARTERBELL_LOOKUP_OUT 22
+/* How many numbers go to `out` at most: enough for every call. Each call's own are in the enums starterbell_.._out below. */
 #define STARTERBELL_OUT_MOST 22
 
-/* Of the numbers of a peer: which says how many addresses it has, the first of those that say where they are, and of how many these tell. */
-#define STARTERBELL_PEER_COUNT 5
-#define STARTERBELL_PEER_PLACES 6
+/* The most bytes of an id, of an address, of a key and of a value, and the bytes of a place. */
+#define STARTERBELL_ID_MOST 64
+#define STARTERBELL_ADDRESS_MOST 128
+#define STARTERBELL_KEY_MOST 128
+#define STARTERBELL_VALUE_MOST 2048
+#define STARTERBELL_PLACE 32
+
+/* The most addresses that are kept of a peer, contacts in a bucket, contacts or peers that are nearest, and requests of a lookup at a time. */
+#define STARTERBELL_ADDRESSES_MOST 4
+#define STARTERBELL_BUCKET_MOST 20
+#define STARTERBELL_NEAREST_MOST 20
+#define STARTERBELL_CONCURRENCY_MOST 10
+
+/* Of how many addresses starterbell_peer tells where they are. */
 #define STARTERBELL_PEER_FIRST 8
+
+/* ---- Stack
+
+   Bytes of stack that are enough for each call, on Arm (aarch64) and on x86-64: the most that it used with all the memory that may be lent, rounded up to a multiple
+   of 256. That is measured (tests/stack), not proved. STARTERBELL_STACK_MOST is enough for every call. */
+#define STARTERBELL_STACK_START 2816
+#define STARTERBELL_STACK_OPEN 3584
+#define STARTERBELL_STACK_RECEIVE 16384
+#define STARTERBELL_STACK_END 2304
+#define STARTERBELL_STACK_SEEN 11520
+#define STARTERBELL_STACK_SETTLE 13824
+#define STARTERBELL_STACK_REMOVE 10752
+#define STARTERBELL_STACK_DOUBT 10752
+#define STARTERBELL_STACK_NEAREST 11008
+#define STARTERBELL_STACK_PUT 768
+#define STARTERBELL_STACK_FIND 768
+#define STARTERBELL_STACK_READ 768
+#define STARTERBELL_STACK_PEER 768
+#define STARTERBELL_STACK_PEER_ADDRESS 512
+#define STARTERBELL_STACK_WRITE 768
+#define STARTERBELL_STACK_LOOKUP_START 11776
+#define STARTERBELL_STACK_LOOKUP_NEXT 1280
+#define STARTERBELL_STACK_LOOKUP_REPLY 4352
+#define STARTERBELL_STACK_LOOKUP_FAILURE 2304
+#define STARTERBELL_STACK_MOST 16384
 
 /* ---- What a host may read in lent memory */
 
 /* In a box, a contact's slot and the start of a connection: the length of the id, how many addresses there are, their four lengths, the place (SHA-256 of the
-   id), the id, and four rooms of 128 bytes for the addresses. Byte 0 of a contact's slot is 0 where the slot is free. */
+   id), the id, and four rooms of 128 bytes for the addresses. A contact's slot has before them its rank in its bucket plus 1, which is 0 where the slot is free, and
+   its doubt: 1 where the contact is doubtful, else 0. */
+#define STARTERBELL_CONTACT_RANK_AT 0
+#define STARTERBELL_CONTACT_DOUBT_AT 1
 #define STARTERBELL_PEER_ID_LENGTH_AT 2
 #define STARTERBELL_PEER_ADDRESS_COUNT_AT 3
 #define STARTERBELL_PEER_ADDRESS_LENGTHS_AT 4
@@ -81,8 +133,29 @@ extern "C" {
 #define STARTERBELL_PEER_ADDRESSES_AT 104
 #define STARTERBELL_PEER_ADDRESS_ROOM 128
 
+/* In a record's slot: the length of the key, which is 0 where the slot is free, the length of the value in two bytes, the lower first, the key, and the value. */
+#define STARTERBELL_RECORD_KEY_LENGTH_AT 0
+#define STARTERBELL_RECORD_VALUE_LENGTH_AT 2
+#define STARTERBELL_RECORD_KEY_AT 8
+#define STARTERBELL_RECORD_VALUE_AT 136
+
+/* A value is a recipe: a note, setpoints, and a trailer. A setpoint is its turn, at most STARTERBELL_TURN_MOST and higher than the one before, and its trim, at
+   most STARTERBELL_TRIM_MOST millinewtons either way and at most STARTERBELL_LEAP_MOST from the one before; both as varints with no needless byte, the trim in
+   zigzag form (0, -1, 1, -2 .. are 0, 1, 2, 3 ..). In the trailer, the lowest byte first: in four bytes how far the first setpoint is from the value's end, in two
+   the number of setpoints, in two the format, and in eight the sequence. */
+#define STARTERBELL_RECIPE_TRAILER 16
+#define STARTERBELL_RECIPE_DISTANCE_AT 0
+#define STARTERBELL_RECIPE_COUNT_AT 4
+#define STARTERBELL_RECIPE_FORMAT_AT 6
+#define STARTERBELL_RECIPE_SEQUENCE_AT 8
+#define STARTERBELL_RECIPE_FORMAT 1
+#define STARTERBELL_SETPOINTS_MOST 200
+#define STARTERBELL_TURN_MOST 1000000
+#define STARTERBELL_TRIM_MOST 20000
+#define STARTERBELL_LEAP_MOST 5000
+
 /* In a lookup: the number of candidates in two bytes, the lower first, and the candidates from the nearest on. The candidate of rank r is at
-   STARTERBELL_CANDIDATES_AT + r * STARTERBELL_CANDIDATE; in it are its mark (0 idle, 1 in flight, 2 answered, 3 failed), the length of its id, and its id. */
+   STARTERBELL_CANDIDATES_AT + r * STARTERBELL_CANDIDATE; in it are its mark (enum starterbell_mark), the length of its id, and its id. */
 #define STARTERBELL_CANDIDATE_COUNT_AT 0
 #define STARTERBELL_CANDIDATES_AT 168
 #define STARTERBELL_CANDIDATE 98
@@ -172,13 +245,116 @@ enum starterbell_answer {
     STARTERBELL_LOOKUP_CUT_SHORT = 68
 };
 
-/* What came of a sender's sighting, the third number of a receive. */
+/* The types of messages. */
+enum starterbell_type {
+    STARTERBELL_TYPE_PUT_VALUE = 0,
+    STARTERBELL_TYPE_GET_VALUE = 1,
+    STARTERBELL_TYPE_ADD_PROVIDER = 2,
+    STARTERBELL_TYPE_GET_PROVIDERS = 3,
+    STARTERBELL_TYPE_FIND_NODE = 4,
+    STARTERBELL_TYPE_PING = 5
+};
+
+/* The connection of a peer, as the one that names it in a message has it. */
+enum starterbell_peer_connection {
+    STARTERBELL_PEER_NOT_CONNECTED = 0,
+    STARTERBELL_PEER_CONNECTED = 1,
+    STARTERBELL_PEER_CAN_CONNECT = 2,
+    STARTERBELL_PEER_CANNOT_CONNECT = 3
+};
+
+/* The mark of a lookup's candidate. */
+enum starterbell_mark {
+    STARTERBELL_MARK_IDLE = 0,
+    STARTERBELL_MARK_IN_FLIGHT = 1,
+    STARTERBELL_MARK_ANSWERED = 2,
+    STARTERBELL_MARK_FAILED = 3
+};
+
+/* What came of a sender's sighting. */
 enum starterbell_sighting {
     STARTERBELL_SIGHTING_NOT_SEEN = 0,
     STARTERBELL_SIGHTING_MOVED = 1,
     STARTERBELL_SIGHTING_JOINED = 2,
     STARTERBELL_SIGHTING_FULL = 3,
     STARTERBELL_SIGHTING_NO_SLOT = 4
+};
+
+/* ---- Places in `out`, and after them how many numbers a call writes there */
+
+/* The view of a message. A part that is absent starts and ends at 0. */
+enum starterbell_view {
+    STARTERBELL_VIEW_TYPE = 0,
+    STARTERBELL_VIEW_KEY_START = 1,
+    STARTERBELL_VIEW_KEY_END = 2,
+    /* 1 if there is a record, else 0 */
+    STARTERBELL_VIEW_RECORD = 3,
+    STARTERBELL_VIEW_RECORD_KEY_START = 4,
+    STARTERBELL_VIEW_RECORD_KEY_END = 5,
+    STARTERBELL_VIEW_VALUE_START = 6,
+    STARTERBELL_VIEW_VALUE_END = 7,
+    STARTERBELL_VIEW = 8
+};
+
+enum starterbell_receive_out {
+    STARTERBELL_RECEIVE_OUT_TAKEN = 0,
+    STARTERBELL_RECEIVE_OUT_LENGTH = 1,
+    STARTERBELL_RECEIVE_OUT_SIGHTING = 2,
+    STARTERBELL_RECEIVE_OUT_SLOT = 3,
+    /* for HEARD, the view of the message */
+    STARTERBELL_RECEIVE_OUT_VIEW = 4,
+    STARTERBELL_RECEIVE_OUT = 12
+};
+
+enum starterbell_seen_out {
+    STARTERBELL_SEEN_OUT_SLOT = 0,
+    STARTERBELL_SEEN_OUT = 1
+};
+
+enum starterbell_nearest_out {
+    STARTERBELL_NEAREST_OUT_COUNT = 0,
+    STARTERBELL_NEAREST_OUT_SLOTS = 1,
+    STARTERBELL_NEAREST_OUT = 21
+};
+
+enum starterbell_find_out {
+    STARTERBELL_FIND_OUT_START = 0,
+    STARTERBELL_FIND_OUT_END = 1,
+    STARTERBELL_FIND_OUT = 2
+};
+
+enum starterbell_peer_out {
+    STARTERBELL_PEER_OUT_START = 0,
+    STARTERBELL_PEER_OUT_END = 1,
+    STARTERBELL_PEER_OUT_ID_START = 2,
+    STARTERBELL_PEER_OUT_ID_END = 3,
+    STARTERBELL_PEER_OUT_CONNECTION = 4,
+    STARTERBELL_PEER_OUT_ADDRESS_COUNT = 5,
+    /* where each of the first STARTERBELL_PEER_FIRST addresses starts and ends */
+    STARTERBELL_PEER_OUT_ADDRESSES = 6,
+    STARTERBELL_PEER_OUT = 22
+};
+
+enum starterbell_peer_address_out {
+    STARTERBELL_PEER_ADDRESS_OUT_START = 0,
+    STARTERBELL_PEER_ADDRESS_OUT_END = 1,
+    STARTERBELL_PEER_ADDRESS_OUT = 2
+};
+
+enum starterbell_write_out {
+    STARTERBELL_WRITE_OUT_LENGTH = 0,
+    STARTERBELL_WRITE_OUT = 1
+};
+
+/* lookup_start, lookup_next, lookup_reply, lookup_failure */
+enum starterbell_lookup_out {
+    /* for ASK */
+    STARTERBELL_LOOKUP_OUT_RANK = 0,
+    /* for COMPLETE and CUT_SHORT */
+    STARTERBELL_LOOKUP_OUT_REQUESTS = 0,
+    STARTERBELL_LOOKUP_OUT_FOUND = 1,
+    STARTERBELL_LOOKUP_OUT_RANKS = 2,
+    STARTERBELL_LOOKUP_OUT = 22
 };
 
 /* ---- The box and its connections */
@@ -241,16 +417,16 @@ uint32_t starterbell_find(const uint8_t *records, size_t records_length, const u
 
 /* ---- Messages */
 
-/* The message that a body is, without its length prefix. DONE, or 4, 5 or 6. Its view goes to `out`: its type (0 PUT_VALUE, 1 GET_VALUE, 4 FIND_NODE, 5 PING),
-   where its key starts and ends, 1 if it has a record and else 0, and where the record's key and its value start and end. An absent part starts and ends at 0; one
+/* The message that a body is, without its length prefix. DONE, or 4, 5 or 6. Its view goes to `out`: its type (enum starterbell_type), where its key starts and
+   ends, 1 if it has a record and else 0, and where the record's key and its value start and end. An absent part starts and ends at 0; one
    that is there never starts at 0, even if it is empty. A record may come in several fields: then these are the last key and the last value of all of them, in any
    order and maybe far apart. */
 uint32_t starterbell_read(const uint8_t *body, size_t body_length, uint64_t *out, size_t out_length);
 
 /* The next entry, from a position on, of a message's closerPeers (list 0) or of its providerPeers (any other list). From 0, and then from each entry's end, these
-   are all of them. PEER_AT, and to `out` go where the entry starts and ends, where its id starts and ends, its connection, 0 to 3, how many addresses it has, and
-   where the first STARTERBELL_PEER_FIRST of these start and end, one after another, with zeros after the last: the address k from
-   STARTERBELL_PEER_PLACES + 2 * k on. A shorter `out` gets what fits. Or PEER_NOTHING. */
+   are all of them. PEER_AT, and to `out` go where the entry starts and ends, where its id starts and ends, its connection (enum starterbell_peer_connection), how
+   many addresses it has, and where the first STARTERBELL_PEER_FIRST of these start and end, one after another, with zeros after the last: the address k from
+   STARTERBELL_PEER_OUT_ADDRESSES + 2 * k on. A shorter `out` gets what fits. Or PEER_NOTHING. */
 uint32_t starterbell_peer(const uint8_t *body, size_t body_length, uint32_t list, size_t from, uint64_t *out, size_t out_length);
 
 /* The next address, from a position on, of the peer whose entry starts and ends there. From 0, and then from each address's end, these are all of them.

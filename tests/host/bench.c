@@ -1,11 +1,12 @@
-/* bench: document 01's bench examples and a recipe that leaps (document 02, ix), played through the functions that include/starterbell.h declares, as the host of a
-   box would call them. It ends with status 0 and a line of what was played, or at the first difference with status 1 and a line that says it.
+/* bench: the examples of docs/RULES.md, Examples, and a recipe that leaps (RULES, Recipes), played through include/starterbell.h and the structs of starterbell_box.h,
+   as the host of a box would call them. It ends with status 0 and a line of what was played, or at the first difference with status 1 and a line that says it.
 
-   It is example code too. A host lends a box all of its memory, so everything here is static: nothing is allocated, and the functions keep nothing. Read `struct
-   box` and `struct connection` for what is lent, `serve` for how bytes go in and replies come out, and `look_up` for the asking side.
+   It is example code too, in C99 that C++11 takes. A host lends a box all of its memory, so everything here is static: nothing is allocated, and the functions
+   keep nothing. Read `struct box` for what is lent, `serve` for how bytes go in and replies come out, and `look_up` for the asking side.
 
    Not played here: the examples of prefixes of places (a place is the hash of an id, so a host can't choose one) and the SHA-256 vectors. */
-#include "starterbell.h"
+#include "starterbell_box.h"
+#include "starterbell_recipe.h"
 
 #include <stdio.h>
 #include <stdlib.h>
@@ -38,46 +39,42 @@ enum { CONTACTS = 64, RECORDS = 4 };
 
 /* What a host lends for as long as the box runs. Contacts and records are cleared once; static memory is. */
 struct box {
-    uint8_t me[STARTERBELL_BOX];
+    struct starterbell_box core;
     uint8_t contacts[CONTACTS * STARTERBELL_CONTACT_SLOT];
     uint8_t records[RECORDS * STARTERBELL_RECORD_SLOT];
-};
-
-/* What a host lends for as long as a connection lasts: each has a receive buffer of its own. */
-struct connection {
-    uint8_t state[STARTERBELL_CONNECTION];
-    uint8_t buffer[STARTERBELL_RECEIVE_BUFFER];
 };
 
 /* Replies may share one buffer: a reply is sent before the next call. */
 static uint8_t reply[STARTERBELL_REPLY_BUFFER];
 
-/* For a call that takes no bytes there: pointers are never null. */
-static const uint8_t none[1];
+/* Addresses as calls take them: here a list of one, its length in two bytes before it. */
+struct addresses {
+    uint8_t list[2 + STARTERBELL_ADDRESS_MOST];
+};
+
+static struct starterbell_bytes one_address(struct addresses *to, const char *address) {
+    size_t length = strlen(address);
+    to->list[0] = (uint8_t)length;
+    to->list[1] = 0;
+    memcpy(to->list + 2, address, length);
+    return starterbell_bytes_at(to->list, 2 + length);
+}
 
 static void start(struct box *box, const char *id, const char *address) {
-    uint8_t list[2 + 128];
-    size_t length = strlen(address);
+    struct addresses addresses;
     memset(box, 0, sizeof *box);
-    list[0] = (uint8_t)length;
-    list[1] = 0;
-    memcpy(list + 2, address, length);
-    expect("start", starterbell_start(box->me, sizeof box->me, (const uint8_t *)id, strlen(id), list, 2 + length), STARTERBELL_DONE);
+    box->core.contacts = box->contacts;
+    box->core.contacts_length = sizeof box->contacts;
+    box->core.records = box->records;
+    box->core.records_length = sizeof box->records;
+    box->core.reply = reply;
+    box->core.reply_length = sizeof reply;
+    expect("start", starterbell_box_start(&box->core, starterbell_text(id), one_address(&addresses, address)), STARTERBELL_DONE);
 }
 
 /* A connection to a peer without addresses: `server` is its mode, `asking` says that we are the side that asks. */
-static void open_to(const struct box *box, struct connection *conn, const char *id, uint32_t server, uint32_t asking) {
-    expect("open", starterbell_open(box->me, sizeof box->me, conn->state, sizeof conn->state, (const uint8_t *)id, strlen(id), server, asking, none, 0),
-        STARTERBELL_DONE);
-}
-
-static uint32_t end_of(const struct box *box, struct connection *conn) {
-    return starterbell_end(box->me, sizeof box->me, conn->state, sizeof conn->state);
-}
-
-static uint32_t receive(struct box *box, struct connection *conn, const uint8_t *piece, size_t length, uint64_t out[STARTERBELL_RECEIVE_OUT]) {
-    return starterbell_receive(box->me, sizeof box->me, conn->state, sizeof conn->state, conn->buffer, sizeof conn->buffer, piece, length,
-        box->contacts, sizeof box->contacts, box->records, sizeof box->records, reply, sizeof reply, out, STARTERBELL_RECEIVE_OUT);
+static void open_to(const struct box *box, struct starterbell_connection *conn, const char *id, uint32_t server, uint32_t asking) {
+    expect("open", starterbell_box_open(&box->core, conn, starterbell_text(id), server, asking, starterbell_nothing()), STARTERBELL_DONE);
 }
 
 /* What was sent to a peer: here it is kept to be compared. */
@@ -88,19 +85,18 @@ struct sent {
 
 /* Serves one connection: bytes come in pieces of `cut`, and a piece may hold several messages, or a part of one. What a call didn't take of a piece is handed in
    again. Answers the refusal that shut the connection, or MORE. */
-static uint32_t serve(struct box *box, struct connection *conn, const uint8_t *bytes, size_t length, size_t cut, struct sent *to) {
-    uint64_t out[STARTERBELL_RECEIVE_OUT];
+static uint32_t serve(struct box *box, struct starterbell_connection *conn, const uint8_t *bytes, size_t length, size_t cut, struct sent *to) {
     size_t at = 0;
     to->length = 0;
     while (at < length) {
         size_t end = length - at < cut ? length : at + cut;
         while (at < end) {
-            uint32_t code = receive(box, conn, bytes + at, end - at, out);
-            if (STARTERBELL_REFUSED(code)) return code;
-            at += (size_t)out[0];
-            if (code == STARTERBELL_RECEIVE_REPLY) {
-                memcpy(to->bytes + to->length, reply, (size_t)out[1]);
-                to->length += (size_t)out[1];
+            struct starterbell_received got = starterbell_box_receive(&box->core, conn, starterbell_bytes_at(bytes + at, end - at));
+            if (STARTERBELL_REFUSED(got.code)) return got.code;
+            at += got.taken;
+            if (got.code == STARTERBELL_RECEIVE_REPLY) {
+                memcpy(to->bytes + to->length, reply, got.length);
+                to->length += got.length;
             }
         }
     }
@@ -110,7 +106,7 @@ static uint32_t serve(struct box *box, struct connection *conn, const uint8_t *b
 /* ---- The program's example, and prefixes */
 
 static struct box box;
-static struct connection client;
+static struct starterbell_connection client;
 static struct sent sent;
 
 /* Serves a client of a new box, that has no contacts and no records. */
@@ -129,31 +125,33 @@ static void play_program(void) {
     for (i = 0; i < sizeof cuts / sizeof *cuts; i++) {
         expect("PING and FIND_NODE", serve_new(requests, sizeof requests, cuts[i]), STARTERBELL_RECEIVE_MORE);
         expect_bytes("the replies to PING and FIND_NODE", sent.bytes, sent.length, replies, sizeof replies);
-        expect("an end between messages", end_of(&box, &client), STARTERBELL_DONE);
-        expect("an end of a shut connection", end_of(&box, &client), STARTERBELL_REFUSAL_SHUT);
+        expect("an end between messages", starterbell_box_end(&box.core, &client), STARTERBELL_DONE);
+        expect("an end of a shut connection", starterbell_box_end(&box.core, &client), STARTERBELL_REFUSAL_SHUT);
     }
 }
 
 static void play_prefix(const char *what, const uint8_t *bytes, size_t length, uint32_t want) {
     expect(what, serve_new(bytes, length, 1), want);
     expect(what, serve_new(bytes, length, length), want);
-    expect("bytes on a connection", serve(&box, &client, bytes, length, length, &sent), want == STARTERBELL_RECEIVE_MORE ? want : STARTERBELL_REFUSAL_SHUT);
+    expect("bytes on a connection that is shut", serve(&box, &client, bytes, length, length, &sent), STARTERBELL_REFUSAL_SHUT);
 }
 
 /* A length prefix ends inside its message, so "taken" is that more bytes are wanted. */
 static void play_prefixes(void) {
     static const uint8_t empty[] = {0x00}, padded[] = {0x80, 0x00}, most[] = {0x80, 0x80, 0x01}, over[] = {0x81, 0x80, 0x01}, third[] = {0x80, 0x80, 0x80},
                          two[] = {0xff, 0x7f};
-    uint64_t out[STARTERBELL_RECEIVE_OUT];
+    struct starterbell_received got;
     play_prefix("prefix 00, an empty message", empty, sizeof empty, STARTERBELL_REFUSAL_BREAKS_RULES);
     play_prefix("prefix 80 00", padded, sizeof padded, STARTERBELL_REFUSAL_PREFIX_NOT_MINIMAL);
     play_prefix("prefix 81 80 01", over, sizeof over, STARTERBELL_REFUSAL_TOO_LONG);
     play_prefix("prefix 80 80 80", third, sizeof third, STARTERBELL_REFUSAL_TOO_LONG);
     expect("prefix 80 80 01, 16,384 bytes", serve_new(most, sizeof most, 1), STARTERBELL_RECEIVE_MORE);
-    expect("an end inside a message", end_of(&box, &client), STARTERBELL_REFUSAL_ENDED_INSIDE);
+    expect("an end inside a message", starterbell_box_end(&box.core, &client), STARTERBELL_REFUSAL_ENDED_INSIDE);
     expect("prefix FF 7F, 16,383 bytes", serve_new(two, sizeof two, 1), STARTERBELL_RECEIVE_MORE);
-    expect("prefix 80 80 80 in one piece", (serve_new(none, 0, 1), receive(&box, &client, third, sizeof third, out)), STARTERBELL_REFUSAL_TOO_LONG);
-    expect("the bytes that it took", out[0], sizeof third);
+    serve_new(NULL, 0, 1);
+    got = starterbell_box_receive(&box.core, &client, starterbell_bytes_at(third, sizeof third));
+    expect("prefix 80 80 80 in one piece", got.code, STARTERBELL_REFUSAL_TOO_LONG);
+    expect("the bytes that it took", got.taken, sizeof third);
 }
 
 /* ---- Recipes: PUT_VALUE and GET_VALUE */
@@ -166,17 +164,31 @@ static const uint8_t get_value[] = {0x0b, 0x08, 0x01, 0x12, 0x07, '/', 'w', 'i',
 /* Turn 0, trim -1, sequence 7. */
 static const uint8_t recipe[] = {0x00, 0x01, 0x12, 0x00, 0x00, 0x00, 0x01, 0x00, 0x01, 0x00, 0x07, 0x00, 0x00, 0x00, 0x00, 0x00, 0x00, 0x00};
 
+#define KEY starterbell_bytes_at(key, sizeof key)
+
 static uint32_t put(const uint8_t *value, size_t length) {
-    return starterbell_put(box.records, sizeof box.records, key, sizeof key, value, length);
+    return starterbell_box_put(&box.core, KEY, starterbell_bytes_at(value, length));
+}
+
+/* The writer of recipes gives these bytes, and says what it can't write. */
+static void play_writer(void) {
+    static const struct starterbell_setpoint turn_0 = {0, -1}, leap[] = {{0, 0}, {1, 9000}};
+    uint8_t value[STARTERBELL_VALUE_MOST];
+    struct starterbell_recipe_written written = starterbell_write_recipe(value, sizeof value, NULL, 0, &turn_0, 1, 7);
+    expect("writing a recipe", written.rule, STARTERBELL_RECIPE_WRITTEN);
+    expect_bytes("the recipe that was written", value, written.length, recipe, sizeof recipe);
+    written = starterbell_write_recipe(value, sizeof value, NULL, 0, leap, 2, 7);
+    expect("writing a recipe that leaps", written.rule, STARTERBELL_RECIPE_TRIM_LEAPS);
+    expect("the setpoint that leaps", written.setpoint, 1);
 }
 
 static void play_recipes(void) {
     static const uint8_t far[] = {0x00, 0x01, 0x13, 0x00, 0x00, 0x00, 0x01, 0x00, 0x01, 0x00, 0x07, 0x00, 0x00, 0x00, 0x00, 0x00, 0x00, 0x00};
     static const uint8_t bare[] = {0x10, 0x00, 0x00, 0x00, 0x00, 0x00, 0x01, 0x00, 0x07, 0x00, 0x00, 0x00, 0x00, 0x00, 0x00, 0x00};
     uint8_t trim[] = {0x00, 0xbf, 0xb8, 0x02, 0x14, 0x00, 0x00, 0x00, 0x01, 0x00, 0x01, 0x00, 0x08, 0x00, 0x00, 0x00, 0x00, 0x00, 0x00, 0x00};
-    uint64_t at[STARTERBELL_FIND_OUT];
+    struct starterbell_found held;
     start(&box, "our box", "here");
-    expect("a key that isn't held", starterbell_find(box.records, sizeof box.records, key, sizeof key, at, 2), STARTERBELL_FIND_NOT_HELD);
+    expect("a key that isn't held", starterbell_box_find(&box.core, KEY).code, STARTERBELL_FIND_NOT_HELD);
     expect("a recipe whose distance is 13 for 12", put(far, sizeof far), STARTERBELL_REFUSAL_BROKEN_RECIPE);
     expect("a recipe without setpoints", put(bare, sizeof bare), STARTERBELL_DONE);
     expect("the recipe with turn 0, trim -1", put(recipe, sizeof recipe), STARTERBELL_REFUSAL_OUTRANKED);
@@ -186,8 +198,21 @@ static void play_recipes(void) {
     trim[1] = 0xc1, trim[12]++;
     expect("zigzag 40,001", put(trim, sizeof trim), STARTERBELL_REFUSAL_BROKEN_RECIPE);
     trim[1] = 0xc0, trim[12]--;
-    expect("find", starterbell_find(box.records, sizeof box.records, key, sizeof key, at, 2), STARTERBELL_FIND_HELD);
-    expect_bytes("the record that is held", box.records + at[0], (size_t)(at[1] - at[0]), trim, sizeof trim);
+    held = starterbell_box_find(&box.core, KEY);
+    expect("find", held.code, STARTERBELL_FIND_HELD);
+    expect_bytes("the record that is held", held.value.at, held.value.length, trim, sizeof trim);
+}
+
+/* Writes a PUT_VALUE of a value under the key, and gives its length. */
+static size_t write_put(uint8_t message[STARTERBELL_REPLY_BUFFER], const uint8_t *value, size_t length) {
+    struct starterbell_message put_value = starterbell_message_of(STARTERBELL_TYPE_PUT_VALUE, KEY);
+    struct starterbell_written written;
+    put_value.held = 1;
+    put_value.record_key = KEY;
+    put_value.value = starterbell_bytes_at(value, length);
+    written = starterbell_message_write(message, STARTERBELL_REPLY_BUFFER, &put_value);
+    expect("writing a PUT_VALUE", written.code, STARTERBELL_DONE);
+    return written.length;
 }
 
 /* The same over a connection: the echo of a PUT_VALUE is the request, and a GET_VALUE gives the record. */
@@ -198,11 +223,8 @@ static void play_values(void) {
         0x00, 0x01, 0x12, 0x00, 0x00, 0x00, 0x01, 0x00, 0x01, 0x00, 0x07, 0x00, 0x00, 0x00, 0x00, 0x00, 0x00, 0x00};
     static const size_t cuts[] = {1, 7, sizeof put_value};
     static uint8_t message[STARTERBELL_REPLY_BUFFER];
-    uint64_t length[STARTERBELL_WRITE_OUT];
     size_t i;
-    expect("writing a PUT_VALUE", starterbell_write(message, sizeof message, 0, key, sizeof key, 1, key, sizeof key, recipe, sizeof recipe, none, 0, none, 0, length, 1),
-        STARTERBELL_DONE);
-    expect_bytes("the PUT_VALUE that was written", message, (size_t)length[0], put_value, sizeof put_value);
+    expect_bytes("the PUT_VALUE that was written", message, write_put(message, recipe, sizeof recipe), put_value, sizeof put_value);
     for (i = 0; i < sizeof cuts / sizeof *cuts; i++) {
         expect("PUT_VALUE", serve_new(put_value, sizeof put_value, cuts[i]), STARTERBELL_RECEIVE_MORE);
         expect_bytes("the echo of PUT_VALUE", sent.bytes, sent.length, put_value, sizeof put_value);
@@ -221,23 +243,23 @@ static const uint8_t leaper[] = {0x00, 0x00, 0x01, 0xd0, 0x8c, 0x01, 0x16, 0x00,
 /* A peer's PUT_VALUE of a value under the key, on a new connection. */
 static uint32_t send_put(const uint8_t *value, size_t length, size_t cut) {
     static uint8_t message[STARTERBELL_REPLY_BUFFER];
-    uint64_t written[STARTERBELL_WRITE_OUT];
-    expect("writing a PUT_VALUE", starterbell_write(message, sizeof message, 0, key, sizeof key, 1, key, sizeof key, value, length, none, 0, none, 0, written, 1),
-        STARTERBELL_DONE);
+    size_t written = write_put(message, value, length);
     open_to(&box, &client, "a client", 0, 0);
-    return serve(&box, &client, message, (size_t)written[0], cut, &sent);
+    return serve(&box, &client, message, written, cut, &sent);
 }
 
 /* The value under the key is this one, as find and as a GET_VALUE on a new connection have it. */
 static void expect_held(const char *what, const uint8_t *value, size_t length) {
-    uint64_t at[STARTERBELL_FIND_OUT], view[STARTERBELL_VIEW];
-    expect(what, starterbell_find(box.records, sizeof box.records, key, sizeof key, at, 2), STARTERBELL_FIND_HELD);
-    expect_bytes(what, box.records + at[0], (size_t)(at[1] - at[0]), value, length);
+    struct starterbell_found held = starterbell_box_find(&box.core, KEY);
+    uint64_t view[STARTERBELL_VIEW];
+    expect(what, held.code, STARTERBELL_FIND_HELD);
+    expect_bytes(what, held.value.at, held.value.length, value, length);
     open_to(&box, &client, "a client", 0, 0);
     expect(what, serve(&box, &client, get_value, sizeof get_value, 5, &sent), STARTERBELL_RECEIVE_MORE);
     expect("the reply's length prefix", sent.bytes[0] + 1u, sent.length);
     expect(what, starterbell_read(sent.bytes + 1, sent.length - 1, view, STARTERBELL_VIEW), STARTERBELL_DONE);
-    expect_bytes(what, sent.bytes + 1 + view[6], (size_t)(view[7] - view[6]), value, length);
+    expect("whether the reply has a record", view[STARTERBELL_VIEW_RECORD], 1);
+    expect_bytes(what, sent.bytes + 1 + view[STARTERBELL_VIEW_VALUE_START], (size_t)(view[STARTERBELL_VIEW_VALUE_END] - view[STARTERBELL_VIEW_VALUE_START]), value, length);
 }
 
 /* It is refused on the screen and from a peer, however its bytes are cut, and the recipe that was held stays the one found. */
@@ -251,23 +273,22 @@ static void play_leap(void) {
     for (cut = 1; cut < 64; cut++) {
         expect("a leap from a peer", send_put(leaper, sizeof leaper, cut), STARTERBELL_REFUSAL_BROKEN_RECIPE);
         expect("the reply to it", sent.length, 0);
-        expect("its connection", end_of(&box, &client), STARTERBELL_REFUSAL_SHUT);
+        expect("its connection", starterbell_box_end(&box.core, &client), STARTERBELL_REFUSAL_SHUT);
         expect_held("after a leap from a peer", level, sizeof level);
     }
 }
 
-/* A leaper that is held from before the rule: found and served, ranked, and not taken again. Its slot is laid out by hand: the length of the key, a zero, the length
-   of the value in two bytes, four zeros, room for a key, the value. */
+/* A leaper that is held from before the rule: found and served, ranked, and not taken again. Its slot is laid out by hand. */
 static void play_held_leap(void) {
     uint8_t higher[sizeof level], higher_leaper[sizeof over];
     memcpy(higher, level, sizeof level);
     memcpy(higher_leaper, over, sizeof over);
     higher[13] = higher_leaper[13] = 9;
     start(&box, "our box", "here");
-    box.records[0] = sizeof key;
-    box.records[2] = sizeof leaper;
-    memcpy(box.records + 8, key, sizeof key);
-    memcpy(box.records + 8 + 128, leaper, sizeof leaper);
+    box.records[STARTERBELL_RECORD_KEY_LENGTH_AT] = sizeof key;
+    box.records[STARTERBELL_RECORD_VALUE_LENGTH_AT] = sizeof leaper;
+    memcpy(box.records + STARTERBELL_RECORD_KEY_AT, key, sizeof key);
+    memcpy(box.records + STARTERBELL_RECORD_VALUE_AT, leaper, sizeof leaper);
     expect_held("a leaper from before", leaper, sizeof leaper);
     expect("its own bytes on the screen", put(leaper, sizeof leaper), STARTERBELL_REFUSAL_BROKEN_RECIPE);
     expect("its own bytes from a peer", send_put(leaper, sizeof leaper, 7), STARTERBELL_REFUSAL_BROKEN_RECIPE);
@@ -281,13 +302,9 @@ static void play_held_leap(void) {
 
 /* ---- Contacts */
 
-static uint32_t seen(struct box *who, const char *id, const char *address, uint64_t slot[STARTERBELL_SEEN_OUT]) {
-    uint8_t list[2 + 128];
-    size_t length = strlen(address);
-    list[0] = (uint8_t)length;
-    list[1] = 0;
-    memcpy(list + 2, address, length);
-    return starterbell_seen(who->me, sizeof who->me, who->contacts, sizeof who->contacts, (const uint8_t *)id, strlen(id), 0, list, 2 + length, slot, 1);
+static struct starterbell_sighted seen(struct box *who, const char *id, const char *address) {
+    struct addresses addresses;
+    return starterbell_box_seen(&who->core, starterbell_text(id), 0, one_address(&addresses, address));
 }
 
 /* How many bits the places of two slots, or of a slot and a box, share: the bucket. */
@@ -300,267 +317,299 @@ static unsigned bucket(const uint8_t *a, const uint8_t *b) {
     return bit;
 }
 
+/* How many contacts are in the bucket of one. */
+static unsigned bucket_holds(const uint8_t *slot) {
+    unsigned i, among = 0;
+    for (i = 0; i < CONTACTS; i++) {
+        const uint8_t *other = starterbell_box_contact(&box.core, i);
+        among += other[STARTERBELL_CONTACT_RANK_AT] != 0 && bucket(other, box.core.me) == bucket(slot, box.core.me);
+    }
+    return among;
+}
+
 /* "20 in a bucket: the 21st gives 13", and names the head, which the host probes and settles. */
 static void play_bucket(void) {
-    char id[16];
-    uint64_t head[STARTERBELL_SEEN_OUT];
-    uint32_t code = STARTERBELL_SEEN_JOINED;
-    unsigned i, among = 0;
-    const uint8_t *slot;
-    uint8_t silent[64];
-    size_t length;
+    char id[32];
+    struct starterbell_sighted got = {STARTERBELL_SEEN_JOINED, 0};
+    struct starterbell_id silent;
+    unsigned i;
     start(&box, "our box", "here");
-    for (i = 0; code == STARTERBELL_SEEN_JOINED; i++) {
+    for (i = 0; got.code == STARTERBELL_SEEN_JOINED; i++) {
         sprintf(id, "workshop %u", i);
-        code = seen(&box, id, "there", head);
+        got = seen(&box, id, "there");
     }
-    expect("the 21st in a bucket", code, STARTERBELL_REFUSAL_BUCKET_FULL);
-    slot = box.contacts + head[0] * STARTERBELL_CONTACT_SLOT;
-    for (i = 0; i < CONTACTS; i++) {
-        const uint8_t *other = box.contacts + i * STARTERBELL_CONTACT_SLOT;
-        among += other[0] != 0 && bucket(other, box.me) == bucket(slot, box.me);
-    }
-    expect("the contacts in the head's bucket", among, 20);
-    length = slot[STARTERBELL_PEER_ID_LENGTH_AT];
-    memcpy(silent, slot + STARTERBELL_PEER_ID_AT, length);
-    expect("a head that is silent",
-        starterbell_settle(box.me, sizeof box.me, box.contacts, sizeof box.contacts, silent, length, (const uint8_t *)id, strlen(id), 0, none, 0, 0),
+    expect("the 21st in a bucket", got.code, STARTERBELL_REFUSAL_BUCKET_FULL);
+    expect("the contacts in the head's bucket", bucket_holds(starterbell_box_contact(&box.core, got.slot)), STARTERBELL_BUCKET_MOST);
+    silent = starterbell_box_contact_id(&box.core, got.slot);
+    expect("a head that is silent", starterbell_box_settle(&box.core, starterbell_id_bytes(&silent), starterbell_text(id), 0, starterbell_nothing(), 0),
         STARTERBELL_SETTLE_SWAPPED);
-    expect("the newcomer, seen again", seen(&box, id, "there", head), STARTERBELL_SEEN_MOVED);
-    expect("remove", starterbell_remove(box.me, sizeof box.me, box.contacts, sizeof box.contacts, (const uint8_t *)id, strlen(id)), STARTERBELL_DONE);
-    expect("remove again", starterbell_remove(box.me, sizeof box.me, box.contacts, sizeof box.contacts, (const uint8_t *)id, strlen(id)),
-        STARTERBELL_REFUSAL_NO_LONGER_FITS);
+    expect("the newcomer, seen again", seen(&box, id, "there").code, STARTERBELL_SEEN_MOVED);
+    expect("remove", starterbell_box_remove(&box.core, starterbell_text(id)), STARTERBELL_DONE);
+    expect("remove again", starterbell_box_remove(&box.core, starterbell_text(id)), STARTERBELL_REFUSAL_NO_LONGER_FITS);
 }
 
 static uint32_t doubt(const char *id) {
-    return starterbell_doubt(box.me, sizeof box.me, box.contacts, sizeof box.contacts, (const uint8_t *)id, strlen(id));
+    return starterbell_box_doubt(&box.core, starterbell_text(id));
 }
 
 /* How many contacts a query gives. */
-static uint64_t near(const char *key) {
-    uint64_t out[STARTERBELL_NEAREST_OUT];
-    expect("nearest", starterbell_nearest(box.me, sizeof box.me, box.contacts, sizeof box.contacts, (const uint8_t *)key, strlen(key), out, STARTERBELL_NEAREST_OUT),
-        STARTERBELL_DONE);
-    return out[0];
+static size_t near_to(const char *target) {
+    struct starterbell_near got = starterbell_box_nearest(&box.core, starterbell_text(target));
+    expect("nearest", got.code, STARTERBELL_DONE);
+    return got.count;
 }
 
 /* "The host can mark a held contact as doubtful; being seen .. clears the mark." */
 static void play_doubt(void) {
-    uint64_t out[STARTERBELL_SEEN_OUT];
     start(&box, "our box", "here");
     expect("doubt of nobody", doubt("peer"), STARTERBELL_REFUSAL_NO_LONGER_FITS);
-    expect("seen", seen(&box, "peer", "there", out), STARTERBELL_SEEN_JOINED);
-    expect("seen", seen(&box, "other", "there", out), STARTERBELL_SEEN_JOINED);
+    expect("seen", seen(&box, "peer", "there").code, STARTERBELL_SEEN_JOINED);
+    expect("seen", seen(&box, "other", "there").code, STARTERBELL_SEEN_JOINED);
     expect("doubt of ourselves", doubt("our box"), STARTERBELL_REFUSAL_BAD_PEER);
-    expect("the contacts near peer", near("peer"), 2);
+    expect("the contacts near peer", near_to("peer"), 2);
     expect("doubt", doubt("peer"), STARTERBELL_DONE);
     expect("doubt again", doubt("peer"), STARTERBELL_DONE);
     expect("the mark", box.contacts[STARTERBELL_CONTACT_DOUBT_AT], 1);
     expect("the other's", box.contacts[STARTERBELL_CONTACT_SLOT + STARTERBELL_CONTACT_DOUBT_AT], 0);
-    expect("the contacts near peer, which is doubtful", near("peer"), 1);
-    expect("seen", seen(&box, "peer", "there", out), STARTERBELL_SEEN_MOVED);
+    expect("the contacts near peer, which is doubtful", near_to("peer"), 1);
+    expect("seen", seen(&box, "peer", "there").code, STARTERBELL_SEEN_MOVED);
     expect("the mark of one that was seen", box.contacts[STARTERBELL_CONTACT_DOUBT_AT], 0);
-    expect("the contacts near peer, which was seen", near("peer"), 2);
+    expect("the contacts near peer, which was seen", near_to("peer"), 2);
 }
 
 /* A FIND_NODE for AB to a box that has one contact, from a server, which then is a contact too. */
 static void play_sighting(void) {
     static const uint8_t request[] = {0x06, 0x08, 0x04, 0x12, 0x02, 0x41, 0x42};
     static const uint8_t answer[] = {0x13, 0x08, 0x04, 0x42, 0x0f, 0x0a, 0x04, 'p', 'e', 'e', 'r', 0x12, 0x05, 't', 'h', 'e', 'r', 'e', 0x18, 0x00};
-    uint64_t out[STARTERBELL_RECEIVE_OUT];
+    struct starterbell_sighted known;
+    struct starterbell_received got;
     start(&box, "our box", "here");
-    expect("seen", seen(&box, "peer", "there", out), STARTERBELL_SEEN_JOINED);
-    expect("its slot", out[0], 0);
+    known = seen(&box, "peer", "there");
+    expect("seen", known.code, STARTERBELL_SEEN_JOINED);
+    expect("its slot", known.slot, 0);
     open_to(&box, &client, "a server", 1, 0);
-    expect("FIND_NODE of a server", receive(&box, &client, request, sizeof request, out), STARTERBELL_RECEIVE_REPLY);
-    expect("the bytes that it took", out[0], sizeof request);
-    expect_bytes("the reply with a contact", reply, (size_t)out[1], answer, sizeof answer);
-    expect("the sighting of its sender", out[2], STARTERBELL_SIGHTING_JOINED);
-    expect("the sender's slot", out[3], 1);
+    got = starterbell_box_receive(&box.core, &client, starterbell_bytes_at(request, sizeof request));
+    expect("FIND_NODE of a server", got.code, STARTERBELL_RECEIVE_REPLY);
+    expect("the bytes that it took", got.taken, sizeof request);
+    expect_bytes("the reply with a contact", reply, got.length, answer, sizeof answer);
+    expect("the sighting of its sender", got.sighting, STARTERBELL_SIGHTING_JOINED);
+    expect("the sender's slot", got.slot, 1);
+}
+
+/* ---- Peers of a message */
+
+static void expect_peer(const struct starterbell_named *peer, const char *id, uint64_t connection, size_t count, const char *last) {
+    struct starterbell_bytes want = starterbell_text(id), address = starterbell_text(last);
+    expect("a peer", peer->code, STARTERBELL_PEER_AT);
+    expect_bytes("a peer's id", peer->id.at, peer->id.length, want.at, want.length);
+    expect("a peer's connection", peer->connection, connection);
+    expect("how many addresses it has", peer->address_count, count);
+    expect_bytes("its last address", peer->addresses[count - 1].at, peer->addresses[count - 1].length, address.at, address.length);
+}
+
+/* Two peers that are written and named again: for each the id and its length, its connection, and its addresses with the length of all of them and of each. */
+static void play_peers(void) {
+    static const uint8_t list[] = {1, 0, 'a', STARTERBELL_PEER_CAN_CONNECT, 9, 0, 2, 0, 'u', 'p', 3, 0, 'l', 'o', 'w', 3, 0, 'b', 'o', 'b',
+        STARTERBELL_PEER_CONNECTED, 3, 0, 1, 0, 'x'};
+    static uint8_t message[STARTERBELL_REPLY_BUFFER];
+    struct starterbell_message reply_of = starterbell_message_of(STARTERBELL_TYPE_FIND_NODE, starterbell_nothing());
+    struct starterbell_bytes body;
+    struct starterbell_named peer;
+    reply_of.closer = starterbell_bytes_at(list, sizeof list);
+    body = starterbell_bytes_at(message + 1, starterbell_message_write(message, sizeof message, &reply_of).length - 1);
+    peer = starterbell_message_peer(body, 0, 0);
+    expect_peer(&peer, "a", STARTERBELL_PEER_CAN_CONNECT, 2, "low");
+    /* after the type, and the entry's tag and length */
+    expect("where the first entry starts", peer.start, 4);
+    expect("where it ends", peer.end, 18);
+    peer = starterbell_message_peer(body, 0, peer.end);
+    expect_peer(&peer, "bob", STARTERBELL_PEER_CONNECTED, 1, "x");
+    expect("where the last entry ends", peer.end, body.length);
+    peer = starterbell_message_peer(body, 0, peer.end);
+    expect("a third peer", peer.code, STARTERBELL_PEER_NOTHING);
+    expect("its id's length", peer.id.length, 0);
+    expect("its addresses", peer.address_count, 0);
 }
 
 /* ---- Lookups */
 
-static uint8_t lookup[STARTERBELL_LOOKUP];
-static uint64_t found[STARTERBELL_LOOKUP_OUT];
-
-static const uint8_t *candidate(uint64_t rank) {
-    return lookup + STARTERBELL_CANDIDATES_AT + rank * STARTERBELL_CANDIDATE;
-}
-
-static uint32_t lookup_start(const struct box *who, const uint8_t *target, size_t length, size_t limit) {
-    return starterbell_lookup_start(who->me, sizeof who->me, lookup, sizeof lookup, who->contacts, sizeof who->contacts, target, length, limit, found, STARTERBELL_LOOKUP_OUT);
-}
-
-static uint32_t lookup_next(void) {
-    return starterbell_lookup_next(lookup, sizeof lookup, found, STARTERBELL_LOOKUP_OUT);
-}
-
-static uint32_t lookup_reply(const struct box *who, const uint8_t *id, size_t id_length, const uint8_t *body, size_t length, const uint64_t *view) {
-    return starterbell_lookup_reply(who->me, sizeof who->me, lookup, sizeof lookup, id, id_length, body, length, view, STARTERBELL_VIEW, found, STARTERBELL_LOOKUP_OUT);
-}
-
-static uint32_t lookup_failure(const struct box *who, const uint8_t *id, size_t id_length) {
-    return starterbell_lookup_failure(who->me, sizeof who->me, lookup, sizeof lookup, id, id_length, found, STARTERBELL_LOOKUP_OUT);
-}
+static struct starterbell_lookup lookup;
 
 /* The network of this test is a loop of boxes in one program: the address of a box is its number. Box 0 looks up, and each box knows the next two. */
 enum { WORKSHOPS = 8, SILENT = 5 };
 static struct box workshop[WORKSHOPS];
-static struct connection served[WORKSHOPS], asked[WORKSHOPS];
+static struct starterbell_connection served[WORKSHOPS], asked[WORKSHOPS];
 static const char *const ids[WORKSHOPS] = {"box 0", "box 1", "box 2", "box 3", "box 4", "box 5", "box 6", "box 7"};
 static const char *const addresses[WORKSHOPS] = {"0", "1", "2", "3", "4", "5", "6", "7"};
 
 /* The address book, which is the host's: here an address for each of a few ids. */
 static struct {
-    uint8_t id[64];
-    size_t id_length;
+    struct starterbell_id id;
     unsigned where;
 } book[WORKSHOPS];
 static size_t books;
 
-static size_t page_of(const uint8_t *id, size_t length) {
+static size_t page_of(struct starterbell_bytes id) {
     size_t i;
     for (i = 0; i < books; i++)
-        if (book[i].id_length == length && memcmp(book[i].id, id, length) == 0) break;
+        if (book[i].id.length == id.length && memcmp(book[i].id.bytes, id.at, id.length) == 0) break;
     return i;
 }
 
-static void remember(const uint8_t *id, size_t length, const uint8_t *address) {
-    if (page_of(id, length) < books || books == WORKSHOPS) return;
-    memcpy(book[books].id, id, length);
-    book[books].id_length = length;
-    book[books++].where = address[0] - '0';
+static void remember(struct starterbell_bytes id, struct starterbell_bytes address) {
+    if (page_of(id) < books || books == WORKSHOPS) return;
+    book[books].id = starterbell_id_at(id.at, id.length);
+    book[books++].where = (unsigned)(address.at[0] - '0');
 }
 
 /* Every peer that a reply names, with its first address. It has no more addresses than one call tells. */
-static void remember_peers(const uint8_t *body, size_t length) {
-    uint64_t peer[STARTERBELL_PEER_OUT], address[STARTERBELL_PEER_ADDRESS_OUT];
-    const uint64_t *places = peer + STARTERBELL_PEER_PLACES;
-    size_t from = 0;
-    while (starterbell_peer(body, length, 0, from, peer, STARTERBELL_PEER_OUT) == STARTERBELL_PEER_AT) {
-        size_t count = (size_t)peer[STARTERBELL_PEER_COUNT], told = count < STARTERBELL_PEER_FIRST ? count : STARTERBELL_PEER_FIRST;
-        if (told > 0) remember(body + peer[2], (size_t)(peer[3] - peer[2]), body + places[0]);
-        expect("an address that was not told", starterbell_peer_address(body, length, (size_t)peer[0], (size_t)peer[1], told > 0 ? (size_t)places[2 * told - 1] : 0, address,
-            STARTERBELL_PEER_ADDRESS_OUT), STARTERBELL_PEER_NOTHING);
-        from = (size_t)peer[1];
+static void remember_peers(struct starterbell_bytes body) {
+    uint64_t address[STARTERBELL_PEER_ADDRESS_OUT];
+    struct starterbell_named peer;
+    for (peer = starterbell_message_peer(body, 0, 0); peer.code == STARTERBELL_PEER_AT; peer = starterbell_message_peer(body, 0, peer.end)) {
+        size_t last = peer.address_count < STARTERBELL_PEER_FIRST ? peer.address_count : STARTERBELL_PEER_FIRST;
+        size_t from = last > 0 ? (size_t)(peer.addresses[last - 1].at - body.at) + peer.addresses[last - 1].length : 0;
+        if (last > 0) remember(peer.id, peer.addresses[0]);
+        expect("the connection of a peer", peer.connection, STARTERBELL_PEER_NOT_CONNECTED);
+        expect("an address that was not told", starterbell_peer_address(body.at, body.length, peer.start, peer.end, from, address, STARTERBELL_PEER_ADDRESS_OUT),
+            STARTERBELL_PEER_NOTHING);
     }
-    expect("a list of providers, which nobody sends", starterbell_peer(body, length, 1, 0, peer, STARTERBELL_PEER_OUT), STARTERBELL_PEER_NOTHING);
+    expect("a list of providers, which nobody sends", starterbell_message_peer(body, 1, 0).code, STARTERBELL_PEER_NOTHING);
 }
 
 /* Sends a FIND_NODE to a box of the loop, and hands its reply to the lookup; or reports that nothing came. */
-static uint32_t ask(const uint8_t *id, size_t length, unsigned where) {
+static struct starterbell_step ask(struct starterbell_bytes id, unsigned where) {
     static uint8_t request[STARTERBELL_REPLY_BUFFER];
-    struct connection *back = &asked[where];
-    uint64_t size[STARTERBELL_WRITE_OUT], out[STARTERBELL_RECEIVE_OUT];
-    if (where == SILENT) return lookup_failure(&workshop[0], id, length);
-    expect("writing a FIND_NODE", starterbell_write(request, sizeof request, 4, key, sizeof key, 0, none, 0, none, 0, none, 0, none, 0, size, 1), STARTERBELL_DONE);
+    struct starterbell_message find_node = starterbell_message_of(STARTERBELL_TYPE_FIND_NODE, KEY);
+    struct starterbell_connection *back = &asked[where];
+    struct starterbell_written written;
+    struct starterbell_received got;
+    struct starterbell_bytes body;
+    if (where == SILENT) return starterbell_box_lookup_failure(&workshop[0].core, &lookup, id);
+    written = starterbell_message_write(request, sizeof request, &find_node);
+    expect("writing a FIND_NODE", written.code, STARTERBELL_DONE);
     open_to(&workshop[where], &served[where], ids[0], 0, 0);
-    expect("a FIND_NODE", serve(&workshop[where], &served[where], request, (size_t)size[0], 7, &sent), STARTERBELL_RECEIVE_MORE);
+    expect("a FIND_NODE", serve(&workshop[where], &served[where], request, written.length, 7, &sent), STARTERBELL_RECEIVE_MORE);
     open_to(&workshop[0], back, ids[where], 1, 1);
-    expect("a reply on the asking side", receive(&workshop[0], back, sent.bytes, sent.length, out), STARTERBELL_RECEIVE_HEARD);
-    expect("the reply's length without its prefix", out[1], sent.length - (out[1] < 128 ? 1 : 2));
-    remember_peers(back->buffer, (size_t)out[1]);
-    return lookup_reply(&workshop[0], id, length, back->buffer, (size_t)out[1], out + 4);
+    got = starterbell_box_receive(&workshop[0].core, back, starterbell_bytes_at(sent.bytes, sent.length));
+    expect("a reply on the asking side", got.code, STARTERBELL_RECEIVE_HEARD);
+    expect("the reply's length without its prefix", got.length, sent.length - (got.length < 128 ? 1 : 2));
+    expect("its type", got.view[STARTERBELL_VIEW_TYPE], STARTERBELL_TYPE_FIND_NODE);
+    body = starterbell_bytes_at(back->buffer, got.length);
+    remember_peers(body);
+    return starterbell_box_lookup_reply(&workshop[0].core, &lookup, id, body, got.view);
 }
 
 /* A lookup as a host runs it: next until it is over. Here every answer comes at once, so there is no waiting. */
-static uint32_t look_up(void) {
-    uint32_t code = lookup_start(&workshop[0], key, sizeof key, 3);
-    while (code == STARTERBELL_LOOKUP_GOING) {
-        uint8_t id[64];
-        size_t length, page;
-        code = lookup_next();
-        if (code != STARTERBELL_LOOKUP_ASK) break;
-        length = candidate(found[0])[STARTERBELL_CANDIDATE_ID_LENGTH_AT];
-        memcpy(id, candidate(found[0]) + STARTERBELL_CANDIDATE_ID_AT, length);
-        page = page_of(id, length);
+static struct starterbell_step look_up(void) {
+    struct starterbell_step step = starterbell_box_lookup_start(&workshop[0].core, &lookup, KEY, 3);
+    while (step.code == STARTERBELL_LOOKUP_GOING) {
+        struct starterbell_id id;
+        size_t page;
+        step = starterbell_box_lookup_next(&lookup);
+        if (step.code != STARTERBELL_LOOKUP_ASK) break;
+        id = starterbell_lookup_id(&lookup, step.rank);
+        page = page_of(starterbell_id_bytes(&id));
         expect("who is asked is in the address book", page < books, 1);
-        code = ask(id, length, book[page].where);
+        step = ask(starterbell_id_bytes(&id), book[page].where);
     }
-    return code;
+    return step;
+}
+
+/* A loop of boxes that each have seen the next two. */
+static void make_loop(void) {
+    unsigned i;
+    for (i = 0; i < WORKSHOPS; i++) start(&workshop[i], ids[i], addresses[i]);
+    for (i = 0; i < WORKSHOPS; i++) {
+        expect("seen", seen(&workshop[i], ids[(i + 1) % WORKSHOPS], addresses[(i + 1) % WORKSHOPS]).code, STARTERBELL_SEEN_JOINED);
+        expect("seen", seen(&workshop[i], ids[(i + 2) % WORKSHOPS], addresses[(i + 2) % WORKSHOPS]).code, STARTERBELL_SEEN_JOINED);
+    }
+    for (i = 1; i <= 2; i++) remember(starterbell_text(ids[i]), starterbell_text(addresses[i]));
 }
 
 /* The lookup finds what a box that has seen everybody calls nearest, but for the silent one. */
 static void play_lookup(void) {
-    uint64_t slot[STARTERBELL_SEEN_OUT], nearest[STARTERBELL_NEAREST_OUT];
-    unsigned i, at = 0;
-    for (i = 0; i < WORKSHOPS; i++) start(&workshop[i], ids[i], addresses[i]);
-    for (i = 0; i < WORKSHOPS; i++) {
-        expect("seen", seen(&workshop[i], ids[(i + 1) % WORKSHOPS], addresses[(i + 1) % WORKSHOPS], slot), STARTERBELL_SEEN_JOINED);
-        expect("seen", seen(&workshop[i], ids[(i + 2) % WORKSHOPS], addresses[(i + 2) % WORKSHOPS], slot), STARTERBELL_SEEN_JOINED);
-    }
-    for (i = 1; i <= 2; i++) remember((const uint8_t *)ids[i], strlen(ids[i]), (const uint8_t *)addresses[i]);
-    expect("the lookup over the loop", look_up(), STARTERBELL_LOOKUP_COMPLETE);
-    expect("the requests that it sent", found[0], WORKSHOPS - 1);
-    expect("the peers that it found", found[1], WORKSHOPS - 2);
+    struct starterbell_step over;
+    struct starterbell_near nearest;
+    unsigned i;
+    make_loop();
+    over = look_up();
+    expect("the lookup over the loop", over.code, STARTERBELL_LOOKUP_COMPLETE);
+    expect("the requests that it sent", over.requests, WORKSHOPS - 1);
+    expect("the peers that it found", over.found, WORKSHOPS - 2);
     for (i = 1; i < WORKSHOPS; i++)
-        if (i != SILENT) seen(&workshop[0], ids[i], addresses[i], slot);
-    expect("nearest", starterbell_nearest(workshop[0].me, STARTERBELL_BOX, workshop[0].contacts, sizeof workshop[0].contacts, key, sizeof key, nearest, STARTERBELL_NEAREST_OUT),
-        STARTERBELL_DONE);
-    expect("the contacts near the key", nearest[0], WORKSHOPS - 2);
-    for (at = 0; at < WORKSHOPS - 2; at++) {
-        const uint8_t *near = workshop[0].contacts + nearest[1 + at] * STARTERBELL_CONTACT_SLOT, *got = candidate(found[2 + at]);
-        expect_bytes("a peer that was found", got + STARTERBELL_CANDIDATE_ID_AT, got[STARTERBELL_CANDIDATE_ID_LENGTH_AT], near + STARTERBELL_PEER_ID_AT,
-            near[STARTERBELL_PEER_ID_LENGTH_AT]);
+        if (i != SILENT) seen(&workshop[0], ids[i], addresses[i]);
+    nearest = starterbell_box_nearest(&workshop[0].core, KEY);
+    expect("nearest", nearest.code, STARTERBELL_DONE);
+    expect("the contacts near the key", nearest.count, WORKSHOPS - 2);
+    for (i = 0; i < WORKSHOPS - 2; i++) {
+        struct starterbell_id near = starterbell_box_contact_id(&workshop[0].core, nearest.slots[i]), got = starterbell_lookup_id(&lookup, over.ranks[i]);
+        expect_bytes("a peer that was found", got.bytes, got.length, near.bytes, near.length);
+        expect("its mark", starterbell_lookup_mark(&lookup, over.ranks[i]), STARTERBELL_MARK_ANSWERED);
     }
-    expect("next, once over", lookup_next(), STARTERBELL_LOOKUP_COMPLETE);
-    expect("a failure, once over", lookup_failure(&workshop[0], (const uint8_t *)ids[1], strlen(ids[1])), STARTERBELL_REFUSAL_LOOKUP_OVER);
+    expect("next, once over", starterbell_box_lookup_next(&lookup).code, STARTERBELL_LOOKUP_COMPLETE);
+    expect("a failure, once over", starterbell_box_lookup_failure(&workshop[0].core, &lookup, starterbell_text(ids[1])).code, STARTERBELL_REFUSAL_LOOKUP_OVER);
 }
 
 /* A reply that names some peers nobody has heard of, from number `first` on. */
-static size_t make_reply(uint8_t *message, unsigned first, unsigned count) {
+static size_t make_reply(uint8_t message[STARTERBELL_REPLY_BUFFER], unsigned first, unsigned count) {
+    struct starterbell_message answer = starterbell_message_of(STARTERBELL_TYPE_FIND_NODE, starterbell_nothing());
+    struct starterbell_written written;
     uint8_t list[21 * 32];
-    uint64_t size[STARTERBELL_WRITE_OUT];
     size_t length = 0;
     unsigned i;
     for (i = 0; i < count; i++) {
-        /* the id's length, the id, connection 0, no addresses */
+        /* the id's length, the id, not connected, no addresses */
         int id = sprintf((char *)list + length + 2, "stranger %u", first + i);
         list[length] = (uint8_t)id;
         list[length + 1] = 0;
         memset(list + length + 2 + id, 0, 3);
         length += 5 + (size_t)id;
     }
-    expect("writing a reply", starterbell_write(message, STARTERBELL_REPLY_BUFFER, 4, none, 0, 0, none, 0, none, 0, list, length, none, 0, size, 1), STARTERBELL_DONE);
-    return (size_t)size[0];
+    answer.closer = starterbell_bytes_at(list, length);
+    written = starterbell_message_write(message, STARTERBELL_REPLY_BUFFER, &answer);
+    expect("writing a reply", written.code, STARTERBELL_DONE);
+    return written.length;
+}
+
+/* Hands the lookup a reply of the one that it asks, that names so many. */
+static struct starterbell_step crowd_reply(size_t rank, unsigned first, unsigned count) {
+    static uint8_t message[STARTERBELL_REPLY_BUFFER];
+    struct starterbell_id id = starterbell_lookup_id(&lookup, rank);
+    size_t length = make_reply(message, first, count), head = message[0] < 128 ? 1 : 2;
+    uint64_t view[STARTERBELL_VIEW];
+    expect("reading a reply", starterbell_read(message + head, length - head, view, STARTERBELL_VIEW), STARTERBELL_DONE);
+    return starterbell_box_lookup_reply(&box.core, &lookup, starterbell_id_bytes(&id), starterbell_bytes_at(message + head, length - head), view);
 }
 
 /* A lookup that hears of 20 contacts and as many others as it is told: the first replies name up to 21 each. */
 static void play_crowd(unsigned others, uint32_t want) {
-    static uint8_t message[STARTERBELL_REPLY_BUFFER];
-    uint64_t slot[STARTERBELL_SEEN_OUT], view[STARTERBELL_VIEW], asks = 0;
-    uint32_t code;
-    unsigned i, told = 0;
+    struct starterbell_step step;
+    unsigned i, told = 0, asks = 0;
     start(&box, "our box", "here");
     for (i = 0; i < 20; i++) {
-        char id[16];
+        char id[32];
         sprintf(id, "contact %u", i);
-        expect("seen", seen(&box, id, "there", slot), STARTERBELL_SEEN_JOINED);
+        expect("seen", seen(&box, id, "there").code, STARTERBELL_SEEN_JOINED);
     }
-    code = lookup_start(&box, key, sizeof key, 10);
-    while (code == STARTERBELL_LOOKUP_GOING && (code = lookup_next()) == STARTERBELL_LOOKUP_ASK) {
+    step = starterbell_box_lookup_start(&box.core, &lookup, KEY, STARTERBELL_CONCURRENCY_MOST);
+    while (step.code == STARTERBELL_LOOKUP_GOING && (step = starterbell_box_lookup_next(&lookup)).code == STARTERBELL_LOOKUP_ASK) {
         unsigned count = others - told < 21 ? others - told : 21;
-        size_t length = make_reply(message, told, count), head = message[0] < 128 ? 1 : 2;
-        const uint8_t *who = candidate(found[0]);
-        uint8_t id[64];
-        size_t id_length = who[STARTERBELL_CANDIDATE_ID_LENGTH_AT];
-        memcpy(id, who + STARTERBELL_CANDIDATE_ID_AT, id_length);
+        step = crowd_reply(step.rank, told, count);
         told += count;
         asks++;
-        expect("reading a reply", starterbell_read(message + head, length - head, view, STARTERBELL_VIEW), STARTERBELL_DONE);
-        code = lookup_reply(&box, id, id_length, message + head, length - head, view);
     }
-    expect("a lookup with a crowd", code, want);
+    expect("a lookup with a crowd", step.code, want);
     expect("the others that it was told of", told, others);
-    expect("its candidates", lookup[STARTERBELL_CANDIDATE_COUNT_AT] + 256u * lookup[STARTERBELL_CANDIDATE_COUNT_AT + 1], STARTERBELL_CANDIDATES_MOST);
-    expect("the requests that it sent", found[0], asks);
-    expect("the peers that it found", found[1], 20);
+    expect("its candidates", starterbell_lookup_candidates(&lookup), STARTERBELL_CANDIDATES_MOST);
+    expect("the requests that it sent", step.requests, asks);
+    expect("the peers that it found", step.found, STARTERBELL_NEAREST_MOST);
 }
 
 int main(void) {
     play_program();
     play_prefixes();
+    play_writer();
     play_recipes();
     play_values();
     play_leap();
@@ -568,10 +617,11 @@ int main(void) {
     play_bucket();
     play_doubt();
     play_sighting();
+    play_peers();
     play_lookup();
     /* "256 candidates: a 257th marks" */
     play_crowd(236, STARTERBELL_LOOKUP_COMPLETE);
     play_crowd(237, STARTERBELL_LOOKUP_CUT_SHORT);
-    printf("document 01's bench examples, a recipe that leaps and a lookup over a loop of %d boxes, through the C header: %u comparisons\n", WORKSHOPS, compared);
+    printf("the examples of RULES and a lookup over a loop of %d boxes, through the C headers: %u comparisons\n", WORKSHOPS, compared);
     return 0;
 }

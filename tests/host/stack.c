@@ -1,6 +1,6 @@
 /* stack BYTES: calls every function that include/starterbell.h declares on a thread whose stack has BYTES, with the most memory that a host may lend, and writes for
-   each call how many bytes of stack it used. The stack is filled with a pattern before each call, and afterwards is looked through for the deepest byte that changed.
-   Where a call needs more than there is, a line says so and the status is 1. */
+   each call how many bytes of stack it used and how many the header says are enough. The stack is filled with a pattern before each call, and afterwards is looked
+   through for the deepest byte that changed. Where a call needs more than the header says, or than there is, a line says so and the status is 1. */
 #define _DEFAULT_SOURCE
 #include "starterbell.h"
 
@@ -63,7 +63,7 @@ static void make_contacts(void) {
     for (bucket = 0; bucket <= 250; bucket++)
         for (who = 0; who < 20; who++, slot += STARTERBELL_CONTACT_SLOT) {
             memcpy(slot, me, STARTERBELL_BOX);
-            slot[0] = (uint8_t)(who + 1);
+            slot[STARTERBELL_CONTACT_RANK_AT] = (uint8_t)(who + 1);
             slot[STARTERBELL_PEER_PLACE_AT + bucket / 8] ^= (uint8_t)(0x80 >> bucket % 8);
             slot[STARTERBELL_PEER_PLACE_AT + 31] ^= (uint8_t)who;
             slot[STARTERBELL_PEER_ID_AT] = (uint8_t)bucket;
@@ -94,8 +94,8 @@ static void open_conn(uint32_t server, uint32_t asking) {
 }
 
 static void write_message(uint64_t kind, const uint8_t *list, size_t list_length) {
-    must("write", starterbell_write(LENT(message), kind, KEY, kind == 0, KEY, LENT(higher), list, list_length, none, 0, OUT), STARTERBELL_DONE);
-    length = (size_t)out[0];
+    must("write", starterbell_write(LENT(message), kind, KEY, kind == STARTERBELL_TYPE_PUT_VALUE, KEY, LENT(higher), list, list_length, none, 0, OUT), STARTERBELL_DONE);
+    length = (size_t)out[STARTERBELL_WRITE_OUT_LENGTH];
 }
 
 /* Twenty-one peers to write, nobody has heard of. */
@@ -113,12 +113,12 @@ static size_t strangers(uint8_t *list, unsigned first) {
 }
 
 static const uint8_t *asked(void) {
-    return lookup + STARTERBELL_CANDIDATES_AT + out[0] * STARTERBELL_CANDIDATE;
+    return lookup + STARTERBELL_CANDIDATES_AT + out[STARTERBELL_LOOKUP_OUT_RANK] * STARTERBELL_CANDIDATE;
 }
 
 static void make_reply(unsigned first) {
     uint8_t list[21 * 32];
-    write_message(4, list, strangers(list, first));
+    write_message(STARTERBELL_TYPE_FIND_NODE, list, strangers(list, first));
     must("read", starterbell_read(message + 2, length - 2, view, STARTERBELL_VIEW), STARTERBELL_DONE);
 }
 
@@ -161,10 +161,10 @@ static void receive(void) {
     code = starterbell_receive(LENT(me), LENT(conn), LENT(buffer), message, length, LENT(contacts), LENT(records), LENT(reply), OUT);
 }
 
-static void for_ping(void) { open_conn(1, 0); write_message(5, none, 0); }
-static void for_find_node(void) { open_conn(1, 0); write_message(4, none, 0); }
-static void for_get_value(void) { open_conn(1, 0); write_message(1, none, 0); }
-static void for_put_value(void) { open_conn(1, 0); write_message(0, none, 0); }
+static void for_ping(void) { open_conn(1, 0); write_message(STARTERBELL_TYPE_PING, none, 0); }
+static void for_find_node(void) { open_conn(1, 0); write_message(STARTERBELL_TYPE_FIND_NODE, none, 0); }
+static void for_get_value(void) { open_conn(1, 0); write_message(STARTERBELL_TYPE_GET_VALUE, none, 0); }
+static void for_put_value(void) { open_conn(1, 0); write_message(STARTERBELL_TYPE_PUT_VALUE, none, 0); }
 static void for_heard(void) { open_conn(1, 1); make_reply(0); }
 static void for_end(void) { open_conn(1, 0); }
 
@@ -179,6 +179,7 @@ static void nearest(void) { code = starterbell_nearest(LENT(me), LENT(contacts),
 /* Contacts that calls made, since the places of those of make_contacts are of no id. */
 static void for_settle(void) {
     uint32_t got = STARTERBELL_SEEN_JOINED;
+    const uint8_t *slot;
     unsigned i;
     memset(contacts, 0, sizeof contacts);
     for (i = 0; got == STARTERBELL_SEEN_JOINED; i++) {
@@ -186,8 +187,9 @@ static void for_settle(void) {
         got = starterbell_seen(LENT(me), LENT(contacts), newcomer, newcomer_length, 0, LENT(addresses), OUT);
     }
     must("seen", got, STARTERBELL_REFUSAL_BUCKET_FULL);
-    head_length = contacts[out[0] * STARTERBELL_CONTACT_SLOT + STARTERBELL_PEER_ID_LENGTH_AT];
-    memcpy(head, contacts + out[0] * STARTERBELL_CONTACT_SLOT + STARTERBELL_PEER_ID_AT, head_length);
+    slot = contacts + out[STARTERBELL_SEEN_OUT_SLOT] * STARTERBELL_CONTACT_SLOT;
+    head_length = slot[STARTERBELL_PEER_ID_LENGTH_AT];
+    memcpy(head, slot + STARTERBELL_PEER_ID_AT, head_length);
 }
 static void for_joining(void) {
     memset(contacts, 0, sizeof contacts);
@@ -200,11 +202,11 @@ static void for_reading(void) {
     /* a peer with addresses */
     uint8_t list[5 + 4 + sizeof addresses] = {4, 0, 'p', 'e', 'e', 'r', 0, (uint8_t)sizeof addresses, sizeof addresses / 256};
     memcpy(list + 9, addresses, sizeof addresses);
-    write_message(4, list, sizeof list);
+    write_message(STARTERBELL_TYPE_FIND_NODE, list, sizeof list);
 }
 static void read_(void) { code = starterbell_read(message + 2, length - 2, OUT); }
 static void peer(void) { code = starterbell_peer(message + 2, length - 2, 0, 0, OUT); }
-static void peer_address(void) { code = starterbell_peer_address(message + 2, length - 2, (size_t)view[0], (size_t)view[1], 0, OUT); }
+static void peer_address(void) { code = starterbell_peer_address(message + 2, length - 2, (size_t)view[STARTERBELL_PEER_OUT_START], (size_t)view[STARTERBELL_PEER_OUT_END], 0, OUT); }
 static void for_address(void) {
     for_reading();
     must("peer", starterbell_peer(message + 2, length - 2, 0, 0, view, STARTERBELL_VIEW), STARTERBELL_PEER_AT);
@@ -213,7 +215,7 @@ static uint8_t peers[21 * 32];
 static size_t peers_length;
 static void for_write(void) { peers_length = strangers(peers, 0); }
 static void write_(void) {
-    code = starterbell_write(LENT(message), 4, KEY, 1, KEY, LENT(recipe), peers, peers_length, peers, peers_length, OUT);
+    code = starterbell_write(LENT(message), STARTERBELL_TYPE_FIND_NODE, KEY, 1, KEY, LENT(recipe), peers, peers_length, peers, peers_length, OUT);
 }
 
 static void lookup_start(void) { code = starterbell_lookup_start(LENT(me), LENT(lookup), LENT(contacts), KEY, 3, OUT); }
@@ -223,36 +225,37 @@ static void lookup_reply(void) {
 }
 static void lookup_failure(void) { code = starterbell_lookup_failure(LENT(me), LENT(lookup), newcomer, newcomer_length, OUT); }
 
-/* What is called, what has to stand before, the call, and what it has to return, so that it went all the way. */
+/* What is called, what has to stand before, the call, what it has to return, so that it went all the way, and the stack that the header says is enough. */
 static const struct {
     const char *name;
     void (*before)(void), (*call)(void);
     uint32_t want;
+    size_t enough;
 } calls[] = {
-    {"starterbell_start", nothing, start, STARTERBELL_DONE},
-    {"starterbell_open", nothing, open_, STARTERBELL_DONE},
-    {"starterbell_receive, PING", for_ping, receive, STARTERBELL_RECEIVE_REPLY},
-    {"starterbell_receive, FIND_NODE", for_find_node, receive, STARTERBELL_RECEIVE_REPLY},
-    {"starterbell_receive, GET_VALUE", for_get_value, receive, STARTERBELL_RECEIVE_REPLY},
-    {"starterbell_receive, PUT_VALUE", for_put_value, receive, STARTERBELL_RECEIVE_REPLY},
-    {"starterbell_receive, a message for a lookup", for_heard, receive, STARTERBELL_RECEIVE_HEARD},
-    {"starterbell_end", for_end, end, STARTERBELL_DONE},
-    {"starterbell_nearest", nothing, nearest, STARTERBELL_DONE},
-    {"starterbell_put", nothing, put, STARTERBELL_DONE},
-    {"starterbell_find", nothing, find, STARTERBELL_FIND_HELD},
-    {"starterbell_read", for_reading, read_, STARTERBELL_DONE},
-    {"starterbell_peer", for_reading, peer, STARTERBELL_PEER_AT},
-    {"starterbell_peer_address", for_address, peer_address, STARTERBELL_PEER_AT},
-    {"starterbell_write", for_write, write_, STARTERBELL_DONE},
-    {"starterbell_lookup_start", nothing, lookup_start, STARTERBELL_LOOKUP_GOING},
-    {"starterbell_lookup_next", make_lookup, lookup_next, STARTERBELL_LOOKUP_ASK},
-    {"starterbell_lookup_reply", make_lookup, lookup_reply, STARTERBELL_LOOKUP_GOING},
-    {"starterbell_lookup_failure", make_lookup, lookup_failure, STARTERBELL_LOOKUP_GOING},
-    {"starterbell_seen, joined", for_joining, seen, STARTERBELL_SEEN_JOINED},
-    {"starterbell_seen, moved", nothing, seen, STARTERBELL_SEEN_MOVED},
-    {"starterbell_settle", for_settle, settle, STARTERBELL_SETTLE_SWAPPED},
-    {"starterbell_doubt", nothing, doubt, STARTERBELL_DONE},
-    {"starterbell_remove", nothing, remove_, STARTERBELL_DONE},
+    {"starterbell_start", nothing, start, STARTERBELL_DONE, STARTERBELL_STACK_START},
+    {"starterbell_open", nothing, open_, STARTERBELL_DONE, STARTERBELL_STACK_OPEN},
+    {"starterbell_receive, PING", for_ping, receive, STARTERBELL_RECEIVE_REPLY, STARTERBELL_STACK_RECEIVE},
+    {"starterbell_receive, FIND_NODE", for_find_node, receive, STARTERBELL_RECEIVE_REPLY, STARTERBELL_STACK_RECEIVE},
+    {"starterbell_receive, GET_VALUE", for_get_value, receive, STARTERBELL_RECEIVE_REPLY, STARTERBELL_STACK_RECEIVE},
+    {"starterbell_receive, PUT_VALUE", for_put_value, receive, STARTERBELL_RECEIVE_REPLY, STARTERBELL_STACK_RECEIVE},
+    {"starterbell_receive, a message for a lookup", for_heard, receive, STARTERBELL_RECEIVE_HEARD, STARTERBELL_STACK_RECEIVE},
+    {"starterbell_end", for_end, end, STARTERBELL_DONE, STARTERBELL_STACK_END},
+    {"starterbell_nearest", nothing, nearest, STARTERBELL_DONE, STARTERBELL_STACK_NEAREST},
+    {"starterbell_put", nothing, put, STARTERBELL_DONE, STARTERBELL_STACK_PUT},
+    {"starterbell_find", nothing, find, STARTERBELL_FIND_HELD, STARTERBELL_STACK_FIND},
+    {"starterbell_read", for_reading, read_, STARTERBELL_DONE, STARTERBELL_STACK_READ},
+    {"starterbell_peer", for_reading, peer, STARTERBELL_PEER_AT, STARTERBELL_STACK_PEER},
+    {"starterbell_peer_address", for_address, peer_address, STARTERBELL_PEER_AT, STARTERBELL_STACK_PEER_ADDRESS},
+    {"starterbell_write", for_write, write_, STARTERBELL_DONE, STARTERBELL_STACK_WRITE},
+    {"starterbell_lookup_start", nothing, lookup_start, STARTERBELL_LOOKUP_GOING, STARTERBELL_STACK_LOOKUP_START},
+    {"starterbell_lookup_next", make_lookup, lookup_next, STARTERBELL_LOOKUP_ASK, STARTERBELL_STACK_LOOKUP_NEXT},
+    {"starterbell_lookup_reply", make_lookup, lookup_reply, STARTERBELL_LOOKUP_GOING, STARTERBELL_STACK_LOOKUP_REPLY},
+    {"starterbell_lookup_failure", make_lookup, lookup_failure, STARTERBELL_LOOKUP_GOING, STARTERBELL_STACK_LOOKUP_FAILURE},
+    {"starterbell_seen, joined", for_joining, seen, STARTERBELL_SEEN_JOINED, STARTERBELL_STACK_SEEN},
+    {"starterbell_seen, moved", nothing, seen, STARTERBELL_SEEN_MOVED, STARTERBELL_STACK_SEEN},
+    {"starterbell_settle", for_settle, settle, STARTERBELL_SETTLE_SWAPPED, STARTERBELL_STACK_SETTLE},
+    {"starterbell_doubt", nothing, doubt, STARTERBELL_DONE, STARTERBELL_STACK_DOUBT},
+    {"starterbell_remove", nothing, remove_, STARTERBELL_DONE, STARTERBELL_STACK_REMOVE},
 };
 
 /* ---- The stack that is measured */
@@ -310,34 +313,44 @@ static void measure(const char *name, void (*call)(void)) {
     pthread_attr_destroy(&attributes);
 }
 
-int main(int argc, char **argv) {
+/* Makes the stack, below which lies memory that nothing may touch, more than any one function's frame. */
+static void make_stack(void) {
     struct sigaction action;
-    size_t i, most = 0;
-    stack_size = argc == 2 ? strtoul(argv[1], NULL, 10) : 0;
-    if (stack_size < 32768 || stack_size % 4096 != 0) {
-        fprintf(stderr, "usage: stack BYTES (a multiple of 4096, from 32768 up)\n");
-        return 2;
-    }
-    /* below the stack lies memory that nothing may touch, more than any one function's frame */
     stack = mmap(NULL, GUARD + stack_size, PROT_NONE, MAP_PRIVATE | MAP_ANONYMOUS, -1, 0);
     if (stack == MAP_FAILED || mprotect(stack + GUARD, stack_size, PROT_READ | PROT_WRITE) != 0) {
         printf("stack: no memory for a stack of %zu bytes\n", stack_size);
-        return 2;
+        exit(2);
     }
     stack += GUARD;
     memset(&action, 0, sizeof action);
     action.sa_handler = overflowed;
     action.sa_flags = SA_ONSTACK;
     sigaction(SIGSEGV, &action, NULL);
+}
+
+int main(int argc, char **argv) {
+    size_t i, most = 0, over = 0;
+    stack_size = argc == 2 ? strtoul(argv[1], NULL, 10) : 0;
+    if (stack_size < 32768 || stack_size % 4096 != 0) {
+        fprintf(stderr, "usage: stack BYTES (a multiple of 4096, from 32768 up)\n");
+        return 2;
+    }
+    make_stack();
     make_addresses();
     make_box();
     for (i = 0; i < sizeof calls / sizeof *calls; i++) {
         calls[i].before();
         measure(calls[i].name, calls[i].call);
         must(calls[i].name, code, calls[i].want);
-        printf("%-44s %7zu bytes%s\n", calls[i].name, used, used <= LEAST ? " at most" : "");
+        printf("%-44s %7zu bytes%s, of %zu%s\n", calls[i].name, used, used <= LEAST ? " at most" : "", calls[i].enough,
+            used > calls[i].enough ? ", which the header says are enough, and aren't" : "");
         if (used > most) most = used;
+        over += used > calls[i].enough;
     }
-    printf("no function uses more than %zu bytes of stack, and a stack of %zu is enough for all of them\n", most, stack_size);
+    if (over > 0) {
+        printf("stack: for %zu of these calls the header says too little\n", over);
+        return 1;
+    }
+    printf("no function uses more stack than the header says, nor more than %zu bytes; a stack of %zu is enough for all of them\n", most, stack_size);
     return 0;
 }

@@ -1,0 +1,42 @@
+/* The refusals of starterbell.h as texts, for a screen or a log. C99 and C++11; it needs no library. */
+#ifndef STARTERBELL_NAMES_H
+#define STARTERBELL_NAMES_H
+
+#include "starterbell.h"
+
+/* When a refusal is given, in the words of enum starterbell_refusal. A number that is no refusal gives "no refusal", never null. */
+static inline const char *starterbell_refusal_text(uint32_t code) {
+    static const char *const texts[] = {
+        "lent contact or record memory, a lookup, a view or a connection is out of form",
+        "receive buffer under 16,384 or reply buffer under 16,387 bytes",
+        "connection is shut",
+        "length prefix not minimal",
+        "message over 16,384 bytes",
+        "body isn't well formed",
+        "type not 0 to 5",
+        "type 2 or 3 (providers)",
+        "key or record breaks the request rules",
+        "recipe broken",
+        "held record ranks higher",
+        "key not held, every record slot holds another key",
+        "peer id not 1 to 64 bytes, or of our place",
+        "bucket holds 20; its head is named for a probe",
+        "bucket has room, every contact slot is used",
+        "settle, remove or doubt no longer fits the table",
+        "peer isn't in flight in this lookup",
+        "lookup is over",
+        "peer is a client",
+        "connection ended inside a prefix or body",
+        "concurrency not 1 to 10",
+        "message can't be written: a part or the whole is over its limit, or type or connection out of range",
+    };
+    return code < sizeof texts / sizeof *texts ? texts[code] : "no refusal";
+}
+
+/* What came of a sender's sighting, as enum starterbell_sighting names it. Another number gives "no sighting". */
+static inline const char *starterbell_sighting_text(uint32_t sighting) {
+    static const char *const texts[] = {"not seen", "moved", "joined", "full", "no slot"};
+    return sighting < sizeof texts / sizeof *texts ? texts[sighting] : "no sighting";
+}
+
+#endif
