@@ -4,7 +4,10 @@ use starterbell::recipe::{check, outranks, sequence, Broken, Recipe, Rule, Setpo
 use starterbell::{raw, Refusal};
 use std::collections::BTreeMap;
 
-fn recipe(setpoints: &[(u32, i32)]) -> Recipe {
+/// Turns and trims.
+type Setpoints<'a> = &'a [(u32, i32)];
+
+fn recipe(setpoints: Setpoints) -> Recipe {
     let setpoints = setpoints.iter().map(|&(turn, trim)| Setpoint { turn, trim }).collect();
     Recipe { note: b"D string, silver".to_vec(), setpoints, sequence: 3 }
 }
@@ -40,7 +43,7 @@ fn value(note: &[u8], room: &[u8], count: u16) -> Vec<u8> {
 #[test]
 fn there_and_back() {
     let most = (0..200).map(|n| (n * 5_025, n as i32 * 201 - 20_000)).collect::<Vec<_>>();
-    let lists: [&[(u32, i32)]; 5] = [&[], &[(0, -1)], &[(127, 0), (128, 1), (16_384, -64)], &[(0, 20_000), (1_000_000, 15_000)], &most];
+    let lists: [Setpoints; 5] = [&[], &[(0, -1)], &[(127, 0), (128, 1), (16_384, -64)], &[(0, 20_000), (1_000_000, 15_000)], &most];
     for list in lists {
         let recipe = recipe(list);
         let value = recipe.to_value().expect("within the limits");
@@ -64,7 +67,7 @@ fn the_rule_books_examples() {
 #[test]
 fn rules_on_setpoints_are_named_with_the_setpoint() {
     use Rule::{TrimLeaps, TrimOutOfRange, TurnNotRising, TurnTooHigh};
-    let lists: [(&[(u32, i32)], Option<Broken>); 14] = [
+    let lists: [(Setpoints, Option<Broken>); 14] = [
         (&[(1_000_000, 0)], None),
         (&[(1_000_001, 0)], at(TurnTooHigh, 0)),
         (&[(0, 0), (u32::MAX, 0)], at(TurnTooHigh, 1)),
@@ -134,7 +137,7 @@ fn varints_are_judged_where_they_stand() {
 
 #[test]
 fn says_what_is_wrong_in_plain_words() {
-    let said = |list: &[(u32, i32)]| recipe(list).to_value().expect_err("broken").to_string();
+    let said = |list: Setpoints| recipe(list).to_value().expect_err("broken").to_string();
     assert_eq!(said(&[(0, 0), (1, 5_001)]), "setpoints[1]: its trim differs from the one before it by more than 5,000 millinewtons");
     assert_eq!(said(&[(1_000_001, 0)]), "setpoints[0]: its turn is over 1,000,000");
     assert_eq!(Recipe::from_value(&[]).expect_err("broken").to_string(), "the value has fewer than the 16 bytes of a trailer");
@@ -288,7 +291,7 @@ fn names_the_first_setpoint_that_is_wrong() {
 }
 
 /// Whether the last setpoint of a list breaks this rule.
-fn breaks(rule: Rule, list: &[(u32, i32)]) -> bool {
+fn breaks(rule: Rule, list: Setpoints) -> bool {
     let (turn, trim) = list[list.len() - 1];
     let before = list.len().checked_sub(2).map(|n| list[n]);
     match rule {
