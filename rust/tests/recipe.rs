@@ -119,7 +119,7 @@ fn rules_on_reading_are_named() {
 
 #[test]
 fn varints_are_judged_where_they_stand() {
-    let rooms: [(&[u8], u16, Option<Broken>); 9] = [
+    let rooms: [(&[u8], u16, Option<Broken>); 10] = [
         (&[0x80, 1, 0], 1, None),
         (&[0x80, 0, 0], 1, at(Rule::VarintNotMinimal, 0)),
         (&[0, 0x80, 0x80, 0], 1, at(Rule::VarintNotMinimal, 0)),
@@ -128,6 +128,7 @@ fn varints_are_judged_where_they_stand() {
         (&[0, 0, 1, 0x80], 2, at(Rule::RoomTooSmall, 1)),
         (&[0xff, 0xff, 0xff, 0xff, 0xff, 0xff, 0xff, 0xff, 0xff, 0xff, 1, 0], 1, at(Rule::TurnTooHigh, 0)),
         (&[0x80, 0x80, 0x80, 0x80, 0x10, 0], 1, at(Rule::TurnTooHigh, 0)),
+        (&[0x80, 0x80, 0x80, 0x80, 0x80, 0x80, 0x80, 0x80, 0x80, 0x80, 1, 0], 1, at(Rule::TurnTooHigh, 0)),
         (&[0, 0x80, 0x80, 0x80, 0x80, 0x80, 0x80, 0x80, 0x80, 0x80, 1], 1, at(Rule::TrimOutOfRange, 0)),
     ];
     for (room, count, broken) in rooms {

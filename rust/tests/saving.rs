@@ -279,7 +279,7 @@ fn what_is_out_of_form_is_refused_whatever_its_sum() {
     const RECORDS: usize = CONTACTS + 48 * raw::CONTACT;
     let saved = played(STOP).save();
     assert!(Node::restore(&forged(saved.clone(), |_| {})).is_ok(), "nothing is changed");
-    let changes: [(&str, Change); 16] = [
+    let changes: [(&str, Change); 17] = [
         ("the box has no id", |save| save[ME + 2] = 0),
         ("its id has 65 bytes", |save| save[ME + 2] = 65),
         ("it has five addresses", |save| save[ME + 3] = 5),
@@ -295,6 +295,7 @@ fn what_is_out_of_form_is_refused_whatever_its_sum() {
         ("a key twice", |save| save.copy_within(RECORDS..RECORDS + 2_184, RECORDS + 2_184)),
         ("a key of 129 bytes", |save| save[RECORDS] = 129),
         ("a value of 15 bytes", |save| save[RECORDS + 2..RECORDS + 4].copy_from_slice(&[15, 0])),
+        ("a byte more than its parts have", |save| save.push(0)),
         ("a part of a slot", |save| {
             save[16 + 8..16 + 16].copy_from_slice(&(48 * 616u64 - 1).to_le_bytes());
             save.remove(RECORDS - 1);

@@ -23,7 +23,10 @@ fn a_box_and_its_contacts() {
     assert_eq!(contacts[0], r#"Contact { id: "bench-2", addresses: ["/two"], rank: 0, doubtful: true }"#);
     assert!(contacts[1].starts_with("Contact { id: 0x00ff, addresses: [], rank: "), "{}", contacts[1]);
     assert_eq!(format!("{:?}", node.records().next()), r#"Some(Record { key: "/wind/g", value: 16 bytes })"#);
-    assert_eq!(format!("{:?}", Peer::client(b"say \"hi\"", &[&[1], b"a"])), r#"Peer { id: "say \"hi\"", addresses: [0x01, "a"], mode: Client }"#);
+    assert_eq!(
+        format!("{:?}", Peer::client(b"say \"hi\"", &[&[1], b"a", b"caf\xc3\xa9"])),
+        r#"Peer { id: "say \"hi\"", addresses: [0x01, "a", 0x636166c3a9], mode: Client }"#
+    );
 }
 
 #[test]
