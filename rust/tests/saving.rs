@@ -278,6 +278,7 @@ type Change = fn(&mut Vec<u8>);
 fn what_is_out_of_form_is_refused_whatever_its_sum() {
     const RECORDS: usize = CONTACTS + 48 * raw::CONTACT;
     let saved = played(STOP).save();
+    assert_eq!(saved.len(), 48 * raw::CONTACT + 5 * raw::RECORD + 664, "as the documentation says");
     assert!(Node::restore(&forged(saved.clone(), |_| {})).is_ok(), "nothing is changed");
     let changes: [(&str, Change); 17] = [
         ("the box has no id", |save| save[ME + 2] = 0),
