@@ -86,7 +86,7 @@ pub enum Settled {
 /// let mut node = Node::start(b"bench-1", &[], Room::default())?;
 /// node.seen(Peer::server(b"bench-2", &[b"/ip4/10.0.0.2/tcp/4001"]))?;
 /// let saved = node.save(); // to a file; later, maybe in another process:
-/// let mut back = Node::restore(&saved)?;
+/// let back = Node::restore(&saved)?;
 /// assert_eq!((back.id(), back.contacts().count()), (node.id(), 1));
 /// # Ok::<(), starterbell::Refusal>(())
 /// ```

@@ -4,7 +4,8 @@ use crate::path::{Path, HEARD};
 use crate::tally::Around;
 use starterbell::lookup::{Lookup, Step, CONCURRENCY};
 use starterbell::message::{Draft, Kind, Message};
-use starterbell::{recipe, Node, Refusal};
+use starterbell::recipe::{self, Recipe};
+use starterbell::{Node, Refusal};
 use std::collections::{BTreeMap, VecDeque};
 
 /// With so many good answers a bench takes the highest-ranking one. There are never as many benches that send old recipes.
@@ -163,11 +164,12 @@ impl Job {
     /// A value is taken if it is of the key, and a recipe.
     fn got(&mut self, message: &Message, around: &mut Around) {
         let (Goal::Get { key }, Some(record)) = (&self.goal, message.record()) else { return };
-        if record.key == key && recipe::check(record.value).is_ok() {
-            self.values.push(record.value.to_vec());
-        } else {
-            around.tally.broken += 1;
-        }
+        let wrong = match Recipe::from_value(record.value) {
+            Ok(_) if record.key == key => return self.values.push(record.value.to_vec()),
+            Ok(_) => "of another key".into(),
+            Err(broken) => format!("{:?}", broken.rule),
+        };
+        *around.tally.broken.entry(wrong).or_default() += 1;
     }
 
     /// Nothing came for a request.

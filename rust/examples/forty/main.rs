@@ -20,6 +20,7 @@ use std::io::{IsTerminal, Write};
 use std::path::{Path, PathBuf};
 use std::process::ExitCode;
 use std::time::{Duration, Instant};
+use tally::Tally;
 use world::{Phase, World};
 
 const HELP: &str = "\
@@ -184,7 +185,13 @@ fn summary(wanted: &Wanted, world: &World, trusting: &World, took: Duration) -> 
         format!("messages   {} on {} connections; {} bytes in {} pieces", tally.messages, traffic.connections, traffic.bytes, traffic.pieces),
         format!("contacts   {} heads of full buckets probed, {} swapped", tally.probes, tally.swaps),
         format!("path       {}", path(world)),
-        format!("lies       {} messages nobody asked for, {} bad recipes, {} old ones outranked", tally.unasked, tally.broken, tally.outranked),
+        format!(
+            "lies       {} messages nobody asked for, {} bad recipes, {} old ones outranked",
+            tally.unasked,
+            tally.broken.values().sum::<u64>(),
+            tally.outranked
+        ),
+        format!("bad        {}", broken(tally)),
         format!("agreement  {}", agreement(world)),
         format!("refusals   {}", refusals(&tally.refusals)),
         format!("time       {:.1} s", took.as_secs_f64()),
@@ -212,6 +219,15 @@ fn path(world: &World) -> String {
     let Some((number, path)) = svg::newcomer(&world.benches) else { return "none, since nobody has joined".into() };
     let (known, answers, found) = (path.known.len(), path.answers(), path.found.len());
     format!("bench {number} knew {known} when it joined, sent {} requests, had {answers} answers and found {found}", path.requests)
+}
+
+/// What was wrong with bad recipes.
+fn broken(tally: &Tally) -> String {
+    if tally.broken.is_empty() {
+        return "no recipe".into();
+    }
+    let parts: Vec<String> = tally.broken.iter().map(|(wrong, count)| format!("{wrong} {count}")).collect();
+    format!("recipes by what is wrong: {}", parts.join(", "))
 }
 
 /// Those that were given, each with its name and its number.
