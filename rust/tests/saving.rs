@@ -305,6 +305,11 @@ fn what_is_out_of_form_is_refused_whatever_its_sum() {
     for (what, change) in changes {
         assert!(refused(&forged(saved.clone(), change)), "{what}");
     }
+}
+
+#[test]
+fn lengths_that_are_wrong_are_refused_whatever_the_sum() {
+    let saved = played(STOP).save();
     for length in [[0xff; 8], (1u64 << 40).to_le_bytes(), [0; 8]] {
         assert!(refused(&forged(saved.clone(), |save| save[16..24].copy_from_slice(&length))), "{length:?} bytes of a box");
     }
