@@ -5,8 +5,10 @@ use crate::node::Seen;
 use crate::peer::{Contact, Mode};
 use crate::raw;
 use crate::refusal::Refusal;
+use crate::show::{Bytes, Length};
 use alloc::boxed::Box;
 use alloc::vec;
+use core::fmt;
 
 /// What we do on a connection.
 #[derive(Clone, Copy, Debug, PartialEq, Eq, Hash)]
@@ -20,7 +22,7 @@ pub enum Side {
 /// A connection: the state of its bytes, and its receive buffer. [`Node::accept`](crate::Node::accept) and [`Node::connect`](crate::Node::connect) give one.
 ///
 /// Hand it to the box that opened it.
-#[derive(Clone, Debug)]
+#[derive(Clone)]
 pub struct Connection {
     pub(crate) state: Box<[u8]>,
     pub(crate) buffer: Box<[u8]>,
@@ -59,6 +61,27 @@ impl Connection {
     pub fn is_shut(&self) -> bool {
         self.state[618] == 0
     }
+
+    /// Two bytes as a number, the lower first.
+    fn pair(&self, at: usize) -> usize {
+        usize::from(u16::from_le_bytes([self.state[at], self.state[at + 1]]))
+    }
+}
+
+impl fmt::Debug for Connection {
+    /// Says who is at its other end, and where in its bytes it stands.
+    fn fmt(&self, f: &mut fmt::Formatter<'_>) -> fmt::Result {
+        let mut shown = f.debug_struct("Connection");
+        shown.field("peer", &Bytes(self.peer().id())).field("mode", &self.mode()).field("side", &self.side());
+        // a framing is laid out as crates/flat says (specs/Flat)
+        match (self.state[618], self.state[619]) {
+            (0, _) => shown.field("at", &format_args!("shut")),
+            (1, 0) => shown.field("at", &format_args!("between messages")),
+            (1, _) => shown.field("at", &format_args!("inside a length")),
+            _ => shown.field("at", &format_args!("{} of {} bytes of a message", self.pair(624), self.pair(622))),
+        };
+        shown.finish()
+    }
 }
 
 /// What came of a piece, up to its first event.
@@ -74,7 +97,7 @@ pub struct Received<'n, 'c> {
 }
 
 /// What happened on a connection.
-#[derive(Clone, Debug)]
+#[derive(Clone)]
 pub enum Event<'n, 'c> {
     /// Nothing yet: the whole piece was taken, and more bytes are wanted.
     More,
@@ -93,4 +116,15 @@ pub enum Event<'n, 'c> {
     Heard(Message<'c>),
     /// A message was refused, and the connection is shut; or it was shut before.
     Refused(Refusal),
+}
+
+impl fmt::Debug for Event<'_, '_> {
+    fn fmt(&self, f: &mut fmt::Formatter<'_>) -> fmt::Result {
+        match self {
+            Event::More => f.write_str("More"),
+            Event::Reply(reply) => f.debug_tuple("Reply").field(&Length(reply.len())).finish(),
+            Event::Heard(message) => f.debug_tuple("Heard").field(message).finish(),
+            Event::Refused(refusal) => f.debug_tuple("Refused").field(refusal).finish(),
+        }
+    }
 }

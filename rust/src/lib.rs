@@ -14,6 +14,8 @@ mod peer;
 pub mod raw;
 pub mod recipe;
 mod refusal;
+mod saved;
+mod show;
 
 pub use connection::{Connection, Event, Received, Side};
 pub use lookup::Lookup;

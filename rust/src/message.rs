@@ -14,8 +14,10 @@
 
 use crate::raw;
 use crate::refusal::{answer, Refusal};
+use crate::show::{Bytes, Length, List};
 use alloc::vec;
 use alloc::vec::Vec;
+use core::fmt;
 use core::ops::Range;
 
 /// What a message is, with its number on the wire.
@@ -60,12 +62,18 @@ impl ConnectionType {
 }
 
 /// A key and its value.
-#[derive(Clone, Copy, Debug, PartialEq, Eq)]
+#[derive(Clone, Copy, PartialEq, Eq)]
 pub struct Record<'a> {
     /// The key.
     pub key: &'a [u8],
     /// The value.
     pub value: &'a [u8],
+}
+
+impl fmt::Debug for Record<'_> {
+    fn fmt(&self, f: &mut fmt::Formatter<'_>) -> fmt::Result {
+        f.debug_struct("Record").field("key", &Bytes(self.key)).field("value", &Length(self.value.len())).finish()
+    }
 }
 
 /// The part of a body that two numbers of a call's results name.
@@ -74,7 +82,7 @@ fn span(numbers: &[u64]) -> Range<usize> {
 }
 
 /// A message where it lies in a body: nothing is copied.
-#[derive(Clone, Copy, Debug)]
+#[derive(Clone, Copy)]
 pub struct Message<'a> {
     body: &'a [u8],
     view: [u64; 8],
@@ -130,11 +138,20 @@ impl<'a> Message<'a> {
     }
 }
 
+impl fmt::Debug for Message<'_> {
+    fn fmt(&self, f: &mut fmt::Formatter<'_>) -> fmt::Result {
+        let mut shown = f.debug_struct("Message");
+        shown.field("kind", &self.kind()).field("key", &Bytes(self.key())).field("record", &self.record());
+        shown.field("closer_peers", &self.closer_peers().count()).field("provider_peers", &self.provider_peers().count());
+        shown.field("body", &Length(self.body.len())).finish()
+    }
+}
+
 /// How many numbers [`raw::peer`] tells of a peer: the last sixteen are the ends of its first eight addresses.
 const TOLD: usize = 22;
 
 /// The peers of a message, one after another.
-#[derive(Clone, Debug)]
+#[derive(Clone)]
 pub struct Entries<'a> {
     body: &'a [u8],
     list: u32,
@@ -154,8 +171,14 @@ impl<'a> Iterator for Entries<'a> {
     }
 }
 
+impl fmt::Debug for Entries<'_> {
+    fn fmt(&self, f: &mut fmt::Formatter<'_>) -> fmt::Result {
+        f.debug_struct("Entries").field("left", &self.clone().count()).finish()
+    }
+}
+
 /// A peer that a message names.
-#[derive(Clone, Debug)]
+#[derive(Clone)]
 pub struct Entry<'a> {
     body: &'a [u8],
     told: [u64; TOLD],
@@ -178,8 +201,15 @@ impl<'a> Entry<'a> {
     }
 }
 
+impl fmt::Debug for Entry<'_> {
+    fn fmt(&self, f: &mut fmt::Formatter<'_>) -> fmt::Result {
+        let mut shown = f.debug_struct("Entry");
+        shown.field("id", &Bytes(self.id())).field("connection", &self.connection()).field("addresses", &self.told[5]).finish()
+    }
+}
+
 /// The addresses of a peer that a message names, one after another.
-#[derive(Clone, Debug)]
+#[derive(Clone)]
 pub struct Addresses<'a> {
     entry: Entry<'a>,
     given: usize,
@@ -213,8 +243,14 @@ impl<'a> Iterator for Addresses<'a> {
     }
 }
 
+impl fmt::Debug for Addresses<'_> {
+    fn fmt(&self, f: &mut fmt::Formatter<'_>) -> fmt::Result {
+        f.debug_struct("Addresses").field("of", &Bytes(self.entry.id())).field("left", &self.clone().count()).finish()
+    }
+}
+
 /// A peer to be named in a message.
-#[derive(Clone, Copy, Debug, Default, PartialEq, Eq)]
+#[derive(Clone, Copy, Default, PartialEq, Eq)]
 pub struct Named<'a> {
     /// Its id, at most 64 bytes.
     pub id: &'a [u8],
@@ -222,6 +258,13 @@ pub struct Named<'a> {
     pub addresses: &'a [&'a [u8]],
     /// What is said of our connection to it.
     pub connection: ConnectionType,
+}
+
+impl fmt::Debug for Named<'_> {
+    fn fmt(&self, f: &mut fmt::Formatter<'_>) -> fmt::Result {
+        let addresses = List(self.addresses.iter().copied());
+        f.debug_struct("Named").field("id", &Bytes(self.id)).field("addresses", &addresses).field("connection", &self.connection).finish()
+    }
 }
 
 /// A message to be written.
@@ -234,7 +277,7 @@ pub struct Named<'a> {
 /// assert_eq!(reply.to_vec()?.len(), 40);
 /// # Ok::<(), starterbell::Refusal>(())
 /// ```
-#[derive(Clone, Copy, Debug, PartialEq, Eq)]
+#[derive(Clone, Copy, PartialEq, Eq)]
 pub struct Draft<'a> {
     /// What it is.
     pub kind: Kind,
@@ -290,6 +333,14 @@ impl<'a> Draft<'a> {
         let length = self.write(&mut out)?;
         out.truncate(length);
         Ok(out)
+    }
+}
+
+impl fmt::Debug for Draft<'_> {
+    fn fmt(&self, f: &mut fmt::Formatter<'_>) -> fmt::Result {
+        let mut shown = f.debug_struct("Draft");
+        shown.field("kind", &self.kind).field("key", &Bytes(self.key)).field("record", &self.record);
+        shown.field("closer_peers", &self.closer_peers.len()).field("provider_peers", &self.provider_peers.len()).finish()
     }
 }
 

@@ -1,6 +1,8 @@
 //! Peers: as a host hands them in, and as they lie in memory.
 
+use crate::show::{Bytes, List};
 use alloc::vec::Vec;
+use core::fmt;
 
 /// Whether a peer answers requests. Only servers become contacts.
 #[derive(Clone, Copy, Debug, PartialEq, Eq, Hash)]
@@ -14,7 +16,7 @@ pub enum Mode {
 /// A peer as the host knows it: who it is, how it can be reached, what it does.
 ///
 /// An id has 1 to 64 bytes. Of the addresses the first four with 1 to 128 bytes are kept; they are the host's own affair, and go unread.
-#[derive(Clone, Copy, Debug, PartialEq, Eq)]
+#[derive(Clone, Copy, PartialEq, Eq)]
 pub struct Peer<'a> {
     /// Its id.
     pub id: &'a [u8],
@@ -41,6 +43,13 @@ impl<'a> Peer<'a> {
     }
 }
 
+impl fmt::Debug for Peer<'_> {
+    fn fmt(&self, f: &mut fmt::Formatter<'_>) -> fmt::Result {
+        let addresses = List(self.addresses.iter().copied());
+        f.debug_struct("Peer").field("id", &Bytes(self.id)).field("addresses", &addresses).field("mode", &self.mode).finish()
+    }
+}
+
 /// Addresses as the exported functions take them: each with its length before it. One whose length doesn't fit is no usable address, and is left out.
 pub(crate) fn listed(addresses: &[&[u8]]) -> Vec<u8> {
     let mut list = Vec::new();
@@ -54,7 +63,7 @@ pub(crate) fn listed(addresses: &[&[u8]]) -> Vec<u8> {
 }
 
 /// A peer where it lies in the box's memory: its id, its place and its addresses. Contacts are such, and so are a connection's peer and the box itself.
-#[derive(Clone, Copy, Debug, PartialEq, Eq)]
+#[derive(Clone, Copy, PartialEq, Eq)]
 pub struct Contact<'a>(&'a [u8]);
 
 impl<'a> Contact<'a> {
@@ -74,7 +83,7 @@ impl<'a> Contact<'a> {
     }
 
     /// Its addresses, up to four.
-    pub fn addresses(self) -> impl ExactSizeIterator<Item = &'a [u8]> {
+    pub fn addresses(self) -> impl ExactSizeIterator<Item = &'a [u8]> + Clone {
         let slot = self.0;
         (0..usize::from(slot[3])).map(move |k| &slot[104 + k * 128..][..usize::from(slot[4 + k])])
     }
@@ -87,5 +96,13 @@ impl<'a> Contact<'a> {
     /// A contact's rank in its bucket: 0 for the head, which was seen longest ago.
     pub fn rank(self) -> u8 {
         self.0[0].saturating_sub(1)
+    }
+}
+
+impl fmt::Debug for Contact<'_> {
+    fn fmt(&self, f: &mut fmt::Formatter<'_>) -> fmt::Result {
+        let mut shown = f.debug_struct("Contact");
+        shown.field("id", &Bytes(self.id())).field("addresses", &List(self.addresses()));
+        shown.field("rank", &self.rank()).field("doubtful", &self.is_doubtful()).finish()
     }
 }

@@ -5,7 +5,7 @@ use core::fmt;
 /// Says the refusals once: name, number, plain words.
 macro_rules! refusals {
     ($($name:ident = $number:literal, $words:literal;)*) => {
-        /// A refusal, with document 01's numbers.
+        /// A refusal, with its number in the rule book (docs/RULES.md, Refusals).
         ///
         /// ```
         /// use starterbell::Refusal;

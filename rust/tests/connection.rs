@@ -1,7 +1,7 @@
 //! Connections: requests and their replies, cut anywhere.
 
 use starterbell::message::{Draft, Kind, Message};
-use starterbell::recipe::{Recipe, Setpoint};
+use starterbell::recipe::{Broken, Recipe, Rule, Setpoint};
 use starterbell::{Event, Mode, Node, Peer, Refusal, Room, Seen, Side};
 
 fn bench() -> Node {
@@ -277,7 +277,7 @@ fn a_leap_is_refused_typed_and_sent() {
     // the newer version on the screen
     let mut newer = Recipe { sequence: 5, ..held };
     newer.setpoints[2].trim = 11_000;
-    assert_eq!((newer.to_value().err(), newer.leap()), (Some(Refusal::BrokenRecipe), Some(2)));
+    assert_eq!(newer.to_value().err(), Some(Broken { rule: Rule::TrimLeaps, setpoint: Some(2) }));
     // a host that has no `Recipe` puts its bytes: zigzag 4,000 (A0 1F) and 22,000 (F0 AB 01)
     let leaper = [b"silver\x00\x00\x01\xa0\x1f\x02\xf0\xab\x01".as_slice(), &[25, 0, 0, 0, 3, 0, 1, 0, 5, 0, 0, 0, 0, 0, 0, 0]].concat();
     assert_eq!(node.put(KEY, &leaper), Err(Refusal::BrokenRecipe));

@@ -126,15 +126,15 @@ fn any_number_of_addresses_is_read() {
 #[test]
 fn a_record_in_several_fields_is_read_as_one() {
     let first = [26, 3, 10, 1, b'A'];
-    let cases: [(&[u8], (&[u8], &[u8])); 6] = [
-        (&[26, 3, 18, 1, b'B'], (b"A", b"B")),
-        (&[26, 0], (b"A", b"")),
-        (&[26, 2, 10, 0], (b"", b"")),
-        (&[26, 3, 18, 1, b'B', 26, 3, 10, 1, b'C'], (b"C", b"B")),
-        (&[24, 7, 18, 1, b'x', 26, 6, 42, 1, b'z', 18, 1, b'B'], (b"A", b"B")),
-        (&[26, 6, 18, 1, b'B', 18, 1, b'C'], (b"A", b"C")),
+    let cases: [[&[u8]; 3]; 6] = [
+        [&[26, 3, 18, 1, b'B'], b"A", b"B"],
+        [&[26, 0], b"A", b""],
+        [&[26, 2, 10, 0], b"", b""],
+        [&[26, 3, 18, 1, b'B', 26, 3, 10, 1, b'C'], b"C", b"B"],
+        [&[24, 7, 18, 1, b'x', 26, 6, 42, 1, b'z', 18, 1, b'B'], b"A", b"B"],
+        [&[26, 6, 18, 1, b'B', 18, 1, b'C'], b"A", b"C"],
     ];
-    for (more, (key, value)) in cases {
+    for [more, key, value] in cases {
         let bytes = [&first, more].concat();
         assert_eq!(Message::read(&bytes).map(|message| message.record()), Ok(Some(Record { key, value })), "{more:?}");
     }

@@ -3,6 +3,7 @@
 use crate::job::{Goal, Job, Request, Why};
 use crate::liar::Liar;
 use crate::net::{Link, News, What};
+use crate::path::Path;
 use crate::tally::Around;
 use starterbell::message::{Draft, Message};
 use starterbell::{Connection, Contact, Event, Node, Peer, Probed, Seen, Settled};
@@ -66,6 +67,8 @@ pub struct Bench {
     pub goals: VecDeque<Goal>,
     /// What came of the goals to get something.
     pub got: Vec<(Vec<u8>, Option<Vec<u8>>)>,
+    /// The path of its first lookup, by which it became known.
+    pub first: Option<Path>,
     number: usize,
     habit: Habit,
     job: Option<Job>,
@@ -82,7 +85,7 @@ fn with_peer<T>(known: &Known, act: impl FnOnce(Peer<'_>) -> T) -> T {
 
 impl Bench {
     pub fn new(number: usize, node: Node, role: Role, habit: Habit) -> Bench {
-        Bench { node, role, goals: VecDeque::new(), got: Vec::new(), number, habit, job: None, jobs: 0, links: BTreeMap::new(), probing: false }
+        Bench { node, role, goals: VecDeque::new(), got: Vec::new(), first: None, number, habit, job: None, jobs: 0, links: BTreeMap::new(), probing: false }
     }
 
     pub fn is_honest(&self) -> bool {
@@ -302,7 +305,8 @@ impl Bench {
             let Request { id, addresses, message, why } = request;
             self.send(Known { id, addresses }, &message, Waiting::Job(self.jobs, why), around);
         }
-        if let Some(job) = self.job.take_if(|job| job.is_over()) {
+        if let Some(mut job) = self.job.take_if(|job| job.is_over()) {
+            self.first.get_or_insert_with(|| job.take_path());
             if let Goal::Get { key } = &job.goal {
                 let key = key.clone();
                 let best = job.best(around);

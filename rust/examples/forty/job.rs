@@ -1,9 +1,11 @@
 //! What a bench wants from the others: each goal begins with a lookup.
 
+use crate::path::{Path, HEARD};
 use crate::tally::Around;
 use starterbell::lookup::{Lookup, Step, CONCURRENCY};
 use starterbell::message::{Draft, Kind, Message};
-use starterbell::{recipe, Node, Refusal};
+use starterbell::recipe::{self, Recipe};
+use starterbell::{Node, Refusal};
 use std::collections::{BTreeMap, VecDeque};
 
 /// With so many good answers a bench takes the highest-ranking one. There are never as many benches that send old recipes.
@@ -48,6 +50,8 @@ pub struct Job {
     /// Puts and gets on their way.
     asked: usize,
     values: Vec<Vec<u8>>,
+    /// What the lookup did, for the picture.
+    path: Path,
 }
 
 impl Job {
@@ -59,7 +63,14 @@ impl Job {
         let lookup = Lookup::start(node, key, CONCURRENCY)?;
         around.tally.lookups += 1;
         let book = node.contacts().map(|contact| (contact.id().to_vec(), contact.addresses().map(<[u8]>::to_vec).collect())).collect();
-        Ok(Job { goal, lookup, waits: false, book, found: None, asked: 0, values: Vec::new() })
+        let known = node.nearest(key)?.iter().map(|contact| contact.id().to_vec()).collect();
+        let path = Path::new(*lookup.target(), known);
+        Ok(Job { goal, lookup, waits: false, book, found: None, asked: 0, values: Vec::new(), path })
+    }
+
+    /// The path of its lookup.
+    pub fn take_path(&mut self) -> Path {
+        std::mem::take(&mut self.path)
     }
 
     /// The next request, if there is one to be sent now.
@@ -72,6 +83,7 @@ impl Job {
             let outcome = match around.told(step)? {
                 Step::Ask(id) => {
                     let id = id.to_vec();
+                    self.path.ask(&id);
                     let message = Draft::find_node(self.lookup.key()).to_vec().ok()?;
                     return Some(self.request(id, message, Why::Look));
                 }
@@ -89,7 +101,9 @@ impl Job {
                 }
             };
             let requests = outcome.requests() as u64;
-            self.found = Some(outcome.peers().map(<[u8]>::to_vec).collect());
+            self.path.requests = outcome.requests();
+            self.path.found = outcome.peers().map(<[u8]>::to_vec).collect();
+            self.found = Some(self.path.found.iter().cloned().collect());
             around.tally.requests += requests;
             around.tally.most_requests = around.tally.most_requests.max(requests);
         }
@@ -140,7 +154,8 @@ impl Job {
         if around.told(told).is_none() {
             return;
         }
-        for entry in message.closer_peers().take(21).filter(|entry| (1..=64).contains(&entry.id().len())) {
+        self.path.heard(sender, message);
+        for entry in message.closer_peers().take(HEARD).filter(|entry| (1..=64).contains(&entry.id().len())) {
             let addresses = || entry.addresses().take(4).map(<[u8]>::to_vec).collect();
             self.book.entry(entry.id().to_vec()).or_insert_with(addresses);
         }
@@ -149,11 +164,12 @@ impl Job {
     /// A value is taken if it is of the key, and a recipe.
     fn got(&mut self, message: &Message, around: &mut Around) {
         let (Goal::Get { key }, Some(record)) = (&self.goal, message.record()) else { return };
-        if record.key == key && recipe::check(record.value).is_ok() {
-            self.values.push(record.value.to_vec());
-        } else {
-            around.tally.broken += 1;
-        }
+        let wrong = match Recipe::from_value(record.value) {
+            Ok(_) if record.key == key => return self.values.push(record.value.to_vec()),
+            Ok(_) => "of another key".into(),
+            Err(broken) => format!("{:?}", broken.rule),
+        };
+        *around.tally.broken.entry(wrong).or_default() += 1;
     }
 
     /// Nothing came for a request.

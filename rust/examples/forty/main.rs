@@ -6,6 +6,7 @@ mod job;
 mod liar;
 mod memory;
 mod net;
+mod path;
 mod rng;
 mod svg;
 mod tally;
@@ -19,6 +20,7 @@ use std::io::{IsTerminal, Write};
 use std::path::{Path, PathBuf};
 use std::process::ExitCode;
 use std::time::{Duration, Instant};
+use tally::Tally;
 use world::{Phase, World};
 
 const HELP: &str = "\
@@ -34,7 +36,7 @@ The exit status is 0 where every recipe was found as it was put, every lookup ha
   --tcp         over TCP on this machine, with real sockets and timeouts, instead of in memory
   --seed N      another run; in memory the same seed gives the same run (40)
   --benches N   how many boxes, 8 to 80 (40)
-  --svg FILE    where the picture of who knows whom is written (forty.svg in the project's target folder)
+  --svg FILE    where the picture of a newcomer's lookup is written (forty.svg in the project's target folder)
   --help        this";
 
 struct Wanted {
@@ -182,7 +184,14 @@ fn summary(wanted: &Wanted, world: &World, trusting: &World, took: Duration) -> 
         format!("dead       {}", dead(tally.dead, trusting.tally.dead)),
         format!("messages   {} on {} connections; {} bytes in {} pieces", tally.messages, traffic.connections, traffic.bytes, traffic.pieces),
         format!("contacts   {} heads of full buckets probed, {} swapped", tally.probes, tally.swaps),
-        format!("lies       {} messages nobody asked for, {} bad recipes, {} old ones outranked", tally.unasked, tally.broken, tally.outranked),
+        format!("path       {}", path(world)),
+        format!(
+            "lies       {} messages nobody asked for, {} bad recipes, {} old ones outranked",
+            tally.unasked,
+            tally.broken.values().sum::<u64>(),
+            tally.outranked
+        ),
+        format!("bad        {}", broken(tally)),
         format!("agreement  {}", agreement(world)),
         format!("refusals   {}", refusals(&tally.refusals)),
         format!("time       {:.1} s", took.as_secs_f64()),
@@ -205,8 +214,24 @@ fn agreement(world: &World) -> String {
     format!("{agreeing} benches hold the same {records} records, byte for byte; {} offers, {} of them outranked", tally.offers, tally.late)
 }
 
-/// Those that were given, by number.
+/// The lookup that the picture shows.
+fn path(world: &World) -> String {
+    let Some((number, path)) = svg::newcomer(&world.benches) else { return "none, since nobody has joined".into() };
+    let (known, answers, found) = (path.known.len(), path.answers(), path.found.len());
+    format!("bench {number} knew {known} when it joined, sent {} requests, had {answers} answers and found {found}", path.requests)
+}
+
+/// What was wrong with bad recipes.
+fn broken(tally: &Tally) -> String {
+    if tally.broken.is_empty() {
+        return "no recipe".into();
+    }
+    let parts: Vec<String> = tally.broken.iter().map(|(wrong, count)| format!("{wrong} {count}")).collect();
+    format!("recipes by what is wrong: {}", parts.join(", "))
+}
+
+/// Those that were given, each with its name and its number.
 fn refusals(counts: &[u64]) -> String {
     let given = Refusal::ALL.iter().zip(counts).filter(|(_, count)| **count > 0);
-    given.map(|(refusal, count)| format!("{}: {count}", refusal.number())).collect::<Vec<_>>().join("  ")
+    given.map(|(refusal, count)| format!("{refusal:?} ({}) {count}", refusal.number())).collect::<Vec<_>>().join(", ")
 }

@@ -3,7 +3,7 @@
 use crate::net::{Link, Net};
 use crate::rng::Rng;
 use starterbell::Refusal;
-use std::collections::BTreeSet;
+use std::collections::{BTreeMap, BTreeSet};
 
 #[derive(Default)]
 pub struct Tally {
@@ -22,8 +22,8 @@ pub struct Tally {
     pub dead: u64,
     /// Messages that nobody had asked for.
     pub unasked: u64,
-    /// Recipes that honest benches got and threw away, since they don't check or are of another key.
-    pub broken: u64,
+    /// Recipes that honest benches got and threw away, by what was wrong: the rule that they break, or that they are of another key.
+    pub broken: BTreeMap<String, u64>,
     /// Recipes that honest benches got and that another one outranked.
     pub outranked: u64,
     pub probes: u64,
