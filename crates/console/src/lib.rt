@@ -116,10 +116,31 @@ fn count(n: usize) {
 
 // The usage. Whether all of it was written.
 fn usage(fd: i32) -> bool {
-    put(
-        fd,
-        b"usage: starterbell [PIECE]\nStandard input is one client's connection: length-prefixed requests. The replies go to standard output.\nPIECE is how many bytes are read at a time, 1 to 4096 (4096 where none is given). The replies don't depend on it.\nA refusal, an end inside a message, and a read or a write that fails end the run, and are said on standard error.\nThe exit status says nothing of these, it is 0: a script looks whether anything stands on standard error.\nThe box is lent 12,320 bytes for contacts, 139,776 for records, 16,384 to receive and 16,387 to reply.\n-h or --help in place of PIECE writes this to standard output.\n",
-    )
+    put(fd, b"usage: starterbell [PIECE]\n")
+        && put(
+            fd,
+            b"Standard input is one client's connection: length-prefixed requests. The replies go to standard output.\n",
+        )
+        && put(
+            fd,
+            b"PIECE is how many bytes are read at a time, 1 to 4096 (4096 where none is given). The replies don't depend on it.\n",
+        )
+        && put(
+            fd,
+            b"A refusal, an end inside a message, or a read or write that fails ends the run, and standard error says which.\n",
+        )
+        && put(
+            fd,
+            b"The exit status doesn't: it is 0 unless a signal ended the program. A script looks whether standard error is empty.\n",
+        )
+        && put(
+            fd,
+            b"The box is lent 12,320 bytes for contacts, 139,776 for records, 16,384 to receive and 16,387 to reply.\n",
+        )
+        && put(
+            fd,
+            b"-h or --help in place of PIECE writes this to standard output.\n",
+        )
 }
 
 fn help() {
@@ -235,11 +256,7 @@ fn feed(
     let mut turns = piece.len();
     while from < piece.len() {
         if turns == 0 {
-            return Turn {
-                conn: c,
-                taken: from,
-                after: After::Stop,
-            };
+            return stopped(c, from);
         }
         let t = call(me, c, buffer, &piece[from..], contacts, records, reply);
         c = t.conn;

@@ -2,6 +2,7 @@
 use Prim.Native.Nat.{_≤_}
 use mathlib.Core.Path.{_≡_}
 use lib.ListN.{length}
+use Rattle.console.proofs.Going.{stops}
 use native.Mathlib.Omega.{arith}
 use borrow.Author.Needs.{needs}
 use Rattle.console.proofs.feed.Statement.{statement}
@@ -17,6 +18,9 @@ abbrev μ-loop : tie.MeasureT-loop
 loop-holds : tie.Need-loop-holds Inv-loop μ-loop
 loop-holds c = search needs
 
+stopped-requires : tie.Need-stopped-requires Inv-loop μ-loop
+stopped-requires c κs = search needs
+
 same-length : tie.Need-same-length Inv-loop μ-loop
 same-length c = search needs
 
@@ -30,7 +34,7 @@ same-length-4 : tie.Need-same-length-4 Inv-loop μ-loop
 same-length-4 c = search needs
 
 returns : tie.Need-returns Inv-loop μ-loop
-returns c = search needs
+returns c = stops _ _ _ (c .stopped .ensures)
 
 sub-call : tie.Need-sub-call Inv-loop μ-loop
 sub-call c = omega arith
@@ -96,6 +100,7 @@ feed-spec =
     Inv-loop
     μ-loop
     loop-holds
+    stopped-requires
     same-length
     same-length-2
     same-length-3
