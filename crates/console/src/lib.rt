@@ -7,7 +7,7 @@ use refusal::Refusal;
 use stream::Ending;
 ghost use mathlib.Core.Path.{_≡_};
 ghost use mathlib.Core.Bool.{false};
-ghost use Prim.Native.Nat.{_+_, _≤_, _<_, min};
+ghost use Prim.Native.Nat.{_+_, _≤_, min};
 ghost use lib.ListN.{length};
 ghost use Rattle.console.specs.Console.{goesOn, Sent, Follows, UsedUp};
 
