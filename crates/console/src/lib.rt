@@ -239,7 +239,8 @@ fn stopped(conn: Conn, taken: usize) -> Turn
     }
 }
 
-// A piece, call after call until it is used up. Each call after which the run goes on takes a byte, so there are no more calls than bytes.
+// A piece, call after call until it is used up. Each call after which the run goes on takes a byte, so there are no more calls than bytes, and the
+// turns, by which the loop is seen to end, don't run out.
 fn feed(
     me: Peer,
     conn: Conn,
