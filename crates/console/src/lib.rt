@@ -1,13 +1,15 @@
 // The workshop's program: standard input is one client's connection, read in pieces of a size that an argument gives; the replies go to
-// standard output, and nothing else does. What ends the run early is said on standard error.
+// standard output, and nothing else does but the usage, where it is asked for. What ends the run early is said on standard error.
 use node::Answer;
 use node::Conn;
 use peer::Peer;
 use refusal::Refusal;
 use stream::Ending;
 ghost use mathlib.Core.Path.{_≡_};
-ghost use Prim.Native.Nat.{_≤_, _<_};
+ghost use mathlib.Core.Bool.{false};
+ghost use Prim.Native.Nat.{_+_, _≤_, min};
 ghost use lib.ListN.{length};
+ghost use Rattle.console.specs.Console.{goesOn, Sent, Follows, UsedUp};
 
 // The largest piece, and the one that is read where no argument says another.
 pub const PIECE: usize = 4096;
@@ -17,25 +19,142 @@ pub const CONTACTS: usize = 20 * contacts::SLOT;
 
 pub const RECORDS: usize = 64 * record_slots::SLOT;
 
+// How a part of the run ended.
+pub enum After {
+    // The run goes on: the rest of the piece is handed over, or the next piece is read.
+    On,
+    // The input is over.
+    End,
+    // The run is over, and why was said: nothing more is read, written or said.
+    Stop,
+}
+
+// What a call, a piece or a read leaves: the connection, how many bytes were taken, and whether to go on.
+pub struct Turn {
+    pub conn: Conn,
+    pub taken: usize,
+    pub after: After,
+}
+
+// What a read gave.
+pub enum Got {
+    // So many bytes: none where a signal interrupted it, and then it is made again.
+    Bytes(usize),
+    End,
+    Failed,
+}
+
+fn goes_on(after: After) -> bool
+    ensures { λ r. ⌜ r ≡ goesOn after ⌝ }
+{
+    match after {
+        After::On => true,
+        After::End => false,
+        After::Stop => false,
+    }
+}
+
+// A place in a slice of len bytes, some bytes further on.
+fn onward(from: usize, taken: usize, len: usize) -> usize
+    ensures { λ r. ⌜ r ≡ min (from + taken) len ⌝ }
+    ensures { λ r. ⌜ r ≤ len ⌝ }
+{
+    if len < from {
+        return len;
+    }
+    if len - from < taken {
+        return len;
+    }
+    from + taken
+}
+
+// The front of a slice, or all of it.
+fn front(s: &[u8], n: usize) -> &[u8] {
+    if s.len() < n {
+        return s;
+    }
+    &s[..n]
+}
+
+// Whether a read or a write failed, by what it answered. One that a signal interrupted before it moved a byte didn't.
+fn failed(answered: isize) -> bool {
+    if 0 <= answered {
+        return false;
+    }
+    os::errno() != libc::EINTR
+}
+
+// Writes all of the bytes, in as many writes as that takes. False where one fails or takes nothing: then some may have been written. A proved loop has
+// to end, so the turns are counted down from a number that no run uses up.
+fn put(fd: i32, bytes: &[u8]) -> bool {
+    let mut done: usize = 0;
+    let mut turns = u64::MAX;
+    while done < bytes.len() {
+        let moved = libc::write(fd, &bytes[done..]);
+        if moved == 0 {
+            return false;
+        }
+        if failed(moved) {
+            return false;
+        }
+        if turns == 0 {
+            return false;
+        }
+        done = onward(done, io::count(moved, bytes), bytes.len());
+        turns -= 1;
+    }
+    true
+}
+
 fn say(text: &[u8]) {
-    io::write_all(libc::STDERR_FILENO, text);
+    put(libc::STDERR_FILENO, text);
 }
 
 fn count(n: usize) {
     io::print_decimal(libc::STDERR_FILENO, n as u64);
 }
 
+// The usage. Whether all of it was written.
+fn usage(fd: i32) -> bool {
+    put(fd, b"usage: starterbell [PIECE]\n")
+        && put(
+            fd,
+            b"Standard input is one client's connection: length-prefixed requests. The replies go to standard output.\n",
+        )
+        && put(
+            fd,
+            b"PIECE is how many bytes are read at a time, 1 to 4096 (4096 where none is given). The replies don't depend on it.\n",
+        )
+        && put(
+            fd,
+            b"A refusal, an end inside a message, or a read or write that fails ends the run, and standard error says which.\n",
+        )
+        && put(
+            fd,
+            b"The exit status doesn't: it is 0 unless a signal ended the program. A script looks whether standard error is empty.\n",
+        )
+        && put(
+            fd,
+            b"The box is lent 12,320 bytes for contacts, 139,776 for records, 16,384 to receive and 16,387 to reply.\n",
+        )
+        && put(
+            fd,
+            b"-h or --help in place of PIECE writes this to standard output.\n",
+        )
+}
+
 fn help() {
-    say(b"usage: starterbell [PIECE]\n");
-    say(
-        b"Standard input is one client's connection: length-prefixed requests. The replies go to standard output.\n",
-    );
-    say(
-        b"PIECE is how many bytes are read at a time, 1 to 4096 (4096 where none is given). The replies don't depend on it.\n",
-    );
-    say(
-        b"The box is lent 12,320 bytes for contacts, 139,776 for records, 16,384 to receive and 16,387 to reply.\n",
-    );
+    if !usage(libc::STDOUT_FILENO) {
+        os::fail(b"starterbell: the usage can't be written to standard output");
+    }
+}
+
+// What is wrong with the arguments.
+fn misused(what: &[u8]) {
+    say(b"starterbell: ");
+    say(what);
+    say(b"\n");
+    usage(libc::STDERR_FILENO);
 }
 
 // Why a client's bytes are refused. The others can't be given to this program's box, whose memory is its own.
@@ -63,35 +182,33 @@ fn tell(r: Refusal) {
     say(b"\n");
 }
 
-// The front of a slice, or all of it.
-fn front(s: &[u8], n: usize) -> &[u8] {
-    if s.len() < n {
-        return s;
+// Writes a reply. Where that fails the bytes after this request are never read as something else: the run stops.
+fn send(reply: &[u8]) -> After
+    ensures { λ r. ⌜ Sent r ⌝ }
+{
+    if put(libc::STDOUT_FILENO, reply) {
+        return After::On;
     }
-    &s[..n]
+    os::fail(b"starterbell: a reply can't be written to standard output");
+    After::Stop
 }
 
-// What one call leaves: the connection, how many bytes it took, and whether to go on with this piece.
-pub struct Turn {
-    pub conn: Conn,
-    pub taken: usize,
-    pub goes: bool,
-}
-
-// Whether an answer is an event after which the rest of the piece is handed over.
-fn goes_on(answer: Answer, reply: &[u8]) -> bool {
+// What comes after an answer: its reply is written, its refusal told.
+fn deal(answer: Answer, reply: &[u8]) -> After
+    ensures { λ r. ⌜ Follows answer r ⌝ }
+{
     match answer {
-        Answer::Reply(n) => io::write_all(libc::STDOUT_FILENO, front(reply, n)),
-        Answer::Heard(_, _) => true,
+        Answer::Reply(n) => send(front(reply, n)),
+        Answer::Heard(_, _) => After::On,
         Answer::Refused(r) => {
             tell(r);
-            false
+            After::Stop
         }
-        Answer::More => false,
+        Answer::More => After::On,
     }
 }
 
-// One call, and its reply written.
+// One call, and what comes after it.
 fn call(
     me: Peer,
     conn: Conn,
@@ -103,29 +220,27 @@ fn call(
 ) -> Turn {
     let r = node::receive(me, conn, buffer, rest, contacts, records, reply);
     let a = r.answer;
-    let goes = goes_on(a, reply);
+    let after = deal(a, reply);
     let c = r.conn;
     Turn {
         conn: c,
         taken: r.taken,
-        goes,
+        after,
     }
 }
 
-// A place in a slice of len bytes, some bytes further on.
-fn onward(from: usize, taken: usize, len: usize) -> usize
-    ensures { λ r. ⌜ r ≤ len ⌝ }
+fn stopped(conn: Conn, taken: usize) -> Turn
+    ensures { λ r. ⌜ r .after ≡ After.Stop ⌝ }
 {
-    if len < from {
-        return len;
+    Turn {
+        conn,
+        taken,
+        after: After::Stop,
     }
-    if len - from < taken {
-        return len;
-    }
-    from + taken
 }
 
-// A piece, call after call until it is used up. Each call that answers an event takes a byte, so there are no more calls than bytes.
+// A piece, call after call until it is used up. Each call after which the run goes on takes a byte, so there are no more calls than bytes, and the
+// turns, by which the loop is seen to end, don't run out.
 fn feed(
     me: Peer,
     conn: Conn,
@@ -134,41 +249,65 @@ fn feed(
     contacts: &mut [u8],
     records: &mut [u8],
     reply: &mut [u8],
-) -> Conn {
+) -> Turn
+    ensures { λ r. ⌜ UsedUp (r .after) (r .taken) (length (now (piece .entry))) ⌝ }
+{
     let mut c = conn;
     let mut from: usize = 0;
     let mut turns = piece.len();
-    while 0 < turns {
+    while from < piece.len() {
+        if turns == 0 {
+            return stopped(c, from);
+        }
         let t = call(me, c, buffer, &piece[from..], contacts, records, reply);
         c = t.conn;
-        if !t.goes {
-            return c;
+        let a = t.after;
+        if !goes_on(a) {
+            return Turn {
+                conn: c,
+                taken: from,
+                after: After::Stop,
+            };
         }
         from = onward(from, t.taken, piece.len());
         turns -= 1;
     }
-    c
-}
-
-// The connection after some bytes, and whether to read on.
-pub struct Round {
-    pub conn: Conn,
-    pub goes: bool,
-}
-
-// Reads once, at most so many bytes. How many came; 0 at the end of the input.
-fn read_into(piece: &mut [u8], most: usize) -> usize {
-    if piece.len() < most {
-        return 0;
+    Turn {
+        conn: c,
+        taken: from,
+        after: After::On,
     }
+}
+
+// Reads once, at most so many bytes, which the piece has to have. A failure is said at once, before another call of the system hides its reason.
+fn read_into(piece: &mut [u8], most: usize) -> Got
+    requires { ⌜ most ≤ length (now piece) ⌝ }
+{
     let got = libc::read(libc::STDIN_FILENO, &mut piece[..most]);
-    if got < 1 {
-        return 0;
+    if got == 0 {
+        return Got::End;
     }
-    io::count(got, piece)
+    if failed(got) {
+        os::fail(b"starterbell: standard input can't be read");
+        return Got::Failed;
+    }
+    Got::Bytes(io::count(got, piece))
 }
 
-// Reads once and hands the bytes over. Goes on until the input ends or the connection is shut.
+// The size of a piece that is nearest to a number.
+fn fit(size: usize) -> usize
+    ensures { λ r. ⌜ r ≤ 4096 ⌝ }
+{
+    if size < 1 {
+        return 1;
+    }
+    if PIECE < size {
+        return PIECE;
+    }
+    size
+}
+
+// Reads once and hands the bytes over.
 fn read_once(
     me: Peer,
     conn: Conn,
@@ -177,19 +316,21 @@ fn read_once(
     contacts: &mut [u8],
     records: &mut [u8],
     reply: &mut [u8],
-) -> Round {
+) -> Turn {
     let mut piece = [0u8; PIECE];
-    let n = read_into(&mut piece, size);
-    if n == 0 {
-        return Round { conn, goes: false };
+    let got = read_into(&mut piece, fit(size));
+    match got {
+        Got::Bytes(n) => feed(me, conn, buffer, front(&piece, n), contacts, records, reply),
+        Got::End => Turn {
+            conn,
+            taken: 0,
+            after: After::End,
+        },
+        Got::Failed => stopped(conn, 0),
     }
-    let c = feed(me, conn, buffer, front(&piece, n), contacts, records, reply);
-    let f = c.framing;
-    let goes = !stream::is_shut(f);
-    Round { conn: c, goes }
 }
 
-// The whole input. A proved loop has to end, and nothing says that an input does, so the turns are counted down from a number that no run uses up.
+// The whole input, until it ends or the run stops. Nothing says that an input ends, so the turns are counted down here too.
 fn pump(
     me: Peer,
     conn: Conn,
@@ -198,26 +339,25 @@ fn pump(
     contacts: &mut [u8],
     records: &mut [u8],
     reply: &mut [u8],
-) -> Conn {
+) -> Turn
+    ensures { λ r. ⌜ goesOn (r .after) ≡ false ⌝ }
+{
     let mut c = conn;
     let mut turns = u64::MAX;
     while 0 < turns {
-        let r = read_once(me, c, size, buffer, contacts, records, reply);
-        c = r.conn;
-        if !r.goes {
-            return c;
+        let t = read_once(me, c, size, buffer, contacts, records, reply);
+        c = t.conn;
+        let a = t.after;
+        if !goes_on(a) {
+            return t;
         }
         turns -= 1;
     }
-    c
+    stopped(c, 0)
 }
 
-// The input is over. A connection that was shut has said why already.
+// The input is over. An end inside a message is refused.
 fn finish(me: Peer, conn: Conn) {
-    let f = conn.framing;
-    if stream::is_shut(f) {
-        return;
-    }
     let e = node::end(me, conn);
     let a = e.answer;
     match a {
@@ -226,7 +366,7 @@ fn finish(me: Peer, conn: Conn) {
     }
 }
 
-// Serves standard input in pieces of some bytes.
+// Serves standard input in pieces of some bytes, 1 to PIECE: for any other number those that are nearest to it.
 pub fn serve(size: usize) {
     let mut contacts = [0u8; CONTACTS];
     let mut records = [0u8; RECORDS];
@@ -246,7 +386,12 @@ pub fn serve(size: usize) {
         &mut records,
         &mut reply,
     );
-    finish(me, last);
+    let c = last.conn;
+    let a = last.after;
+    match a {
+        After::End => finish(me, c),
+        _ => (),
+    }
 }
 
 // A decimal number up to 9,999; 0 for anything else.
@@ -272,22 +417,51 @@ fn number(text: &[u8]) -> usize
     n
 }
 
-// The program: its argument, if there is one, is the size of a piece.
+// Whether two texts are the same.
+fn same(a: &[u8], b: &[u8]) -> bool {
+    if a.len() != b.len() {
+        return false;
+    }
+    let mut i: usize = 0;
+    while i < a.len() {
+        if a[i] != b[i] {
+            return false;
+        }
+        i += 1;
+    }
+    true
+}
+
+// The program with its one argument: the size of a piece, or the wish for the usage.
+fn with_argument(text: &[u8]) {
+    if same(text, b"--help") {
+        help();
+        return;
+    }
+    if same(text, b"-h") {
+        help();
+        return;
+    }
+    let size = number(text);
+    if fit(size) != size {
+        misused(b"PIECE isn't a number from 1 to 4096");
+        return;
+    }
+    serve(size);
+}
+
+// The program.
 pub fn start() {
-    if os::arg_count() < 2 {
+    let words = os::arg_count();
+    if words < 2 {
         serve(PIECE);
+        return;
+    }
+    if 2 < words {
+        misused(b"there is more than one argument");
         return;
     }
     let mut text = io::buffer();
     let n = os::arg(1, &mut text);
-    let size = number(&text[..n]);
-    if size < 1 {
-        help();
-        return;
-    }
-    if PIECE < size {
-        help();
-        return;
-    }
-    serve(size);
+    with_argument(&text[..n]);
 }

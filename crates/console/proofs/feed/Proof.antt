@@ -1,8 +1,9 @@
--- `console::feed` is safe and ends: a place within the piece, and turns that count down. Assumes nothing.
+-- `console::feed` meets its contract: a place within the piece, which is its end where the run goes on, and turns that count down. Assumes nothing.
 use Prim.Native.Nat.{_≤_}
 use mathlib.Core.Path.{_≡_}
-use native.Mathlib.Omega.{arith}
 use lib.ListN.{length}
+use Rattle.console.proofs.Going.{stops}
+use native.Mathlib.Omega.{arith}
 use borrow.Author.Needs.{needs}
 use Rattle.console.proofs.feed.Statement.{statement}
 use Rattle.console.proofs.feed.Tie as tie
@@ -17,17 +18,8 @@ abbrev μ-loop : tie.MeasureT-loop
 loop-holds : tie.Need-loop-holds Inv-loop μ-loop
 loop-holds c = search needs
 
-sub-call : tie.Need-sub-call Inv-loop μ-loop
-sub-call c = omega arith
-
-part-call-start : tie.Need-part-call-start Inv-loop μ-loop
-part-call-start c = omega arith
-
-part-call-end : tie.Need-part-call-end Inv-loop μ-loop
-part-call-end c = omega arith
-
-call-requires : tie.Need-call-requires Inv-loop μ-loop
-call-requires c κs = search needs
+stopped-requires : tie.Need-stopped-requires Inv-loop μ-loop
+stopped-requires c κs = search needs
 
 same-length : tie.Need-same-length Inv-loop μ-loop
 same-length c = search needs
@@ -42,19 +34,22 @@ same-length-4 : tie.Need-same-length-4 Inv-loop μ-loop
 same-length-4 c = search needs
 
 returns : tie.Need-returns Inv-loop μ-loop
-returns c = search needs
+returns c = stops _ _ _ (c .stopped .ensures)
 
-onward-requires : tie.Need-onward-requires Inv-loop μ-loop
-onward-requires c κs = search needs
+sub-call : tie.Need-sub-call Inv-loop μ-loop
+sub-call c = omega arith
 
-sub-turns : tie.Need-sub-turns Inv-loop μ-loop
-sub-turns c = omega arith
+part-call-start : tie.Need-part-call-start Inv-loop μ-loop
+part-call-start c = omega arith
 
-loop-less : tie.Need-loop-less Inv-loop μ-loop
-loop-less c = omega arith
+part-call-end : tie.Need-part-call-end Inv-loop μ-loop
+part-call-end c = omega arith
 
-loop-again : tie.Need-loop-again Inv-loop μ-loop
-loop-again c = search needs
+call-requires : tie.Need-call-requires Inv-loop μ-loop
+call-requires c κs = search needs
+
+goes-on-requires : tie.Need-goes-on-requires Inv-loop μ-loop
+goes-on-requires c κs = search needs
 
 same-length-5 : tie.Need-same-length-5 Inv-loop μ-loop
 same-length-5 c = search needs
@@ -71,6 +66,33 @@ same-length-8 c = search needs
 returns-2 : tie.Need-returns-2 Inv-loop μ-loop
 returns-2 c = search needs
 
+onward-requires : tie.Need-onward-requires Inv-loop μ-loop
+onward-requires c κs = search needs
+
+sub-turns : tie.Need-sub-turns Inv-loop μ-loop
+sub-turns c = omega arith
+
+loop-less : tie.Need-loop-less Inv-loop μ-loop
+loop-less c = omega arith
+
+loop-again : tie.Need-loop-again Inv-loop μ-loop
+loop-again c = search needs
+
+same-length-9 : tie.Need-same-length-9 Inv-loop μ-loop
+same-length-9 c = search needs
+
+same-length-10 : tie.Need-same-length-10 Inv-loop μ-loop
+same-length-10 c = search needs
+
+same-length-11 : tie.Need-same-length-11 Inv-loop μ-loop
+same-length-11 c = search needs
+
+same-length-12 : tie.Need-same-length-12 Inv-loop μ-loop
+same-length-12 c = search needs
+
+returns-3 : tie.Need-returns-3 Inv-loop μ-loop
+returns-3 c = omega arith
+
 pub feed-spec : {M : Type 1} → statement M
 feed-spec =
     tie.close
@@ -78,21 +100,28 @@ feed-spec =
     Inv-loop
     μ-loop
     loop-holds
-    sub-call
-    part-call-start
-    part-call-end
-    call-requires
+    stopped-requires
     same-length
     same-length-2
     same-length-3
     same-length-4
     returns
-    onward-requires
-    sub-turns
-    loop-less
-    loop-again
+    sub-call
+    part-call-start
+    part-call-end
+    call-requires
+    goes-on-requires
     same-length-5
     same-length-6
     same-length-7
     same-length-8
-    returns-2)
+    returns-2
+    onward-requires
+    sub-turns
+    loop-less
+    loop-again
+    same-length-9
+    same-length-10
+    same-length-11
+    same-length-12
+    returns-3)

@@ -1,8 +1,10 @@
--- `console::pump` is safe and ends: turns that count down. Assumes nothing.
-use mathlib.Core.Path.{_≡_}
-use native.Mathlib.Omega.{arith}
+-- `console::pump` meets its contract: turns that count down. Assumes nothing.
+use mathlib.Core.Path.{_≡_, sym, ap, _∙_}
 use lib.ListN.{length}
+use native.Mathlib.Omega.{arith}
 use borrow.Author.Needs.{needs}
+use borrow.Author.Tests.{not-true}
+use Rattle.console.specs.Console.{goesOn}
 use Rattle.console.proofs.pump.Statement.{statement}
 use Rattle.console.proofs.pump.Tie as tie
 
@@ -19,6 +21,9 @@ loop-holds c = search needs
 read-once-requires : tie.Need-read-once-requires Inv-loop μ-loop
 read-once-requires c κs = search needs
 
+goes-on-requires : tie.Need-goes-on-requires Inv-loop μ-loop
+goes-on-requires c κs = search needs
+
 same-length : tie.Need-same-length Inv-loop μ-loop
 same-length c = search needs
 
@@ -32,7 +37,7 @@ same-length-4 : tie.Need-same-length-4 Inv-loop μ-loop
 same-length-4 c = search needs
 
 returns : tie.Need-returns Inv-loop μ-loop
-returns c = search needs
+returns c = sym (c .before .goes-on .ensures) ∙ not-true _ (c .if1 .taken)
 
 sub-turns : tie.Need-sub-turns Inv-loop μ-loop
 sub-turns c = omega arith
@@ -42,6 +47,9 @@ loop-less c = omega arith
 
 loop-again : tie.Need-loop-again Inv-loop μ-loop
 loop-again c = search needs
+
+stopped-requires : tie.Need-stopped-requires Inv-loop μ-loop
+stopped-requires c κs = search needs
 
 same-length-5 : tie.Need-same-length-5 Inv-loop μ-loop
 same-length-5 c = search needs
@@ -56,7 +64,7 @@ same-length-8 : tie.Need-same-length-8 Inv-loop μ-loop
 same-length-8 c = search needs
 
 returns-2 : tie.Need-returns-2 Inv-loop μ-loop
-returns-2 c = search needs
+returns-2 c = ap goesOn (c .stopped .ensures)
 
 pub pump-spec : {M : Type 1} → statement M
 pump-spec =
@@ -66,6 +74,7 @@ pump-spec =
     μ-loop
     loop-holds
     read-once-requires
+    goes-on-requires
     same-length
     same-length-2
     same-length-3
@@ -74,6 +83,7 @@ pump-spec =
     sub-turns
     loop-less
     loop-again
+    stopped-requires
     same-length-5
     same-length-6
     same-length-7
