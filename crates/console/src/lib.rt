@@ -417,28 +417,13 @@ fn number(text: &[u8]) -> usize
     n
 }
 
-// Whether two texts are the same.
-fn same(a: &[u8], b: &[u8]) -> bool {
-    if a.len() != b.len() {
-        return false;
-    }
-    let mut i: usize = 0;
-    while i < a.len() {
-        if a[i] != b[i] {
-            return false;
-        }
-        i += 1;
-    }
-    true
-}
-
 // The program with its one argument: the size of a piece, or the wish for the usage.
 fn with_argument(text: &[u8]) {
-    if same(text, b"--help") {
+    if octets::same_bytes(text, b"--help") {
         help();
         return;
     }
-    if same(text, b"-h") {
+    if octets::same_bytes(text, b"-h") {
         help();
         return;
     }
