@@ -1,4 +1,5 @@
-/* Starterbell for C and C++: the networking core of a box that winds violin strings, in the archive that `tools/native-lib host OUT.a` writes.
+/* Starterbell for C and C++: the networking core of a box that winds violin strings. Link dist/starterbell-x86_64.s or dist/starterbell-aarch64.s, which `cc` takes
+   like a source file, or the archive that `tools/native-lib host OUT.a` proves and writes.
 
    The core opens no socket, keeps no clock, takes no memory of its own and keeps nothing between calls. The host hands it bytes and lends it memory, sends what
    it writes, and does what it answers. Every call returns, on every input: what a call returns and every byte that it leaves in lent memory is fixed and proved.
@@ -219,7 +220,7 @@ enum starterbell_refusal {
 #define STARTERBELL_REFUSED(code) ((code) < 64u)
 
 enum starterbell_answer {
-    /* start, open, end, remove, nearest, put, read, write */
+    /* start, open, end, remove, doubt, nearest, put, read, write */
     STARTERBELL_DONE = 64,
     /* seen */
     STARTERBELL_SEEN_MOVED = 64,

@@ -262,6 +262,11 @@ static inline struct starterbell_written starterbell_message_write(uint8_t *buff
     return written;
 }
 
+/* The part of a body that starts and ends there, as starterbell_read and starterbell_peer tell: an absent one starts at 0. */
+static inline struct starterbell_bytes starterbell_part(struct starterbell_bytes body, uint64_t start, uint64_t end) {
+    return start == 0 ? starterbell_nothing() : starterbell_bytes_at(body.at + start, (size_t)(end - start));
+}
+
 /* starterbell_peer: the next entry, from a position on, of closerPeers (list 0) or providerPeers. */
 static inline struct starterbell_named starterbell_message_peer(struct starterbell_bytes body, uint32_t list, size_t from) {
     struct starterbell_named named;
@@ -271,10 +276,10 @@ static inline struct starterbell_named starterbell_message_peer(struct starterbe
     named.code = starterbell_peer(body.at, body.length, list, from, out, STARTERBELL_PEER_OUT);
     named.start = (size_t)out[STARTERBELL_PEER_OUT_START];
     named.end = (size_t)out[STARTERBELL_PEER_OUT_END];
-    named.id = starterbell_bytes_at(body.at + out[STARTERBELL_PEER_OUT_ID_START], (size_t)(out[STARTERBELL_PEER_OUT_ID_END] - out[STARTERBELL_PEER_OUT_ID_START]));
+    named.id = starterbell_part(body, out[STARTERBELL_PEER_OUT_ID_START], out[STARTERBELL_PEER_OUT_ID_END]);
     named.connection = out[STARTERBELL_PEER_OUT_CONNECTION];
     named.address_count = (size_t)out[STARTERBELL_PEER_OUT_ADDRESS_COUNT];
-    for (i = 0; i < STARTERBELL_PEER_FIRST; i++) named.addresses[i] = starterbell_bytes_at(body.at + places[2 * i], (size_t)(places[2 * i + 1] - places[2 * i]));
+    for (i = 0; i < STARTERBELL_PEER_FIRST; i++) named.addresses[i] = starterbell_part(body, places[2 * i], places[2 * i + 1]);
     return named;
 }
 

@@ -1,4 +1,5 @@
--- How the program's run goes on. What it reads and writes no definition can say; that no byte is passed over, these do.
+-- How the program's run goes on: to the next piece only once its own count has come to the end of this one. What it reads and writes no definition can say, and
+-- that the count is what each call took isn't said here: `feed` adds that up in one line, and the examples and tests/program hold it.
 use Prim.Native.Nat.{ℕ}
 use mathlib.Core.Path.{_≡_}
 use mathlib.Core.Bool.{Bool, true, false}

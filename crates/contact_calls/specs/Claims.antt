@@ -1,4 +1,5 @@
 -- Seen, settle, remove and doubt as a host calls them: which number it is told and what its table then is. `claims` (proofs/Claims.antt) has all of it.
+-- Quoted are RULES, Refusals, RULES, Places and contacts, RULES, Lent memory, and RULES, Errors we have met.
 use Prim.Native.Nat.{ℕ, _<_, _≤_}
 use mathlib.Core.Path.{_≡_}
 use mathlib.Core.Bool.{Bool, true, false}

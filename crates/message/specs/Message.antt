@@ -107,6 +107,6 @@ messageItems m =
 unfoldable pub encode : Message → List ℕ
 encode m = written (messageItems m)
 
--- "a message is an unsigned varint length, then the body"
+-- "a message is an unsigned varint length, then the body" (RULES, Stream)
 unfoldable pub frame : List ℕ → List ℕ
 frame body = minimal (length body) ++ body

@@ -54,7 +54,7 @@ untouched a l = record { answer = a; sight = NotSeen; left = l }
 unfoldable pub sightOf : Peer → Conn → List ℕ → Sight
 sightOf me c t = cond (c .server) (Seen (sightingOf t (me .place) (tidied (c .peer)))) NotSeen
 
--- "takes the new addresses if any is usable": a connection may be handed in with others
+-- "takes the new addresses if any is usable" (RULES, Places and contacts): a connection may be handed in with others
 unfoldable pub contactsAfter : Peer → Conn → List ℕ → List ℕ
 contactsAfter me c t = cond (c .server) (seenTable t (me .place) (tidied (c .peer))) t
 

@@ -10,11 +10,11 @@ use Rattle.place.specs.Place.{placeOf}
 use Rattle.peer.specs.declared.Peer.{Peer}
 use Rattle.peer.specs.Addresses.{usableSize, keptOf, padded, rooms, sizes}
 
--- "peer id not 1 to 64 bytes"
+-- "peer id not 1 to 64 bytes" (RULES, Refusals)
 unfoldable pub idFits : List ℕ → Bool
 idFits id = leb 1 (length id) && leb (length id) mostId
 
--- refusal 12: "peer id not 1 to 64 bytes, or of our place"
+-- refusal 12: "peer id not 1 to 64 bytes, or of our place" (RULES, Refusals)
 unfoldable pub badPeer : List ℕ → List ℕ → Bool
 badPeer ours id = not (idFits id) || same (placeOf id) ours
 

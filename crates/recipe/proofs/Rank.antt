@@ -26,7 +26,7 @@ outranks-total a b p q =
 pub outranks-self : (a : List ℕ) → outranks a a ≡ false
 outranks-self a = to-false (outranks a a) (λ h. outranks-asym a a h h)
 
--- "doesn't rank higher" goes over too
+-- that one doesn't rank higher goes over too
 pub outranked-not : (a b c : List ℕ) → outranks a b ≡ false → outranks b c ≡ false → outranks a c ≡ false
 outranked-not a b c p q = to-false (outranks a c) (λ h. go h (outranks b a) refl)
   where

@@ -38,7 +38,7 @@ unfoldable pub slotBytes : List ℕ → List ℕ → List ℕ
 slotBytes k v = header (length k) (length v) ++ (padded mostKey k ++ padded mostValue v)
 
 -- ---- the form
--- "the six bytes /wind/ open every record key, with 1 to 122 more"
+-- "the six bytes /wind/ open every record key, with 1 to 122 more" (RULES, Answers)
 unfoldable pub isKey : List ℕ → Bool
 isKey k = allOf (leb keyMin (length k) ∷ leb (length k) mostKey ∷ startsWith k opening ∷ [])
 

@@ -55,7 +55,7 @@ pub record JudgedFirst : Type 0 where
   pub ranked : (t k u v : List ℕ) → inForm t ≡ true → got t k ≡ Has u → isRecipe v ≡ true
       → (putAnswer t k v ≡ cond (outranks u v) (Refused Outranked) Taken) × (got (putAfter t k v) k ≡ Has (cond (outranks u v) u v))
 
--- what a put is told else: 0, 8, and of a key that isn't held 11 exactly where "every record slot holds another key"
+-- what a put is told else: 0, 8, and of a key that isn't held 11 exactly where "every record slot holds another key" (RULES, Refusals)
 pub record PutTold : Type 0 where
   pub outOfForm : (t k v : List ℕ) → inForm t ≡ false → putAnswer t k v ≡ Refused OutOfForm
   pub rules : (t k v : List ℕ) → inForm t ≡ true → isKey k ≡ false → putAnswer t k v ≡ Refused BreaksRules

@@ -48,7 +48,7 @@ pub record Dealt : Type 0 where
   pub told : Answered
   pub left : Lent
 
--- a refused request changes nothing. A reply is written with its length prefix; "bytes after a reply stay"
+-- a refused request changes nothing. A reply is written with its length prefix; "bytes after a reply stay" (RULES, Refusals)
 abbrev pub refused : Refusal → Lent → Dealt
 refused r l = record { told = Refused r; left = l }
 
