@@ -1,6 +1,6 @@
 /* Starterbell for Linux on x86_64: what the proved sources of crates/host compile to. include/starterbell.h declares its functions.
    Written by tools/dist; the gate compiles the sources again and compares.
-   sources: b17fcfe140aefa7615fcff7b96f7f397d17a7599999bce5b8d3b2df798bfe623 */
+   sources: 1c58083c9c3eccf88984c11bd967e6d8e240168d819d2dab3d3e0c2a837d6ea8 */
 	.section	".text.octets::lower_bytes","ax",@progbits
 	.p2align	4
 	.type	"octets::lower_bytes",@function
