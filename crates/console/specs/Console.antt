@@ -1,10 +1,15 @@
--- How the program's run goes on: to the next piece only once its own count has come to the end of this one. What it reads and writes no definition can say, and
--- that the count is what each call took isn't said here: `feed` adds that up in one line, and the examples and tests/program hold it.
-use Prim.Native.Nat.{ℕ}
+-- How the program's run goes on. What it reads and writes no definition can say; that no byte of a piece is passed over, these do.
+use Prim.Native.Nat.{ℕ, zero, suc}
 use mathlib.Core.Path.{_≡_}
 use mathlib.Core.Bool.{Bool, true, false}
+use mathlib.Core.List.{List, []}
+use lib.ListN.{drop}
+use Rattle.peer.specs.declared.Peer.{Peer}
+use Rattle.replies.specs.Lent.{Lent, lent}
+use Rattle.node.specs.Node.{Link, linked, Out, receiveOf}
 use Rattle.node.specs.declared.Answer.{Answer}
 use Rattle.node.specs.declared.Answer.the-variants.{Reply, Heard, Refused, More}
+use Rattle.console.specs.declared.Turn.{Turn}
 use Rattle.console.specs.declared.After.{After}
 use Rattle.console.specs.declared.After.the-variants.{On, End, Stop}
 
@@ -26,8 +31,38 @@ Follows (Heard n f) a = a ≡ On
 Follows (Refused r) a = a ≡ Stop
 Follows More a = a ≡ On
 
--- a piece of n bytes, of which k were taken: the run goes on, to the next piece, only after all of them
-abbrev pub UsedUp : After → (k n : ℕ) → Type 0
-UsedUp On k n = k ≡ n
-UsedUp End k n = ⊥
-UsedUp Stop k n = Unit {0}
+-- ---- a piece, call after call
+-- where a run stands in a piece: the connection, what the box is lent, and the bytes that no call has taken yet
+pub record Stand : Type 0 where
+  pub link : Link
+  pub left : Lent
+  pub rest : List ℕ
+
+abbrev pub stand : Link → Lent → List ℕ → Stand
+stand k l s = record { link = k; left = l; rest = s }
+
+-- one more call, on all of the rest
+unfoldable pub called : Peer → Stand → Out
+called me s = receiveOf me (s .link) (s .rest) (s .left)
+
+-- what it leaves
+unfoldable pub leaves : Stand → Out → Stand
+leaves s o = stand (linked (o .got .conn) (o .buffer)) (o .left) (drop (o .got .taken) (s .rest))
+
+-- so many calls, each on what the one before it left
+unfoldable pub calls : Peer → Stand → ℕ → Stand
+calls me s zero = s
+calls me s (suc n) = leaves (calls me s n) (called me (calls me s n))
+
+-- a turn and the lent memory have what a call gives
+pub record Turns (o : Out) (t : Turn) (m c k y : List ℕ) : Type 0 where
+  pub conn : t .conn ≡ o .got .conn
+  pub taken : t .taken ≡ o .got .taken
+  pub buffer : m ≡ o .buffer
+  pub left : lent c k y ≡ o .left
+
+-- the run goes on, to the next piece, only where such calls have taken all of this one
+abbrev pub UsedUp : After → Peer → (from to : Stand) → Type 0
+UsedUp On me s e = (n : ℕ) × (calls me s n ≡ e)
+UsedUp End me s e = ⊥
+UsedUp Stop me s e = Unit {0}

@@ -9,7 +9,10 @@ ghost use mathlib.Core.Path.{_≡_};
 ghost use mathlib.Core.Bool.{false};
 ghost use Prim.Native.Nat.{_+_, _≤_, min};
 ghost use lib.ListN.{length};
-ghost use Rattle.console.specs.Console.{goesOn, Sent, Follows, UsedUp};
+ghost use mathlib.Core.List.{[]};
+ghost use Rattle.replies.specs.Lent.{lent};
+ghost use Rattle.node.specs.Node.{linked, receiveOf};
+ghost use Rattle.console.specs.Console.{goesOn, Sent, Follows, stand, Turns, UsedUp};
 
 // The largest piece, and the one that is read where no argument says another.
 pub const PIECE: usize = 4096;
@@ -217,7 +220,9 @@ fn call(
     contacts: &mut [u8],
     records: &mut [u8],
     reply: &mut [u8],
-) -> Turn {
+) -> Turn
+    ensures { λ r. ⌜ Turns (receiveOf me (linked conn (now (buffer .entry))) (now (rest .entry)) (lent (now (contacts .entry)) (now (records .entry)) (now (reply .entry)))) r (now (buffer .exit)) (now (contacts .exit)) (now (records .exit)) (now (reply .exit)) ⌝ }
+{
     let r = node::receive(me, conn, buffer, rest, contacts, records, reply);
     let a = r.answer;
     let after = deal(a, reply);
@@ -250,7 +255,7 @@ fn feed(
     records: &mut [u8],
     reply: &mut [u8],
 ) -> Turn
-    ensures { λ r. ⌜ UsedUp (r .after) (r .taken) (length (now (piece .entry))) ⌝ }
+    ensures { λ r. ⌜ UsedUp (r .after) me (stand (linked conn (now (buffer .entry))) (lent (now (contacts .entry)) (now (records .entry)) (now (reply .entry))) (now (piece .entry))) (stand (linked (r .conn) (now (buffer .exit))) (lent (now (contacts .exit)) (now (records .exit)) (now (reply .exit))) []) ⌝ }
 {
     let mut c = conn;
     let mut from: usize = 0;
