@@ -1,4 +1,4 @@
--- `console::feed` meets its contract: a place within the piece, which is its end where the run goes on, and turns that count down. Assumes nothing.
+-- `console::feed` meets its contract: a place within the piece, the calls that led there, and turns that count them. Assumes nothing.
 use Prim.Native.Nat.{_≤_, _-_}
 use mathlib.Core.Path.{_≡_, refl}
 use lib.ListN.{length, drop}
