@@ -1,7 +1,7 @@
 -- How the program's run goes on. What it reads and writes no definition can say; that no byte of a piece is passed over, these do.
 use Prim.Native.Nat.{ℕ, zero, suc}
 use mathlib.Core.Path.{_≡_}
-use mathlib.Core.Bool.{Bool, true, false}
+use mathlib.Core.Bool.{Bool, true, false, _&&_}
 use mathlib.Core.List.{List, []}
 use lib.ListN.{drop}
 use Rattle.peer.specs.declared.Peer.{Peer}
@@ -18,7 +18,7 @@ goesOn On = true
 goesOn End = false
 goesOn Stop = false
 
--- a reply was written, or the run stops
+-- after a reply the run goes on or stops: that isn't the end of the input
 abbrev pub Sent : After → Type 0
 Sent On = Unit {0}
 Sent End = ⊥
@@ -54,15 +54,27 @@ unfoldable pub calls : Peer → Stand → ℕ → Stand
 calls me s zero = s
 calls me s (suc n) = leaves (calls me s n) (called me (calls me s n))
 
--- a turn and the lent memory have what a call gives
+-- and none of them was refused
+abbrev pub passes : Answer → Bool
+passes (Reply n) = true
+passes (Heard n f) = true
+passes (Refused r) = false
+passes More = true
+
+unfoldable pub allPass : Peer → Stand → ℕ → Bool
+allPass me s zero = true
+allPass me s (suc n) = allPass me s n && passes (called me (calls me s n) .got .answer)
+
+-- a turn and the lent memory have what a call gives, and what follows on it
 pub record Turns (o : Out) (t : Turn) (m c k y : List ℕ) : Type 0 where
   pub conn : t .conn ≡ o .got .conn
   pub taken : t .taken ≡ o .got .taken
   pub buffer : m ≡ o .buffer
   pub left : lent c k y ≡ o .left
+  pub after : Follows (o .got .answer) (t .after)
 
--- the run goes on, to the next piece, only where such calls have taken all of this one
+-- the run goes on, to the next piece, only where such calls have taken all of this one, and none was refused
 abbrev pub UsedUp : After → Peer → (from to : Stand) → Type 0
-UsedUp On me s e = (n : ℕ) × (calls me s n ≡ e)
+UsedUp On me s e = (n : ℕ) × (calls me s n ≡ e) × (allPass me s n ≡ true)
 UsedUp End me s e = ⊥
 UsedUp Stop me s e = Unit {0}

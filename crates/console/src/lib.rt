@@ -376,7 +376,7 @@ pub fn serve(size: usize) {
     let mut contacts = [0u8; CONTACTS];
     let mut records = [0u8; RECORDS];
     let mut buffer = [0u8; limits::MOST_BODY];
-    let mut reply = [0u8; 16387];
+    let mut reply = [0u8; limits::LEAST_REPLY];
     let nowhere = [0u8; 0];
     let started = node::start(b"starterbell", &nowhere);
     let me = started.me;

@@ -24,7 +24,7 @@ same-length-4 : tie.Need-same-length-4
 same-length-4 c = search needs
 
 returns : tie.Need-returns
-returns c = turned _ _ _ _ _ _ _ (c .before .before .before .before .before .before .before .before .before .before .before .receive .ensures) refl refl
+returns c = turned _ _ _ _ _ _ _ (c .before .before .before .before .before .before .before .before .before .before .before .receive .ensures) refl refl (c .before .deal .ensures)
 
 pub call-spec : {M : Type 1} → statement M
 call-spec =
