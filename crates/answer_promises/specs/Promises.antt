@@ -28,7 +28,7 @@ RefusedChangesNothing =
     (me who : peers.Peer) (body : List ℕ) (l : Lent) (r : Refusal) → dealOf me who body l .told ≡ Refused r → dealOf me who body l .left ≡ l
 
 -- a reply of n bytes stands in the buffer: the message that the verdict calls for, within the limits, with its prefix, which reads back as the same message;
--- "bytes after a reply stay". 14,087 is the largest reply body (RULES, Messages)
+-- "bytes after a reply stay". 15,111 is the largest reply body (RULES, Messages)
 pub record ReadsBack (v : Verdict) (d : Dealt) (y : List ℕ) (n : ℕ) : Type 0 where
   pub says : Message
   pub verdict : v ≡ replies says
@@ -36,7 +36,7 @@ pub record ReadsBack (v : Verdict) (d : Dealt) (y : List ℕ) (n : ℕ) : Type 0
   pub size : n ≡ length (frame (encode says))
   pub stands : take n (d .left .reply) ≡ frame (encode says)
   pub back : decode (encode says) ≡ some says
-  pub short : length (encode says) ≤ 14087
+  pub short : length (encode says) ≤ 15111
   pub rest : drop n (d .left .reply) ≡ drop n y
 
 -- the room for the id in the code's type of peers

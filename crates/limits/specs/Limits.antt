@@ -19,15 +19,15 @@ addressesSize = mostAddresses * mostAddress
 abbrev pub placeSize : ℕ
 placeSize = 32
 
--- ---- a record: "key 128, value 2,048", and how many setpoints a value has
+-- ---- a record: "key 128, value 3,072", and how many setpoints a value has
 abbrev pub mostKey : ℕ
 mostKey = 128
 
 abbrev pub mostValue : ℕ
-mostValue = 2048
+mostValue = 3072
 
 abbrev pub mostSetpoints : ℕ
-mostSetpoints = 200
+mostSetpoints = 400
 
 -- ---- a message: its body, and a reply buffer, which has room for the longest length before it
 abbrev pub mostBody : ℕ

@@ -15,9 +15,9 @@ pub const PLACE: usize = 32;
 // A record: its key, its value, and how many setpoints that has.
 pub const MOST_KEY: usize = 128;
 
-pub const MOST_VALUE: usize = 2048;
+pub const MOST_VALUE: usize = 3072;
 
-pub const MOST_SETPOINTS: u64 = 200;
+pub const MOST_SETPOINTS: u64 = 400;
 
 // A message's body; a reply buffer has room for the longest length before it.
 pub const MOST_BODY: usize = 16384;

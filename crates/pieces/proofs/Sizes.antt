@@ -1,4 +1,4 @@
--- The largest sizes of RULES, Messages: a peer is at most 595 bytes with tag and length, the largest GET_VALUE reply body 14,087. Assumes nothing.
+-- The largest sizes of RULES, Messages: a peer is at most 595 bytes with tag and length, the largest GET_VALUE reply body 15,111. Assumes nothing.
 use Prim.Native.Nat.{ℕ, _+_, _*_, _≤_, _<_}
 use mathlib.Core.Path.{_≡_, ap}
 use mathlib.Core.List.{List, [], _∷_, _++_, map, append-nil}
@@ -125,7 +125,7 @@ message-length m =
     let e : List ℕ = written (repeated 9 (map encodePeer (m .providers))) in
     omega (arith, ap length (message-bytes m), length-append a (b ++ (c ++ (d ++ e))), length-append b (c ++ (d ++ e)), length-append c (d ++ e), length-append d e)
 
--- "the largest GET_VALUE reply body is 2 + 2,185 + 20 x 595 = 14,087": type, record and twenty peers
+-- "the largest GET_VALUE reply body is 2 + 3,209 + 20 x 595 = 15,111": type, record and twenty peers
 pub reply-most : (m : Message) → m .kind ≤ mostKind → m .key ≡ [] → heldFits (m .held) ≡ true → every peerFits (m .closer) ≡ true → length (m .closer) ≤ 20 → m .providers ≡ []
     → length (encode m) ≤ mostReply
 unfolding single repeated written

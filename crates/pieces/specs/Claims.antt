@@ -27,7 +27,7 @@ pub record GetValueBody (m : Message) : Type 0 where
 pub record Claims : Type 0 where
   -- "A peer is then at most 595 bytes with tag and length": as a field f, whose tag is one byte
   pub peer : (f : ℕ) → f < 16 → Largest (λ (p : Peer). peerFits p ≡ true) (λ p. length (written1 (bytes f (encodePeer p)))) 595
-  -- a record 2,185
-  pub held : Largest (λ (r : Record). recordFits r ≡ true) (λ r. length (written1 (bytes 3 (encodeRecord r)))) 2185
-  -- "the largest GET_VALUE reply body is 2 + 2,185 + 20 x 595 = 14,087"
-  pub reply : Largest GetValueBody (λ m. length (encode m)) 14087
+  -- a record 3,209
+  pub held : Largest (λ (r : Record). recordFits r ≡ true) (λ r. length (written1 (bytes 3 (encodeRecord r)))) 3209
+  -- "the largest GET_VALUE reply body is 2 + 3,209 + 20 x 595 = 15,111"
+  pub reply : Largest GetValueBody (λ m. length (encode m)) 15111

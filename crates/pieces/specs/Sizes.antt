@@ -16,7 +16,7 @@ mostPeer = shortField mostId + mostAddresses * longField mostAddress + 2
 abbrev pub mostPeerField : ℕ
 mostPeerField = longField mostPeer
 
--- a record 2,185
+-- a record 3,209
 abbrev pub mostRecord : ℕ
 mostRecord = longField mostKey + longField mostValue
 
@@ -27,6 +27,6 @@ mostRecordField = longField mostRecord
 abbrev pub mostPeerFields : ℕ
 mostPeerFields = mostNear * mostPeerField
 
--- "the largest GET_VALUE reply body is 2 + 2,185 + 20 x 595 = 14,087": its type, the record and the peers
+-- "the largest GET_VALUE reply body is 2 + 3,209 + 20 x 595 = 15,111": its type, the record and the peers
 abbrev pub mostReply : ℕ
 mostReply = 2 + mostRecordField + mostPeerFields

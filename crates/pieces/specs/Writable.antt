@@ -1,4 +1,4 @@
--- What may be written: RULES, Messages, "Limits: key 128, value 2,048, peer id 64, address 128, four addresses".
+-- What may be written: RULES, Messages, "Limits: key 128, value 3,072, peer id 64, address 128, four addresses".
 use Prim.Native.Nat.{ℕ}
 use mathlib.Core.List.{List, [], _∷_}
 use mathlib.Core.Bool.{Bool, true, cond}

@@ -17,7 +17,7 @@ use Rattle.octets.proofs.Parts.{bytes-drop, part-whole}
 use Rattle.octets.proofs.Numbers.{little-lt}
 use Rattle.limits.specs.Limits.{mostValue, mostSetpoints}
 use Rattle.recipe.specs.Limits.{trailerSize, formatOne}
-use Rattle.recipe.specs.Recipe.{fromEnd, distanceOf, countOf, formatOf, sequenceOf, roomOf, isList, isRecipe}
+use Rattle.recipe.specs.Recipe.{fromEnd, distanceOf, countOf, formatOf, sequenceOf, roomOf, isList, Bounds, recipeWithin, isRecipe}
 
 -- ---- numbers with the lowest byte first, read from the last byte on, as `little` does
 little-end : (s : List ℕ) (i : ℕ) → length s ≤ i → littleNumber (drop i s) ≡ 0
@@ -91,12 +91,12 @@ module _ (v : List ℕ) where
   long-test = leb (length v) mostValue ∷ near-test
 
   pub short-value : length v < trailerSize → false ≡ isRecipe v
-  unfolding isRecipe
+  unfolding isRecipe recipeWithin
   short-value h = sym (all-off (leb trailerSize (length v)) long-test (lt-leb trailerSize (length v) h))
 
   module _ (h : trailerSize ≤ length v) where
     pass-1 : isRecipe v ≡ allOf long-test
-    unfolding isRecipe
+    unfolding isRecipe recipeWithin
     pass-1 = all-on (leb trailerSize (length v)) long-test (le-leb trailerSize (length v) h)
 
     pub long-value : mostValue < length v → false ≡ isRecipe v
@@ -155,16 +155,16 @@ module _ (v : List ℕ) where
 
 -- ---- what a recipe's length is
 pub recipe-least : (v : List ℕ) → isRecipe v ≡ true → trailerSize ≤ length v
-unfolding isRecipe
+unfolding isRecipe recipeWithin
 recipe-least v h = leb-true trailerSize (length v) (all-head (leb trailerSize (length v)) (long-test v) h)
 
 pub recipe-most : (v : List ℕ) → isRecipe v ≡ true → length v ≤ mostValue
-unfolding isRecipe
+unfolding isRecipe recipeWithin
 recipe-most v h = leb-true (length v) mostValue (all-head (leb (length v) mostValue) (near-test v) (all-rest (leb trailerSize (length v)) (long-test v) h))
 
 -- ---- and its list
 pub recipe-list : (v : List ℕ) → isRecipe v ≡ true → isList (countOf v) (roomOf v) ≡ true
-unfolding isRecipe
+unfolding isRecipe recipeWithin
 recipe-list v h =
     all-head (isList (countOf v) (roomOf v)) []
     (all-rest (eqb (formatOf v) formatOne) (list-test v)

@@ -6,7 +6,7 @@ use mathlib.Core.List.{List, [], _∷_}
 use lib.IntN.{pos, negsuc}
 use Rattle.octets.specs.Octets.{littleNumber}
 use Rattle.octets.specs.Search.{allOf}
-use Rattle.recipe.specs.Recipe.{trimOf, continued, varint, point, andThen, setpoints, inRange, noLeap, follows, rules, ruled, isList, distanceOf, countOf, formatOf, roomOf, isRecipe}
+use Rattle.recipe.specs.Recipe.{trimOf, continued, varint, point, andThen, setpoints, inRange, noLeap, follows, rules, ruled, isList, distanceOf, countOf, formatOf, roomOf, recipeWithin, isRecipe}
 
 -- turns 0 and 1, the second trim's two bytes left open: 00 00 01 .. .. 15 00 00 00 02 00 01 00 07 00 00 00 00 00 00 00
 abbrev pub second : ℕ → ℕ → List ℕ
@@ -21,7 +21,7 @@ pub record Leaps : Type 0 where
   pub signed : (noLeap (negsuc 19999) (pos 20000) ≡ false) × (noLeap (negsuc 2499) (pos 2500) ≡ true) × (noLeap (pos 2501) (negsuc 2499) ≡ false)
 
 pub leaps : Leaps
-unfolding littleNumber allOf trimOf continued varint point andThen setpoints inRange noLeap follows rules ruled isList distanceOf countOf formatOf roomOf isRecipe
+unfolding littleNumber allOf trimOf continued varint point andThen setpoints inRange noLeap follows rules ruled isList distanceOf countOf formatOf roomOf recipeWithin isRecipe
 leaps = record {
   edge = (refl, refl);
   over = (refl, refl);

@@ -118,17 +118,29 @@ unfoldable pub roomOf : List ℕ → List ℕ
 roomOf v = fromEnd (distanceOf v) trailerSize v
 
 -- ---- a recipe
-unfoldable pub isRecipe : List ℕ → Bool
-isRecipe v =
+-- how long a recipe may be: boxes of before request iii had other bounds, and else the same rules
+pub record Bounds : Type 0 where
+  pub bytes : ℕ
+  pub points : ℕ
+
+unfoldable pub recipeWithin : Bounds → List ℕ → Bool
+recipeWithin b v =
     allOf
     (leb trailerSize (length v)
-    ∷ leb (length v) mostValue
+    ∷ leb (length v) (b .bytes)
     ∷ leb trailerSize (distanceOf v)
     ∷ leb (distanceOf v) (length v)
-    ∷ leb (countOf v) mostSetpoints
+    ∷ leb (countOf v) (b .points)
     ∷ eqb (formatOf v) formatOne
     ∷ isList (countOf v) (roomOf v)
     ∷ [])
+
+-- "A value has 16 to 3,072 bytes", and its count is "at most 400"
+abbrev pub ours : Bounds
+ours = record { bytes = mostValue; points = mostSetpoints }
+
+unfoldable pub isRecipe : List ℕ → Bool
+isRecipe v = recipeWithin ours v
 
 -- "Rank: higher sequence, then bytewise order (a prefix is lower)": a ranks higher than b
 unfoldable pub outranks : List ℕ → List ℕ → Bool

@@ -1,5 +1,5 @@
 -- The slots of the record store and its form: RULES, Recipes.
--- A store is a byte string, of which each whole 2,184 bytes are a slot, up to 256; what comes after isn't looked at and isn't touched.
+-- A store is a byte string, of which each whole 3,208 bytes are a slot, up to 256; what comes after isn't looked at and isn't touched.
 use Prim.Native.Nat.{ℕ, _+_, _-_, _*_, _/_, _%_, min}
 use mathlib.Core.Bool.{Bool, not, _&&_, _||_}
 use mathlib.Core.List.{List, [], _∷_, _++_}
@@ -42,7 +42,7 @@ slotBytes k v = header (length k) (length v) ++ (padded mostKey k ++ padded most
 unfoldable pub isKey : List ℕ → Bool
 isKey k = allOf (leb keyMin (length k) ∷ leb (length k) mostKey ∷ startsWith k opening ∷ [])
 
--- "a /wind/ key of 7 to 128 bytes and a value of 16 to 2,048". RULES has no other rule for a used slot, so the bytes that aren't of the
+-- "a /wind/ key of 7 to 128 bytes and a value of 16 to 3,072". RULES has no other rule for a used slot, so the bytes that aren't of the
 -- key, the value or their lengths aren't looked at; nor is the value tested for a recipe.
 unfoldable pub isRecord : List ℕ → Bool
 isRecord s = allOf (isKey (keyOf s) ∷ leb trailerSize (sizeOf s) ∷ leb (sizeOf s) mostValue ∷ [])

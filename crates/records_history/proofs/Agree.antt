@@ -1,5 +1,5 @@
 -- Two stores that start with no records, are offered the same set of records and never give 11 hold the same: under each key the highest-ranking value that was
--- offered for it and that neither 8 nor 9 refuses. No proof here looks into what a recipe is; a slot needs of one that it has 16 to 2,048 bytes. Assumes nothing.
+-- offered for it and that neither 8 nor 9 refuses. No proof here looks into what a recipe is; a slot needs of one that it has 16 to 3,072 bytes. Assumes nothing.
 use mathlib.Core.Path.{_≡_, refl, sym, ap, _∙_, subst}
 use mathlib.Core.Logic.{_⊎_, inl, inr, ⊎-elim}
 use mathlib.Core.Bool.{Bool, true, false, _&&_, cond}
