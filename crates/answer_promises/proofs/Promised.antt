@@ -25,15 +25,16 @@ use Rattle.peer.specs.declared.Peer as peers
 use Rattle.peer.specs.Peers.{idFits}
 use Rattle.peer.proofs.Meaning.{id-whole}
 use Rattle.peer.proofs.Tidy.{made-usable}
-use Rattle.records.specs.Store.{inForm, found, offerAnswer, offerAfter}
+use Rattle.records.specs.Store.{inForm, found, offerAnswer, offerAfter, putAnswer, putAfter as putInto}
 use Rattle.records.specs.declared.Answer as stored
 use Rattle.records.specs.declared.Answer.the-variants as store
 use Rattle.records.specs.declared.Found.{Found}
 use Rattle.records.specs.declared.Found.the-variants as looked
 use Rattle.record_slots.proofs.Laying.{key-least, key-most}
 use Rattle.records_history.specs.History.{Has, got}
-use Rattle.records_history.proofs.Stays.{offer-form, put-is}
+use Rattle.records_history.proofs.Stays.{offer-form, put-is, put-form as put-kept}
 use Rattle.records_history.proofs.Holding.{held-key, held-found}
+use Rattle.records_history.proofs.Longer.{taken-form, taken-got}
 use Rattle.wire.specs.Items.{num, minimal, written, written1, single, repeated}
 use Rattle.wire_put.proofs.Digits.{minimal-one, minimal-three}
 use Rattle.wire_put.proofs.Putting.{number-length, single-full, bytes-short}
@@ -52,12 +53,13 @@ use Rattle.replies.specs.Lent.{Lent, withRecords}
 use Rattle.replies.specs.Verdicts.{Verdict, replies, refuses, keyed, echoed, putVerdict, putAfter, Dealt, refused, replied, byVerdict}
 use Rattle.answer.specs.Answers.{verdictOf, recordsAfter, byRequest, byReading, dealOf}
 use Rattle.answer.proofs.Serving.{deal-contacts}
-use Rattle.answer_promises.specs.Promises.{RefusedChangesNothing, ReadsBack, Roomed, RepliesReadBack, AnsweredByVerdict, AnsweredByFields, SentAsTyped, HeldIsServed, EntryIsPeer, ContactsStay, RecordsStayInForm}
+use Rattle.answer_promises.specs.Promises.{RefusedChangesNothing, ReadsBack, Roomed, RepliesReadBack, AnsweredByVerdict, AnsweredByFields, SentAsTyped, Serves, HeldIsServed, GivenWhole, EntryIsPeer, ContactsStay, RecordsStayInForm}
 use Rattle.replies.specs.declared.Answered.the-variants.{Reply, Refused}
 use Rattle.entries.proofs.Entries.{entry-fits}
 use Rattle.replies.proofs.Runs.{entries-fit}
 use Rattle.replies.proofs.Whole.{record-fits, nearest-few}
 use Rattle.replies.proofs.Serving.{held-lies, value-short, taken-fits}
+use Rattle.answer_promises.proofs.Shown.{shows-record}
 use Rattle.pieces.specs.Sizes.{mostPeerField, mostRecordField, mostReply}
 
 -- ---- a refusal
@@ -327,4 +329,37 @@ held-is-served me who body l u m w d e form g room =
       says = getValueReply t k (m .key);
       back = b;
       held = record-held t k (m .key) u g;
+      shown = shows-record (getValueReply t k (m .key)) (good-get t k (m .key) (key-most (m .key) n) .fits) (record { key = m .key; value = u }) (record-held t k (m .key) u g);
     })
+
+echo-held : (key value : List ℕ) → putValueReply key value .held ≡ some (record { key = key; value = value })
+unfolding putValueReply
+echo-held key value = refl
+
+pub given-whole : (me : peers.Peer) → GivenWhole me
+given-whole me = record { served = served; echoed = echo }
+  where
+    served : (who : peers.Peer) (body : List ℕ) (l : Lent) (m : Message) → length body ≤ mostBody → decode body ≡ some m → m .kind ≡ getValue
+        → leastReply ≤ length (l .reply) → (k v : List ℕ) → putAnswer k (m .key) v ≡ store.Taken
+        → Serves (dealOf me who body (withRecords l (putInto k (m .key) v))) (l .reply) (m .key) v
+    served who body l m w d e room k v t =
+        let form = taken-form k (m .key) v t in
+        held-is-served me who body (withRecords l (putInto k (m .key) v)) v m w d e (put-kept k (m .key) v form) (taken-got k (m .key) v t) room
+
+    echo : (who : peers.Peer) (body : List ℕ) (l : Lent) (m : Message) (r : Record) → length body ≤ mostBody → decode body ≡ some m → m .kind ≡ putValue
+        → m .held ≡ some r → r .key ≡ m .key → leastReply ≤ length (l .reply) → putAnswer (l .records) (m .key) (r .value) ≡ store.Taken
+        → Serves (dealOf me who body l) (l .reply) (m .key) (r .value)
+    echo who body l m r w d e h q room t =
+        let k = l .records in
+        let form = taken-form k (m .key) (r .value) t in
+        let says = putValueReply (m .key) (r .value) in
+        let o : offerAnswer k (m .key) (r .value) ≡ store.Taken = sym (put-is k (m .key) (r .value) form .0) ∙ t in
+        let g = good-put k (m .key) (r .value) o in
+        rw (by-put me who l body w m d e r h q, o) (record {
+          size = length (frame (encode says));
+          told = refl;
+          says = says;
+          back = replied-back says (withRecords l (offerAfter k (m .key) (r .value))) (length (frame (encode says))) g room refl;
+          held = echo-held (m .key) (r .value);
+          shown = shows-record says (g .fits) (record { key = m .key; value = r .value }) (echo-held (m .key) (r .value));
+        })

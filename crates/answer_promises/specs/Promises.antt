@@ -11,9 +11,11 @@ use Rattle.peer.specs.declared.Peer as peers
 use Rattle.peer.specs.Addresses.{keptOf}
 use Rattle.peer.specs.Peers.{idFits, peerOf}
 use Rattle.records.specs.Store.{inForm, putAnswer, putAfter}
+use Rattle.records.specs.declared.Answer.the-variants.{Taken}
 use Rattle.records_history.specs.History.{Has, got}
 use Rattle.message.specs.Message.{Record, Message, messageOf, decode, encode, frame}
 use Rattle.pieces.specs.Writable.{writable}
+use Rattle.parts.specs.Parts.{isView, positionsOf, recordKeyBytes, recordValueBytes}
 use Rattle.entries.specs.Entries.{peerEntry}
 use Rattle.replies.specs.Lent.{Lent, withRecords}
 use Rattle.message.specs.Kinds.{putValue, getValue}
@@ -69,19 +71,36 @@ SentAsTyped me =
     → dealOf me who body l
     ≡ byVerdict (echoed (putAnswer (l .records) (m .key) (r .value)) (putValueReply (m .key) (r .value))) (withRecords l (putAfter (l .records) (m .key) (r .value))) l
 
--- a reply that carries the value u under a key: it stands in the buffer and reads back with that record
+-- the reader's view of a body shows a record: its key, and its value to the last byte
+pub record ShowsRecord (body k v : List ℕ) : Type 0 where
+  pub view : isView body (positionsOf body) ≡ true
+  pub key : recordKeyBytes body (positionsOf body) ≡ k
+  pub value : recordValueBytes body (positionsOf body) ≡ v
+
+-- a reply that carries the value u under a key: it stands in the buffer and reads back with that record, which its view shows
 pub record Serves (d : Dealt) (y key u : List ℕ) : Type 0 where
   pub size : ℕ
   pub told : d .told ≡ Reply size
   pub says : Message
   pub back : ReadsBack (replies says) d y size
   pub held : says .held ≡ some (record { key = key; value = u })
+  pub shown : ShowsRecord (encode says) key u
 
 -- "Records already held .. are still served": a GET_VALUE for a key gets the value that is held under it, whatever the recipe rules say of that value
 abbrev pub HeldIsServed : peers.Peer → Type 0
 HeldIsServed me =
     (who : peers.Peer) (body : List ℕ) (l : Lent) (u : List ℕ) (m : Message) → length body ≤ mostBody → decode body ≡ some m → m .kind ≡ getValue
     → inForm (l .records) ≡ true → got (l .records) (m .key) ≡ Has u → leastReply ≤ length (l .reply) → Serves (dealOf me who body l) (l .reply) (m .key) u
+
+-- request iii, "nobody may read it short": a value that a put takes, however long, is given whole. In the reply to every GET_VALUE for its key, once it is put; and
+-- in the echo of a PUT_VALUE that brings it. (By find: `TakenWhole`, crates/records_history.)
+pub record GivenWhole (me : peers.Peer) : Type 0 where
+  pub served : (who : peers.Peer) (body : List ℕ) (l : Lent) (m : Message) → length body ≤ mostBody → decode body ≡ some m → m .kind ≡ getValue
+      → leastReply ≤ length (l .reply) → (k v : List ℕ) → putAnswer k (m .key) v ≡ Taken
+      → Serves (dealOf me who body (withRecords l (putAfter k (m .key) v))) (l .reply) (m .key) v
+  pub echoed : (who : peers.Peer) (body : List ℕ) (l : Lent) (m : Message) (r : Record) → length body ≤ mostBody → decode body ≡ some m → m .kind ≡ putValue
+      → m .held ≡ some r → r .key ≡ m .key → leastReply ≤ length (l .reply) → putAnswer (l .records) (m .key) (r .value) ≡ Taken
+      → Serves (dealOf me who body l) (l .reply) (m .key) (r .value)
 
 -- the entry for us or the requester has the id and the usable addresses that were handed in
 abbrev pub EntryIsPeer : Type 0

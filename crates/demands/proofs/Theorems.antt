@@ -5,6 +5,7 @@ use Rattle.peer.specs.declared.Peer.{Peer}
 use Rattle.contacts.proofs.TwentyNearest.{nearest-are}
 use Rattle.records_history.proofs.Holding.{held-is-found, judged-first, put-told}
 use Rattle.records_history.proofs.Blind.{form-is-blind}
+use Rattle.records_history.proofs.Longer.{taken-whole, refused-before}
 use Rattle.records_history.proofs.Claims.{highest-is-found}
 use Rattle.message.proofs.Occurrences.{split-is-merged}
 use Rattle.message.proofs.Claims.{reads-well}
@@ -13,7 +14,7 @@ use Rattle.round_trip.proofs.Written.{written-is-read}
 use Rattle.lookup_runs.proofs.Theorems as lookups
 use Rattle.host_contacts.proofs.Claims as contacts
 use Rattle.host_calls.specs.Hosts.{ownId, lookupStart}
-use Rattle.answer_promises.proofs.Promised.{replies-read-back, answered-by-verdict, answered-by-fields, sent-as-typed, held-is-served}
+use Rattle.answer_promises.proofs.Promised.{replies-read-back, answered-by-verdict, answered-by-fields, sent-as-typed, held-is-served, given-whole}
 use Rattle.cutting.proofs.Claims.{several, several-plainly, split, one-receive}
 use Rattle.node_promises.proofs.Doing.{message-done}
 use Rattle.node_promises.proofs.Giving.{box-calls}
@@ -85,6 +86,9 @@ third me w =
       judged = judged-first;
       sent = sent-as-typed me;
       blind = form-is-blind;
+      whole = taken-whole;
+      given = given-whole me;
+      before = refused-before;
     }
 
 pub demands : Demands

@@ -28,7 +28,7 @@ use Rattle.records.specs.declared.Answer.the-variants as putTold
 use Rattle.records.specs.declared.Found.the-variants as findTold
 use Rattle.records.specs.Store.{putAnswer, putAfter, findOf}
 use Rattle.records_history.specs.History.{None, got, Offer, after, cleared, Accepted, Unbeaten}
-use Rattle.records_history.specs.Claims.{FormIsBlind, HighestIsFound, HeldIsFound, JudgedFirst, PutTold}
+use Rattle.records_history.specs.Claims.{FormIsBlind, HighestIsFound, HeldIsFound, JudgedFirst, PutTold, TakenWhole, RefusedBefore}
 use Rattle.message.specs.Message.{Record, Message, messageOf, decode, encode, frame}
 use Rattle.message.specs.Claims.{ReadsWell, SplitIsMerged}
 use Rattle.message.specs.View.{fieldsOf}
@@ -52,7 +52,7 @@ use Rattle.replies.specs.Lent.{Lent, withRecords}
 use Rattle.replies.specs.Replies.{lastEntry}
 use Rattle.replies.specs.Verdicts.{replies}
 use Rattle.answer.specs.Answers.{verdictOf, dealOf}
-use Rattle.answer_promises.specs.Promises.{Roomed, ReadsBack, AnsweredByVerdict, AnsweredByFields, SentAsTyped, Serves, HeldIsServed}
+use Rattle.answer_promises.specs.Promises.{Roomed, ReadsBack, AnsweredByVerdict, AnsweredByFields, SentAsTyped, Serves, HeldIsServed, GivenWhole}
 use Rattle.node.specs.declared.Answer.the-variants.{Reply, Refused}
 use Rattle.connections.specs.declared.Told.the-variants as nodeTold
 use Rattle.connections.specs.Box.{startOf, openOf, endConn}
@@ -285,6 +285,11 @@ pub record Third (me : Peer) : Type 0 where
   pub sent : SentAsTyped me
   -- nor does 0 look into a value
   pub blind : FormIsBlind
+  -- request iii, "nobody may read it short": what a put takes, typed or sent, is given to its last byte by find, in replies and in their views; and a box of before
+  -- the request refuses what is over its bounds
+  pub whole : TakenWhole
+  pub given : GivenWhole me
+  pub before : RefusedBefore
 
 -- ==== all three, of every box that a start gave
 abbrev pub Demands : Type 0

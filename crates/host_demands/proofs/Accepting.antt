@@ -67,6 +67,7 @@ use Rattle.host_demands.specs.Hosted.{Started, ReadyFor, Follows, Follow
 use Rattle.host_demands.proofs.Numbers.{number-small}
 use Rattle.host_demands.proofs.Connections.{both-enough}
 use Rattle.host_demands.proofs.Receiving.{got-nothing, offers-now, offers-same}
+use Rattle.host_demands.proofs.Reading.{written-reads}
 use Rattle.host_demands.proofs.Running.{one-call, all-calls, fits-head, ready-after, later-fit}
 
 -- ---- what numbers say
@@ -262,6 +263,7 @@ module _ (me : List ℕ) (S : Started me) where
                   ∙ s .back .stands;
               back = s .back .back;
               held = ap (λ (x : Message). x .held) (sym (said (s .back .verdict))) ∙ s .held;
+              shown = written-reads (s .back .says) (s .back .fits);
             }
 
       -- ---- what a receive offers

@@ -43,7 +43,7 @@ use Rattle.host_answers.specs.Answers.{readNumber, readNumbers, entryFrom, late
 use Rattle.demands.specs.Demands.{Writes}
 use Rattle.demands.proofs.Leaving.{refused-leaves}
 use Rattle.demands.proofs.Hearing as demands
-use Rattle.demands.proofs.Deal.{decoded}
+use Rattle.answer_promises.proofs.Shown.{decoded}
 use Rattle.host_demands.specs.Messages.{IsPart, RecordShown, Shows, ReadAs, ReadTold, AddressGiven, Addresses, PeerGiven, Peers, PeersTold, WrittenAs, WriteTold, MessagesCross}
 
 -- ---- the eight numbers of a view
@@ -75,6 +75,10 @@ read-as s f m e q =
       shows = λ out h. subst (λ (r : Reading). Shows s m (readNumbers out r)) (sym e) (view-shown s f m out (claims .inside s f e) q h);
       rest = λ out. ap (λ (r : Reading). drop 8 (readNumbers out r)) e ∙ drop-sets 8 out 0 (viewNumbers f) (omega arith);
     }
+
+-- what can be written is read as it was
+pub written-reads : (m : Message) → writable m ≡ true → ReadAs (encode m) m
+written-reads m e = let r = written-is-read m e in read-as (encode m) (fieldsOf (encode m)) m (r .whole) (r .says)
 
 module _ (s : List ℕ) where
   left-alone : (r : Reading) → readNumber r < 64 → (out : List ℕ) → readNumbers out r ≡ out
@@ -235,12 +239,11 @@ module _ (y : List ℕ) (m : Message) where
     written-as : writable m ≡ true → WrittenAs y m
     written-as e =
         let d = done e in
-        let r = written-is-read m e in
         record {
           number = ap writeNumber d;
           stands = λ out l. subst (Writes m y) (sym (ap (λ (w : Written). getD (writeNumbers out w) 0 0) d ∙ first-number out (length (frame (encode m))) l))
               (demands.written y m (length (frame (encode m))) d);
-          reads = read-as (encode m) (fieldsOf (encode m)) m (r .whole) (r .says);
+          reads = written-reads m e;
         }
 
   write-left : (a : Written) → answerOf y m ≡ a → writeNumber a < 64 → (outAfter y m ≡ y) × ((out : List ℕ) → writeNumbers out a ≡ out)

@@ -37,7 +37,7 @@ use Rattle.demands.specs.Lookups.{Trace, startIn}
 use Rattle.host_demands.specs.Calls as host
 use Rattle.host_demands.specs.Calls.{Memory, Export, Enough, History, Seen, withLookup, kept, receivedBy, takenBy, lengthBy, returns, leaves, writes, meant, seesOf, marksOf, leavesAll, meantAll, seesAll, marksAll, handsOver, worldIn, Stands, entrySeen}
 use Rattle.host_demands.specs.Lookups.{tracedIn, LookupBytesAreRuns}
-use Rattle.host_demands.specs.Messages.{MessagesCross}
+use Rattle.host_demands.specs.Messages.{ReadAs, MessagesCross}
 
 -- ==== the box, and memory to begin with
 -- the memory of a box that starterbell_start wrote
@@ -305,13 +305,15 @@ module _ (me : List ℕ) where
     pub kind : says .kind ≡ getValue
     pub under : says .key ≡ key
 
-  -- and is answered with the value: it returns 65, and the reply's bytes are a message, with its prefix, that has this record
+  -- and is answered with the value: it returns 65, and the reply's bytes are a message, with its prefix, that has this record; of its body starterbell_read shows the
+  -- record, the value to its last byte
   pub record Serves (m : Memory) (i : ℕ) (piece key value : List ℕ) : Type 0 where
     pub reply : returns me m (host.receives i piece) ≡ 65
     pub says : Message
     pub bytes : take (lengthBy me m i piece) (leaves me m (host.receives i piece) .lent .reply) ≡ frame (encode says)
     pub back : decode (encode says) ≡ some says
     pub held : says .held ≡ some (record { key = key; value = value })
+    pub shown : ReadAs (encode says) says
 
   -- "the one found under its key": find returns 64 and writes to out where in the records its bytes begin and end; and every GET_VALUE is answered with it
   pub record Finds (m : Memory) (key value : List ℕ) : Type 0 where

@@ -7,6 +7,7 @@ use Rattle.octets.proofs.Bools.{to-false, to-true}
 use Rattle.recipe.specs.Recipe.{outranks}
 use Rattle.recipe.specs.Claims.{Claims}
 use Rattle.recipe.proofs.Neighbours.{by-neighbours, leaps-are-refused}
+use Rattle.recipe.proofs.Bounded.{longest-recipes, bounds-alone}
 use Rattle.recipe.proofs.Rank.{outranks-asym, outranks-trans, outranks-total, outranks-self}
 use Rattle.recipe.proofs.Zigzag.{trim-zigzag, zigzag-trim}
 
@@ -21,6 +22,8 @@ pub claims : Claims
 claims = record {
   by-neighbours = by-neighbours;
   leaps-are-refused = leaps-are-refused;
+  longest-recipes = longest-recipes;
+  bounds-alone = bounds-alone;
   rank-total = rank-total;
   rank-self = outranks-self;
   rank-trans = outranks-trans;

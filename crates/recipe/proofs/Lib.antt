@@ -4,5 +4,6 @@ pub mod Leap
 pub mod Points
 pub mod Trailer
 pub mod Neighbours
+pub mod Bounded
 pub mod Rank
 pub mod Claims

@@ -162,6 +162,17 @@ pub recipe-most : (v : List ℕ) → isRecipe v ≡ true → length v ≤ mostVa
 unfolding isRecipe recipeWithin
 recipe-most v h = leb-true (length v) mostValue (all-head (leb (length v) mostValue) (near-test v) (all-rest (leb trailerSize (length v)) (long-test v) h))
 
+-- ---- how many setpoints it has
+pub recipe-count : (v : List ℕ) → isRecipe v ≡ true → countOf v ≤ mostSetpoints
+unfolding isRecipe recipeWithin
+recipe-count v h =
+    leb-true (countOf v) mostSetpoints
+    (all-head (leb (countOf v) mostSetpoints) (format-test v)
+    (all-rest (leb (distanceOf v) (length v)) (count-test v)
+    (all-rest (leb trailerSize (distanceOf v)) (far-test v)
+    (all-rest (leb (length v) mostValue) (near-test v)
+    (all-rest (leb trailerSize (length v)) (long-test v) h)))))
+
 -- ---- and its list
 pub recipe-list : (v : List ℕ) → isRecipe v ≡ true → isList (countOf v) (roomOf v) ≡ true
 unfolding isRecipe recipeWithin

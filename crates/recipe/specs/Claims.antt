@@ -1,5 +1,5 @@
--- What the rank, the zigzag form and the rules of a list come to: RULES, Recipes. proofs/Claims.antt shows all of it.
-use Prim.Native.Nat.{ℕ, suc, _-_, _<_}
+-- What the rank, the zigzag form, the rules of a list and the bounds of a recipe come to: RULES, Recipes. proofs/Claims.antt shows all of it.
+use Prim.Native.Nat.{ℕ, suc, _-_, _<_, _≤_}
 use mathlib.Core.Path.{_≡_}
 use mathlib.Core.Bool.{Bool, true, false, not, _&&_}
 use mathlib.Core.List.{List}
@@ -7,7 +7,7 @@ use lib.ListN.{length, getD}
 use lib.Dec.{ltb, leb}
 use lib.IntN.{ℤ, pos, natAbs, _-ℤ_}
 use Rattle.octets.specs.Search.{all}
-use Rattle.recipe.specs.Recipe.{trimOf, zigzagOf, Setpoint, These, setpoints, inRange, rules, countOf, roomOf, isRecipe, outranks}
+use Rattle.recipe.specs.Recipe.{trimOf, zigzagOf, Setpoint, These, setpoints, inRange, rules, countOf, roomOf, Bounds, recipeWithin, isRecipe, outranks}
 use Rattle.recipe.specs.declared.Prev.the-variants.{First}
 
 -- the setpoint at a position, from 0; past the end, turn 0 with trim 0
@@ -34,10 +34,25 @@ abbrev pub LeapsAreRefused : Type 0
 LeapsAreRefused =
     (v : List ℕ) (ps : List Setpoint) (i : ℕ) → setpoints (countOf v) (roomOf v) ≡ These ps → suc i < length ps → trimStays ps i ≡ false → isRecipe v ≡ false
 
+-- ---- how long a recipe may be
+-- "A value has 16 to 3,072 bytes", "u16 count, at most 400": no recipe has more, and there is one that has as many of both
+pub record LongestRecipes : Type 0 where
+  pub bytes : (v : List ℕ) → isRecipe v ≡ true → (16 ≤ length v) × (length v ≤ 3072)
+  pub points : (v : List ℕ) → isRecipe v ≡ true → countOf v ≤ 400
+  pub one : (v : List ℕ) × (isRecipe v ≡ true) × (length v ≡ 3072) × (countOf v ≡ 400)
+
+-- lower bounds refuse what is over them, and nothing else: every other rule is the same
+abbrev pub BoundsAlone : Type 0
+BoundsAlone =
+    (a b : Bounds) → a .bytes ≤ b .bytes → a .points ≤ b .points → (v : List ℕ)
+    → recipeWithin a v ≡ (recipeWithin b v && (leb (length v) (a .bytes) && leb (countOf v) (a .points)))
+
 -- ---- all of it
 pub record Claims : Type 0 where
   pub by-neighbours : ByNeighbours
   pub leaps-are-refused : LeapsAreRefused
+  pub longest-recipes : LongestRecipes
+  pub bounds-alone : BoundsAlone
   -- the rank orders all values: of two that differ exactly one ranks higher; none ranks higher than itself; rank goes over
   pub rank-total : (a b : List ℕ) → (a ≡ b → ⊥) → outranks a b ≡ not (outranks b a)
   pub rank-self : (a : List ℕ) → outranks a a ≡ false

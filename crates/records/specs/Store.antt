@@ -1,6 +1,6 @@
 -- The record store: RULES, Answers (PUT_VALUE), and RULES, Recipes (rank). Its slots and its form are passed on.
 use Prim.Native.Nat.{ℕ, _+_, _*_}
-use mathlib.Core.Bool.{not, cond}
+use mathlib.Core.Bool.{Bool, not, cond}
 use mathlib.Core.List.{List}
 use lib.ListN.{length}
 use lib.Seq.{sets}
@@ -36,13 +36,16 @@ findOf t k = cond (not (inForm t)) (fRefused OutOfForm) (found t k)
 unfoldable pub heldPlan : List ℕ → List ℕ → ℕ → Plan
 heldPlan held v i = cond (same held v) Keep (cond (outranks held v) (Refuse Outranked) (Write i))
 
+-- what is offered is judged first, by its key (8) and by a box's recipe rules (9); what the store makes of it comes after that
+abbrev pub judged : (List ℕ → Bool) → List ℕ → List ℕ → Plan → Plan
+judged rules k v store = cond (not (isKey k)) (Refuse BreaksRules) (cond (not (rules v)) (Refuse BrokenRecipe) store)
+
 -- what a put is to do: 8, 9, then by what is held (10), and 11 where the key isn't held and every slot is used
 unfoldable pub planOf : List ℕ → List ℕ → List ℕ → Plan
 planOf t k v =
-    cond (not (isKey k)) (Refuse BreaksRules)
-    (cond (not (isRecipe v)) (Refuse BrokenRecipe)
+    judged isRecipe k v
     (cond (ltb (slotWith t k) (slotsOf t)) (heldPlan (valueOf (slot t (slotWith t k))) v (slotWith t k))
-    (cond (ltb (freeSlot t) (slotsOf t)) (Write (freeSlot t)) (Refuse NoRecordSlot))))
+    (cond (ltb (freeSlot t) (slotsOf t)) (Write (freeSlot t)) (Refuse NoRecordSlot)))
 
 unfoldable pub answerOf : Plan → Answer
 answerOf (Write i) = Taken

@@ -4,6 +4,7 @@ use Rattle.records_history.specs.Claims.{FormIsKept, HighestIsFound, Cla
 use Rattle.records_history.proofs.Stays.{put-other, cleared-form, form-kept, step-taken, highest, found-accepted, holds-on}
 use Rattle.records_history.proofs.Holding.{held-is-found, judged-first, put-told}
 use Rattle.records_history.proofs.Blind.{form-is-blind}
+use Rattle.records_history.proofs.Longer.{taken-whole, refused-before}
 
 form-is-kept : FormIsKept
 form-is-kept = record { start = cleared-form; kept = form-kept }
@@ -19,4 +20,14 @@ highest-is-found =
     }
 
 pub claims : Claims
-claims = record { form = form-is-kept; highest = highest-is-found; blind = form-is-blind; found = held-is-found; judged = judged-first; told = put-told }
+claims =
+    record {
+      form = form-is-kept;
+      highest = highest-is-found;
+      blind = form-is-blind;
+      found = held-is-found;
+      judged = judged-first;
+      told = put-told;
+      whole = taken-whole;
+      refused-before = refused-before;
+    }

@@ -3,6 +3,7 @@ pub mod Kept
 pub mod Stays
 pub mod Holding
 pub mod Blind
+pub mod Longer
 pub mod Claims
 pub mod Agree
 pub mod Fakes

@@ -8,10 +8,11 @@ use mathlib.Core.List.{List}
 use lib.ListN.{length}
 use Rattle.octets.specs.Octets.{part}
 use Rattle.refusal.specs.declared.Refusal.the-variants.{OutOfForm, BreaksRules, BrokenRecipe, Outranked, NoRecordSlot}
-use Rattle.recipe.specs.Recipe.{isRecipe, outranks}
+use Rattle.recipe.specs.Recipe.{countOf, Bounds, recipeWithin, isRecipe, outranks}
 use Rattle.records.specs.Limits.{valueAt, slotSize}
-use Rattle.records.specs.Store.{slotsOf, slot, used, valueOf, isKey, holds, inForm, findOf, putAnswer, putAfter}
+use Rattle.records.specs.Store.{slotsOf, slot, used, valueOf, isKey, holds, inForm, findOf, judged, answerOf, afterOf, putAnswer, putAfter}
 use Rattle.records.specs.declared.Found.the-variants.{Held, NotHeld}
+use Rattle.records.specs.declared.Plan.{Plan}
 use Rattle.records.specs.declared.Answer.the-variants.{Taken, Refused}
 use Rattle.records_history.specs.History.{Has, None, got, Offer, accepts, offered, after, cleared, Accepted, Unbeaten}
 
@@ -64,6 +65,28 @@ pub record PutTold : Type 0 where
   pub new : (t k v : List ℕ) → inForm t ≡ true → isKey k ≡ true → isRecipe v ≡ true → got t k ≡ None
       → (j : ℕ) → j < slotsOf t → used (slot t j) ≡ false → putAnswer t k v ≡ Taken
 
+-- ---- longer recipes (request iii)
+
+-- "nobody may read it short": every value that a put takes, however long, is found to its last byte
+abbrev pub TakenWhole : Type 0
+TakenWhole =
+    (t k v : List ℕ) → putAnswer t k v ≡ Taken → (a : ℕ) × (e : ℕ) × (findOf (putAfter t k v) k ≡ Held a e) × (part (putAfter t k v) a e ≡ v)
+
+-- the bounds of a box of before the request
+abbrev pub before : Bounds
+before = record { bytes = 2048; points = 200 }
+
+-- what is over them
+abbrev pub Longer : List ℕ → Type 0
+Longer v = (2048 < length v) ⊎ (200 < countOf v)
+
+-- "Boxes not yet changed refuse the longer value with 9" and store nothing, whatever is in their slots and however large these are: `store` is what such a box
+-- makes of what it holds, and it isn't reached
+abbrev pub RefusedBefore : Type 0
+RefusedBefore =
+    (t k v : List ℕ) (store : Plan) → isKey k ≡ true → Longer v
+    → let plan = judged (recipeWithin before) k v store in (answerOf plan ≡ Refused BrokenRecipe) × (afterOf t k v plan ≡ t)
+
 pub record Claims : Type 0 where
   pub form : FormIsKept
   pub highest : HighestIsFound
@@ -71,3 +94,5 @@ pub record Claims : Type 0 where
   pub found : HeldIsFound
   pub judged : JudgedFirst
   pub told : PutTold
+  pub whole : TakenWhole
+  pub refused-before : RefusedBefore
