@@ -15,7 +15,7 @@ fn say(what: &[u8], taken: bool) {
 
 // Setpoints from a place on, three bytes each: turns 128, 129 .., trim -1.
 fn put_points(buf: &mut [u8], at: usize, count: usize)
-    requires { ⌜ (count ≤ 201) × (at ≤ 2049) ⌝ }
+    requires { ⌜ (count ≤ 401) × (at ≤ 3073) ⌝ }
 {
     let mut i: usize = 0;
     while i < count {
@@ -27,20 +27,18 @@ fn put_points(buf: &mut [u8], at: usize, count: usize)
 
 // A trailer of format 1 and sequence 0.
 fn put_trailer(buf: &mut [u8], at: usize, distance: usize, count: usize)
-    requires { ⌜ (distance < 65536) × (count < 256) ⌝ }
+    requires { ⌜ (distance < 65536) × (count < 65536) ⌝ }
 {
-    let low = (distance % 256) as u8;
-    let high = (distance / 256) as u8;
     octets::copy(
         buf,
         at,
         &[
-            low,
-            high,
+            (distance % 256) as u8,
+            (distance / 256) as u8,
             0,
             0,
-            count as u8,
-            0,
+            (count % 256) as u8,
+            (count / 256) as u8,
             1,
             0,
             0,
@@ -57,9 +55,9 @@ fn put_trailer(buf: &mut [u8], at: usize, distance: usize, count: usize)
 
 // A value of n bytes with so many setpoints, and a note of zeros before them.
 fn with_points(count: usize, n: usize) -> bool
-    requires { ⌜ (count ≤ 201) × (count * 3 + 16 ≤ n) × (n ≤ 2049) ⌝ }
+    requires { ⌜ (count ≤ 401) × (count * 3 + 16 ≤ n) × (n ≤ 3073) ⌝ }
 {
-    let mut v = [0u8; 2049];
+    let mut v = [0u8; 3073];
     let end = n - 16;
     put_points(&mut v, end - count * 3, count);
     put_trailer(&mut v, end, count * 3 + 16, count);
@@ -78,7 +76,7 @@ fn with_two(a: u8, b: u8, c: u8, d: u8) -> bool {
 
 // A value of so many setpoints, given as their bytes, with no note.
 fn with_list(points: &[u8], count: usize) -> bool
-    requires { ⌜ (length (now points) ≤ 64) × (count < 256) ⌝ }
+    requires { ⌜ (length (now points) ≤ 64) × (count < 65536) ⌝ }
 {
     let mut v = [0u8; 80];
     let n = points.len();
@@ -183,9 +181,15 @@ fn sizes() {
     say(b"count 0, distance 16, 16 bytes", with_points(0, 16));
     say(b"15 bytes", recipe::check(&[0u8; 15]));
     say(b"no bytes", recipe::check(&[0u8; 0]));
-    say(b"200 setpoints", with_points(200, 616));
+    say(b"400 setpoints", with_points(400, 1216));
+    say(b"401 setpoints", with_points(401, 1219));
+    say(b"3,072 bytes", with_points(400, 3072));
+    say(b"3,073 bytes", with_points(400, 3073));
+}
+
+// A box of before request iii, which took 200 setpoints and 2,048 bytes, refuses these.
+fn longer() {
     say(b"201 setpoints", with_points(201, 619));
-    say(b"2,048 bytes", with_points(200, 2048));
     say(b"2,049 bytes", with_points(200, 2049));
 }
 
@@ -194,4 +198,5 @@ fn main() {
     leaps();
     trailers();
     sizes();
+    longer();
 }
