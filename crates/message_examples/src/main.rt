@@ -569,15 +569,6 @@ fn over_record_limits(out: &mut [u8]) {
         b"",
     );
     write_values(
-        b"write a value of 2,048",
-        out,
-        1,
-        b"",
-        true,
-        b"",
-        &[b'x'; 2048],
-    );
-    write_values(
         b"write a value of 2,049",
         out,
         1,
@@ -585,6 +576,24 @@ fn over_record_limits(out: &mut [u8]) {
         true,
         b"",
         &[b'x'; 2049],
+    );
+    write_values(
+        b"write a value of 3,072",
+        out,
+        1,
+        b"",
+        true,
+        b"",
+        &[b'x'; 3072],
+    );
+    write_values(
+        b"write a value of 3,073",
+        out,
+        1,
+        b"",
+        true,
+        b"",
+        &[b'x'; 3073],
     );
 }
 
@@ -661,7 +670,7 @@ fn largest(out: &mut [u8]) {
         b"",
         true,
         &[b'k'; 128],
-        &[b'v'; 2048],
+        &[b'v'; 3072],
         &list,
         b"",
     );
