@@ -250,7 +250,7 @@ static string body_of(const string &name) {
         m.set_type(dht::Message::PUT_VALUE);
         m.set_key("/wind/" + some_bytes(34));
         m.mutable_record()->set_key(m.key());
-        m.mutable_record()->set_value(some_bytes(2048));
+        m.mutable_record()->set_value(some_bytes(3072));
         return m.SerializeAsString();
     }
     bool full = name == "reply-full";

@@ -2,8 +2,13 @@
 // nanoseconds of one and what came out. `plain` has the same steps in ordinary Rust: slices, bounds tested, nothing done for speed.
 use std::time::{Duration, Instant};
 
-const SLOT: usize = 2184;
 const MOST: usize = 256;
+const MOST_KEY: usize = 128;
+const MOST_VALUE: usize = 3072;
+const MOST_SETPOINTS: usize = 400;
+// where a slot's value is, and how long a slot
+const VALUE: usize = 8 + MOST_KEY;
+const SLOT: usize = VALUE + MOST_VALUE;
 
 // ---- ours
 
@@ -40,7 +45,7 @@ fn size_of(s: &[u8]) -> usize {
 }
 
 fn is_key(key: &[u8]) -> bool {
-    (7..=128).contains(&key.len()) && key.starts_with(b"/wind/")
+    (7..=MOST_KEY).contains(&key.len()) && key.starts_with(b"/wind/")
 }
 
 // the used slots in the order of their keys, each found by halving
@@ -50,7 +55,7 @@ fn plain_form(store: &[u8]) -> bool {
         if s[0] == 0 {
             continue;
         }
-        if !is_key(key_of(s)) || !(16..=2048).contains(&size_of(s)) {
+        if !is_key(key_of(s)) || !(16..=MOST_VALUE).contains(&size_of(s)) {
             return false;
         }
         let key = |j: u8| key_of(&store[j as usize * SLOT..j as usize * SLOT + SLOT]);
@@ -70,7 +75,7 @@ fn plain_find(store: &[u8], key: &[u8]) -> usize {
     if !plain_form(store) {
         return 0;
     }
-    slot_with(store, key).map_or(0, |i| i * SLOT + 136)
+    slot_with(store, key).map_or(0, |i| i * SLOT + VALUE)
 }
 
 fn varint(s: &[u8]) -> Option<(u32, &[u8])> {
@@ -102,13 +107,13 @@ fn is_list(mut s: &[u8], count: usize) -> bool {
 
 fn is_recipe(value: &[u8]) -> bool {
     let n = value.len();
-    if !(16..=2048).contains(&n) {
+    if !(16..=MOST_VALUE).contains(&n) {
         return false;
     }
     let distance = u32::from_le_bytes(value[n - 16..n - 12].try_into().unwrap()) as usize;
     let count = u16::from_le_bytes(value[n - 12..n - 10].try_into().unwrap()) as usize;
     let format = u16::from_le_bytes(value[n - 10..n - 8].try_into().unwrap());
-    (16..=n).contains(&distance) && count <= 200 && format == 1 && is_list(&value[n - distance..n - 16], count)
+    (16..=n).contains(&distance) && count <= MOST_SETPOINTS && format == 1 && is_list(&value[n - distance..n - 16], count)
 }
 
 fn sequence(value: &[u8]) -> u64 {
@@ -128,7 +133,7 @@ fn plain_put(store: &mut [u8], key: &[u8], value: &[u8]) -> u8 {
     let i = match slot_with(store, key) {
         Some(i) => {
             let s = &store[i * SLOT..i * SLOT + SLOT];
-            let held = &s[136..136 + size_of(s)];
+            let held = &s[VALUE..VALUE + size_of(s)];
             if held == value {
                 return 255;
             }
@@ -148,11 +153,14 @@ fn plain_put(store: &mut [u8], key: &[u8], value: &[u8]) -> u8 {
     s[2] = value.len() as u8;
     s[3] = (value.len() >> 8) as u8;
     s[8..8 + key.len()].copy_from_slice(key);
-    s[136..136 + value.len()].copy_from_slice(value);
+    s[VALUE..VALUE + value.len()].copy_from_slice(value);
     255
 }
 
 // ---- stores
+
+// The case of random keys and of values that are as large as a box of before request iii takes them.
+const SHORTER: &str = "random-2048";
 
 struct Random(u64);
 
@@ -168,9 +176,9 @@ impl Random {
 // A key of 128 bytes: after /wind/ any bytes, or the same ones but for two of them at a place, rising or falling with the number.
 fn key(random: &mut Random, case: &str, number: usize) -> Vec<u8> {
     let mut key = b"/wind/".to_vec();
-    key.resize(128, 7);
+    key.resize(MOST_KEY, 7);
     let two = match case {
-        "random" => {
+        "random" | SHORTER => {
             for b in &mut key[6..] {
                 *b = random.next() as u8;
             }
@@ -190,19 +198,21 @@ fn key(random: &mut Random, case: &str, number: usize) -> Vec<u8> {
     key
 }
 
-// The largest recipe: 200 setpoints, and a note before them.
-fn recipe(sequence: u64) -> Vec<u8> {
+// The largest recipe of a case: setpoints of six bytes, of which the last comes close to turn 1,000,000, and a note before them.
+fn recipe(case: &str, sequence: u64) -> Vec<u8> {
+    let (length, count) = if case == SHORTER { (2048, 200) } else { (MOST_VALUE, MOST_SETPOINTS) };
     let mut points = Vec::new();
-    for i in 0..200u32 {
-        let turn = 20_000 + i * 4_000;
+    for i in 0..count {
+        let turn = 20_000 + i * 2_400;
         points.extend([turn as u8 | 128, (turn >> 7) as u8 | 128, (turn >> 14) as u8]);
         points.extend([0xBF, 0xB8, 0x02]);
     }
     let distance = points.len() + 16;
-    let mut value = vec![9; 2048 - distance];
+    let mut value = vec![9; length - distance];
     value.append(&mut points);
     value.extend((distance as u32).to_le_bytes());
-    value.extend([200, 0, 1, 0]);
+    value.extend((count as u16).to_le_bytes());
+    value.extend([1, 0]);
     value.extend(sequence.to_le_bytes());
     value
 }
@@ -212,7 +222,7 @@ fn store_of(case: &str) -> (Vec<u8>, Vec<Vec<u8>>) {
     let mut store = vec![0; SLOT * MOST];
     let keys: Vec<_> = (0..MOST).map(|n| key(&mut random, case, n)).collect();
     for k in &keys {
-        assert_eq!(ours_put(&mut store, k, &recipe(1)), 255);
+        assert_eq!(ours_put(&mut store, k, &recipe(case, 1)), 255);
     }
     (store, keys)
 }
@@ -224,7 +234,7 @@ fn main() {
     let (mut store, keys) = store_of(case);
     // the key of the last slot; each put of it has a higher sequence than the one before, so that it is written
     let key = &keys[MOST - 1];
-    let mut value = recipe(2);
+    let mut value = recipe(case, 2);
     let mut sum: u64 = 0;
     let mut count: u64 = 0;
     let mut best = f64::MAX;
