@@ -59,7 +59,7 @@ use Rattle.demands.specs.Demands.{since, Finds}
 use Rattle.demands.specs.Agree as agree
 use Rattle.demands.specs.Agree.{Never11, Sends, Brings, TakesAll, Bench, end, offers, OffersReach, BenchesAgree}
 use Rattle.demands.proofs.Connections.{whole-open}
-use Rattle.answer_promises.proofs.Shown.{decoded}
+use Rattle.demands.proofs.Deal.{decoded}
 use Rattle.demands.proofs.Kept.{after-more, dealing-keeps}
 use Rattle.demands.proofs.Sound.{sound}
 use Rattle.demands.proofs.Ready.{calls-ready}

@@ -17,7 +17,7 @@ use Rattle.records.specs.declared.Plan.the-variants.{Write, Keep, Refuse}
 use Rattle.records.specs.Store.{inForm, planOf, answerOf, afterOf, offerAnswer, offerAfter}
 use Rattle.records_history.specs.History.{Offer, offered, after}
 use Rattle.records_history.proofs.Stays.{put-is}
-use Rattle.message.specs.Message.{Record, Message, messageOf, encode, frame}
+use Rattle.message.specs.Message.{Record, Message, messageOf, wellMessage, decode, encode, frame}
 use Rattle.message.specs.View.{readingOf}
 use Rattle.message.specs.declared.Reading.{Reading}
 use Rattle.message.specs.declared.Reading.the-variants as reading
@@ -27,6 +27,15 @@ use Rattle.replies.specs.Lent.{Lent, withRecords}
 use Rattle.replies.specs.Verdicts.{Verdict, replies, refuses, echoed, putVerdict, putAfter, Dealt, byVerdict}
 use Rattle.answer.specs.Answers.{verdictOf, recordsAfter, byReading, dealOf}
 use Rattle.demands.specs.Box.{offerBy}
+
+-- what a body decodes to
+pub decoded : (body : List ℕ) (m : Message) → decode body ≡ some m → messageOf body ≡ m
+unfolding decode
+decoded body m e = go (wellMessage body) e
+  where
+    go : (b : Bool) → cond b (some (messageOf body)) none ≡ some m → messageOf body ≡ m
+    go true q = cc
+    go false q = absurd (let z : _≡_ {A = ℕ} 0 1 = cc in omega arith)
 
 -- what a request comes to
 pub deal-is : (me who : Peer) (body : List ℕ) (l : Lent) → dealOf me who body l ≡ byReading (readingOf body) me who (messageOf body) l

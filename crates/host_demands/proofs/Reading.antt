@@ -43,7 +43,7 @@ use Rattle.host_answers.specs.Answers.{readNumber, readNumbers, entryFrom, late
 use Rattle.demands.specs.Demands.{Writes}
 use Rattle.demands.proofs.Leaving.{refused-leaves}
 use Rattle.demands.proofs.Hearing as demands
-use Rattle.answer_promises.proofs.Shown.{decoded}
+use Rattle.demands.proofs.Deal.{decoded}
 use Rattle.host_demands.specs.Messages.{IsPart, RecordShown, Shows, ReadAs, ReadTold, AddressGiven, Addresses, PeerGiven, Peers, PeersTold, WrittenAs, WriteTold, MessagesCross}
 
 -- ---- the eight numbers of a view

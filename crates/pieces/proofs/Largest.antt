@@ -12,9 +12,9 @@ use Rattle.wire.specs.Items.{num, bytes, digits, minimal, tagged, written1, wri
 use Rattle.wire_put.proofs.Putting.{bytes-length}
 use Rattle.message.specs.Message.{Peer, Record, Message, peerItems, encodePeer, recordItems, encodeRecord, heldItems, encode}
 use Rattle.pieces.specs.Writable.{addressFits, peerFits, recordFits, heldFits}
-use Rattle.pieces.specs.Claims.{GetValueBody, Claims}
-use Rattle.pieces.proofs.Sizes.{entry-most, record-entry-most, message-length, reply-most}
-use Rattle.pieces.specs.Sizes.{mostPeer, mostPeerField, mostRecord, mostRecordField, mostReply}
+use Rattle.pieces.specs.Claims.{GetValueBody, EchoBody, Claims}
+use Rattle.pieces.proofs.Sizes.{entry-most, record-entry-most, message-length, reply-most, echo-most}
+use Rattle.pieces.specs.Sizes.{mostPeer, mostPeerField, mostRecord, mostRecordField, mostEcho, mostReply}
 
 zeros : ℕ → List ℕ
 zeros n = replicate n 0
@@ -84,10 +84,27 @@ reply-fits : GetValueBody full-reply
 unfolding full-reply heldFits
 reply-fits = record { kind = omega arith; key = refl; held = record-fits; closer = peers-fit 20; twenty = omega arith; providers = refl }
 
+-- ---- an echo of such a record
+full-echo : Message
+full-echo = record { kind = 0; key = zeros 128; held = some full-record; closer = []; providers = [] }
+
+echo-key-size : length (written1 (num 1 0)) + length (written (single 2 (zeros 128))) ≡ 133
+unfolding zeros written written1 tagged minimal digits single
+echo-key-size = refl
+
+echo-size : length (encode full-echo) ≡ mostEcho
+unfolding full-echo repeated written
+echo-size = omega (arith, message-length full-echo, echo-key-size, held-size)
+
+echo-fits : EchoBody full-echo
+unfolding full-echo zeros heldFits
+echo-fits = record { kind = omega arith; key = omega arith; held = record-fits; closer = refl; providers = refl }
+
 pub claims : Claims
 claims =
     record {
       peer = λ f h. record { most = λ p e. entry-most f p h e; one = (full-peer, peer-fits, peer-entry f h) };
       held = record { most = record-entry-most; one = (full-record, record-fits, record-entry) };
       reply = record { most = λ m b. reply-most m (b .kind) (b .key) (b .held) (b .closer) (b .twenty) (b .providers); one = (full-reply, reply-fits, reply-size) };
+      echo = record { most = λ m b. echo-most m (b .kind) (b .key) (b .held) (b .closer) (b .providers); one = (full-echo, echo-fits, echo-size) };
     }

@@ -17,7 +17,7 @@ use Rattle.wire_put.proofs.Digits.{minimal-one, minimal-two}
 use Rattle.wire_put.proofs.Putting.{number-length, bytes-length, single-empty, single-full, written-append, written-one}
 use Rattle.message.specs.Message.{Peer, Record, Message, peerItems, encodePeer, recordItems, encodeRecord, heldItems, messageItems, encode}
 use Rattle.pieces.specs.Writable.{addressFits, peerFits, recordFits, heldFits}
-use Rattle.pieces.specs.Sizes.{longField, mostPeer, mostPeerField, mostRecord, mostRecordField, mostReply}
+use Rattle.pieces.specs.Sizes.{longField, mostPeer, mostPeerField, mostRecord, mostRecordField, mostEcho, mostReply}
 
 -- ---- a field
 bytes-small : (f : ℕ) (b : List ℕ) (most : ℕ) → f < 16 → length b ≤ most → most < 128 → length (written1 (bytes f b)) ≤ 2 + most
@@ -134,3 +134,13 @@ reply-most m k ek h c l ep =
     let b : length (written (single 2 (m .key))) ≡ 0 = rw ek in
     let e : length (written (repeated 9 (map encodePeer (m .providers)))) ≡ 0 = rw ep in
     omega (arith, message-length m, held-most (m .held) h, entries-most 8 (m .closer) (omega arith) c)
+
+-- "the largest PUT_VALUE echo 2 + 131 + 3,209 = 3,342": type, key and record
+pub echo-most : (m : Message) → m .kind ≤ mostKind → length (m .key) ≤ mostKey → heldFits (m .held) ≡ true → m .closer ≡ [] → m .providers ≡ [] → length (encode m) ≤ mostEcho
+unfolding repeated written
+echo-most m k l h ec ep =
+    let a : length (written1 (num 1 (m .kind))) ≡ 2 = omega (arith, number-length 1 (m .kind) (omega arith), minimal-one (m .kind) (omega arith)) in
+    let b = single-most 2 (m .key) (longField mostKey) (bytes-medium 2 (m .key) mostKey (omega arith) l (omega arith)) in
+    let d : length (written (repeated 8 (map encodePeer (m .closer)))) ≡ 0 = rw ec in
+    let e : length (written (repeated 9 (map encodePeer (m .providers)))) ≡ 0 = rw ep in
+    omega (arith, message-length m, held-most (m .held) h)

@@ -5,7 +5,7 @@ use mathlib.Core.List.{[]}
 use mathlib.Core.Bool.{true}
 use lib.ListN.{length}
 use Rattle.octets.specs.Search.{every}
-use Rattle.limits.specs.Limits.{mostKind}
+use Rattle.limits.specs.Limits.{mostKey, mostKind}
 use Rattle.wire.specs.Items.{bytes, written1}
 use Rattle.message.specs.Message.{Peer, Record, Message, encodePeer, encodeRecord, encode}
 use Rattle.pieces.specs.Writable.{peerFits, recordFits, heldFits}
@@ -24,6 +24,14 @@ pub record GetValueBody (m : Message) : Type 0 where
   pub twenty : length (m .closer) ≤ 20
   pub providers : m .providers ≡ []
 
+-- that of PUT_VALUE's echo: a type, a key and a record
+pub record EchoBody (m : Message) : Type 0 where
+  pub kind : m .kind ≤ mostKind
+  pub key : length (m .key) ≤ mostKey
+  pub held : heldFits (m .held) ≡ true
+  pub closer : m .closer ≡ []
+  pub providers : m .providers ≡ []
+
 pub record Claims : Type 0 where
   -- "A peer is then at most 595 bytes with tag and length": as a field f, whose tag is one byte
   pub peer : (f : ℕ) → f < 16 → Largest (λ (p : Peer). peerFits p ≡ true) (λ p. length (written1 (bytes f (encodePeer p)))) 595
@@ -31,3 +39,5 @@ pub record Claims : Type 0 where
   pub held : Largest (λ (r : Record). recordFits r ≡ true) (λ r. length (written1 (bytes 3 (encodeRecord r)))) 3209
   -- "the largest GET_VALUE reply body is 2 + 3,209 + 20 x 595 = 15,111"
   pub reply : Largest GetValueBody (λ m. length (encode m)) 15111
+  -- "the largest PUT_VALUE echo 2 + 131 + 3,209 = 3,342"
+  pub echo : Largest EchoBody (λ m. length (encode m)) 3342

@@ -23,6 +23,10 @@ mostRecord = longField mostKey + longField mostValue
 abbrev pub mostRecordField : ℕ
 mostRecordField = longField mostRecord
 
+-- "the largest PUT_VALUE echo 2 + 131 + 3,209 = 3,342": its type, its key and the record
+abbrev pub mostEcho : ℕ
+mostEcho = 2 + longField mostKey + mostRecordField
+
 -- what a query gives, as fields
 abbrev pub mostPeerFields : ℕ
 mostPeerFields = mostNear * mostPeerField
