@@ -2,24 +2,27 @@
 use mathlib.Core.Path.{_≡_, refl, sym, ap, _∙_, subst}
 use mathlib.Core.Logic.{⊎-elim}
 use mathlib.Core.Bool.{Bool, true, false, cond, not, _&&_}
-use mathlib.Core.List.{List}
-use Prim.Native.Nat.{ℕ, _+_, _*_, _<_}
-use lib.Dec.{ltb}
+use mathlib.Core.List.{List, []}
+use Prim.Native.Nat.{ℕ, _+_, _*_, _<_, _≤_}
+use lib.Dec.{ltb, leb}
 use native.Mathlib.Omega.{arith}
 use lib.ListN.{length}
-use borrow.Author.Tests.{ltb-true, ltb-false, lt-ltb, le-ltb}
+use borrow.Author.Tests.{leb-true, ltb-true, ltb-false, lt-ltb, le-ltb}
 use Rattle.octets.specs.Octets.{part, same}
-use Rattle.octets.proofs.Bools.{all-head, cond-ap, cond-no, cond-yes, either, not-both}
+use Rattle.octets.proofs.Bools.{all-head, all-rest, cond-ap, cond-no, cond-yes, either, not-both}
 use Rattle.octets.proofs.Searching.{all-at, first-hit, first-miss, first-lt}
 use Rattle.octets.proofs.Strings.{same-eq, same-refl}
 use Rattle.refusal.specs.declared.Refusal.the-variants.{OutOfForm, BreaksRules, BrokenRecipe, Outranked, NoRecordSlot}
+use Rattle.limits.specs.Limits.{mostValue}
+use Rattle.recipe.specs.Limits.{trailerSize}
 use Rattle.recipe.specs.Recipe.{isRecipe, outranks}
 use Rattle.recipe.proofs.Rank.{outranks-self}
 use Rattle.records.specs.Limits.{valueAt, slotSize}
-use Rattle.records.specs.Store.{slotsOf, slot, used, isFree, freeSlot, keyOf, valueOf, isKey, isRecord, holds, apart, inForm, slotWith, heldAt, found, findOf, heldPlan, planOf, answerOf, offerAnswer, putAnswer, putAfter}
+use Rattle.records.specs.Store.{slotsOf, slot, used, isFree, freeSlot, keyOf, sizeOf, valueOf, isKey, isRecord, holds, apart, inForm, slotWith, heldAt, found, findOf, heldPlan, planOf, answerOf, offerAnswer, putAnswer, putAfter}
 use Rattle.records.specs.declared.Found.the-variants.{Held, NotHeld}
 use Rattle.records.specs.declared.Plan.the-variants.{Write, Keep, Refuse}
 use Rattle.records.specs.declared.Answer.the-variants.{Taken, Refused}
+use Rattle.record_slots.proofs.Laying.{slot-long, value-size}
 use Rattle.record_slots.proofs.Finding.{with-holds, holds-out, form-record, form-apart}
 use Rattle.records_history.specs.History.{Has, None, got, taken}
 use Rattle.records_history.specs.Claims.{HeldIsFound, JudgedFirst, PutTold}
@@ -74,8 +77,18 @@ none-found : (t k : List ℕ) → inForm t ≡ true → got t k ≡ None → fin
 unfolding findOf
 none-found t k form g = rw form (not-found t k g)
 
+-- in form a slot says how many bytes of a value it has, and has them
+all-there : (t : List ℕ) (i : ℕ) → inForm t ≡ true → i < slotsOf t → used (slot t i) ≡ true
+    → (length (valueOf (slot t i)) ≡ sizeOf (slot t i)) × (trailerSize ≤ sizeOf (slot t i)) × (sizeOf (slot t i) ≤ mostValue)
+unfolding isRecord
+all-there t i form l u =
+    let sizes = all-rest (isKey (keyOf (slot t i))) _ (form-record t i form l u) in
+    let least = leb-true trailerSize (sizeOf (slot t i)) (all-head (leb trailerSize (sizeOf (slot t i))) _ sizes) in
+    let most = leb-true (sizeOf (slot t i)) mostValue (all-head (leb (sizeOf (slot t i)) mostValue) [] (all-rest (leb trailerSize (sizeOf (slot t i))) _ sizes)) in
+    (omega (arith, most, value-size (slot t i) (slot-long t i l)), least, most)
+
 pub held-is-found : HeldIsFound
-held-is-found = record { held = slot-holds; found = value-found; missing = none-found }
+held-is-found = record { held = slot-holds; found = value-found; missing = none-found; whole = all-there }
 
 -- ---- what is offered
 broken-first : (t k v : List ℕ) → inForm t ≡ true → isKey k ≡ true → isRecipe v ≡ false → putAnswer t k v ≡ Refused BrokenRecipe

@@ -1,6 +1,6 @@
 -- What becomes of a store over any puts, and what it does with the value that it holds under a key. proofs/Stays.antt, Holding.antt and Blind.antt show each,
 -- proofs/Claims.antt all of them.
-use Prim.Native.Nat.{ℕ, _+_, _*_, _<_}
+use Prim.Native.Nat.{ℕ, _+_, _*_, _<_, _≤_}
 use mathlib.Core.Path.{_≡_}
 use mathlib.Core.Logic.{_⊎_}
 use mathlib.Core.Bool.{true, false, cond}
@@ -10,7 +10,7 @@ use Rattle.octets.specs.Octets.{part}
 use Rattle.refusal.specs.declared.Refusal.the-variants.{OutOfForm, BreaksRules, BrokenRecipe, Outranked, NoRecordSlot}
 use Rattle.recipe.specs.Recipe.{countOf, Bounds, recipeWithin, isRecipe, outranks}
 use Rattle.records.specs.Limits.{valueAt, slotSize}
-use Rattle.records.specs.Store.{slotsOf, slot, used, valueOf, isKey, holds, inForm, findOf, judged, answerOf, afterOf, putAnswer, putAfter}
+use Rattle.records.specs.Store.{slotsOf, slot, used, sizeOf, valueOf, isKey, holds, inForm, findOf, judged, answerOf, afterOf, putAnswer, putAfter}
 use Rattle.records.specs.declared.Found.the-variants.{Held, NotHeld}
 use Rattle.records.specs.declared.Plan.{Plan}
 use Rattle.records.specs.declared.Answer.the-variants.{Taken, Refused}
@@ -49,6 +49,9 @@ pub record HeldIsFound : Type 0 where
   pub held : (t k : List ℕ) (i : ℕ) → inForm t ≡ true → i < slotsOf t → holds t k i ≡ true → got t k ≡ Has (valueOf (slot t i))
   pub found : (t k u : List ℕ) → inForm t ≡ true → got t k ≡ Has u → (a : ℕ) × (e : ℕ) × (findOf t k ≡ Held a e) × (part t a e ≡ u)
   pub missing : (t k : List ℕ) → inForm t ≡ true → got t k ≡ None → findOf t k ≡ NotHeld
+  -- and it is whole: it has as many bytes as its slot says, which form bounds ("a value of 16 to 3,072")
+  pub whole : (t : List ℕ) (i : ℕ) → inForm t ≡ true → i < slotsOf t → used (slot t i) ≡ true
+      → (length (valueOf (slot t i)) ≡ sizeOf (slot t i)) × (16 ≤ sizeOf (slot t i)) × (sizeOf (slot t i) ≤ 3072)
 
 -- what is offered is judged first: 9, whatever is held. Only then it is compared: 10, if what is held ranks higher; else it is the one that is held
 pub record JudgedFirst : Type 0 where
