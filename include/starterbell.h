@@ -54,9 +54,9 @@ extern "C" {
 /* ---- Version */
 
 #define STARTERBELL_VERSION_MAJOR 0
-#define STARTERBELL_VERSION_MINOR 1
+#define STARTERBELL_VERSION_MINOR 2
 #define STARTERBELL_VERSION_PATCH 0
-#define STARTERBELL_VERSION "0.1.0"
+#define STARTERBELL_VERSION "0.2.0"
 
 /* ---- Sizes */
 
@@ -68,7 +68,7 @@ extern "C" {
 /* Bytes of a contact's slot and of a record's, and the most slots that are looked at. A part of a slot at the end isn't touched. */
 #define STARTERBELL_CONTACT_SLOT 616
 #define STARTERBELL_CONTACT_SLOTS_MOST 5120
-#define STARTERBELL_RECORD_SLOT 2184
+#define STARTERBELL_RECORD_SLOT 3208
 #define STARTERBELL_RECORD_SLOTS_MOST 256
 
 /* The least bytes of a receive buffer and of a reply buffer; in fewer a call gives 1. */
@@ -82,7 +82,7 @@ extern "C" {
 #define STARTERBELL_ID_MOST 64
 #define STARTERBELL_ADDRESS_MOST 128
 #define STARTERBELL_KEY_MOST 128
-#define STARTERBELL_VALUE_MOST 2048
+#define STARTERBELL_VALUE_MOST 3072
 #define STARTERBELL_PLACE 32
 
 /* The most addresses that are kept of a peer, contacts in a bucket, contacts or peers that are nearest, and requests of a lookup at a time. */
@@ -150,7 +150,7 @@ extern "C" {
 #define STARTERBELL_RECIPE_FORMAT_AT 6
 #define STARTERBELL_RECIPE_SEQUENCE_AT 8
 #define STARTERBELL_RECIPE_FORMAT 1
-#define STARTERBELL_SETPOINTS_MOST 200
+#define STARTERBELL_SETPOINTS_MOST 400
 #define STARTERBELL_TURN_MOST 1000000
 #define STARTERBELL_TRIM_MOST 20000
 #define STARTERBELL_LEAP_MOST 5000

@@ -17,7 +17,7 @@ struct starterbell_setpoint {
 enum starterbell_recipe_rule {
     /* none: the recipe is written */
     STARTERBELL_RECIPE_WRITTEN = 0,
-    /* more than 200 setpoints */
+    /* more than 400 setpoints */
     STARTERBELL_RECIPE_TOO_MANY = 1,
     /* turn over 1,000,000 */
     STARTERBELL_RECIPE_TURN_TOO_HIGH = 2,
@@ -27,7 +27,7 @@ enum starterbell_recipe_rule {
     STARTERBELL_RECIPE_TRIM_OUT_OF_RANGE = 4,
     /* trim more than 5,000 from the one before */
     STARTERBELL_RECIPE_TRIM_LEAPS = 5,
-    /* value over 2,048 bytes */
+    /* value over 3,072 bytes */
     STARTERBELL_RECIPE_TOO_LONG = 6,
     /* the buffer has no room for the value; starterbell_put would take it */
     STARTERBELL_RECIPE_SMALL_BUFFER = 7
@@ -45,12 +45,12 @@ struct starterbell_recipe_written {
 static inline const char *starterbell_recipe_rule_text(uint32_t rule) {
     static const char *const texts[] = {
         "none: the recipe is written",
-        "more than 200 setpoints",
+        "more than 400 setpoints",
         "turn over 1,000,000",
         "turn not higher than the one before",
         "trim not from -20,000 to 20,000",
         "trim more than 5,000 from the one before",
-        "value over 2,048 bytes",
+        "value over 3,072 bytes",
         "the buffer has no room for the value; starterbell_put would take it",
     };
     return rule < sizeof texts / sizeof *texts ? texts[rule] : "no rule";
@@ -123,6 +123,7 @@ static inline struct starterbell_recipe_written starterbell_write_recipe(uint8_t
     if (written.rule != STARTERBELL_RECIPE_WRITTEN) return written;
     written.length = 0;
     written.rule = STARTERBELL_RECIPE_TOO_LONG;
+    /* setpoints that keep the rules have at most six bytes each, so there is always room for them and the trailer */
     if (note_length > STARTERBELL_VALUE_MOST - back) return written;
     written.length = note_length + back;
     written.rule = STARTERBELL_RECIPE_SMALL_BUFFER;

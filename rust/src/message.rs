@@ -283,7 +283,7 @@ pub struct Draft<'a> {
     pub kind: Kind,
     /// Its key, at most 128 bytes; an empty one isn't written.
     pub key: &'a [u8],
-    /// Its record, if it has one: a key of at most 128 bytes and a value of at most 2,048.
+    /// Its record, if it has one: a key of at most 128 bytes and a value of at most 3,072.
     pub record: Option<Record<'a>>,
     /// The peers that it names as closer.
     pub closer_peers: &'a [Named<'a>],

@@ -12,7 +12,7 @@ use alloc::vec;
 use alloc::vec::Vec;
 use core::fmt;
 
-/// How much a box can keep: slots of 616 bytes for contacts, and of 2,184 for records.
+/// How much a box can keep: slots of 616 bytes for contacts, and of 3,208 for records.
 #[derive(Clone, Copy, Debug, PartialEq, Eq)]
 pub struct Room {
     /// Contacts, at most 5,120; more aren't used, and take no memory.
@@ -22,12 +22,12 @@ pub struct Room {
 }
 
 impl Room {
-    /// As much as a box can use: 3.7 megabytes.
+    /// As much as a box can use: 4.0 megabytes.
     pub const MOST: Room = Room { contacts: raw::MOST_CONTACTS, records: raw::MOST_RECORDS };
 }
 
 impl Default for Room {
-    /// 256 contacts and 64 records: 300 kilobytes.
+    /// 256 contacts and 64 records: 360 kilobytes.
     fn default() -> Room {
         Room { contacts: 256, records: 64 }
     }
@@ -258,7 +258,7 @@ impl Node {
         // a slot is laid out as crates/records says (specs/Store)
         self.records.chunks_exact(raw::RECORD).filter(|slot| slot[0] != 0).map(|slot| {
             let length = usize::from(u16::from_le_bytes([slot[2], slot[3]]));
-            Record { key: &slot[8..8 + usize::from(slot[0])], value: &slot[136..136 + length] }
+            Record { key: &slot[raw::KEY_AT..][..usize::from(slot[0])], value: &slot[raw::VALUE_AT..][..length] }
         })
     }
 

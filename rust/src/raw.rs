@@ -13,8 +13,16 @@ pub const LOOKUP: usize = 25_256;
 pub const CONTACT: usize = 616;
 /// How many slots of contacts are used.
 pub const MOST_CONTACTS: usize = 5_120;
+/// The most bytes of a record's key.
+pub const MOST_KEY: usize = 128;
+/// The most bytes of a record's value.
+pub const MOST_VALUE: usize = 3_072;
+/// Where the key stands in a record's slot. Its length is byte 0, which is 0 where the slot is free.
+pub const KEY_AT: usize = 8;
+/// Where the value stands in a record's slot. Its length is in bytes 2 and 3, the lower first.
+pub const VALUE_AT: usize = KEY_AT + MOST_KEY;
 /// The bytes of a record's slot.
-pub const RECORD: usize = 2_184;
+pub const RECORD: usize = VALUE_AT + MOST_VALUE;
 /// How many slots of records are used.
 pub const MOST_RECORDS: usize = 256;
 /// The receive buffer of a connection.

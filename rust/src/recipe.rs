@@ -38,9 +38,9 @@ use core::fmt;
 const TRAILER: usize = 16;
 
 /// The most bytes of a value.
-pub const VALUE_MAX: usize = 2_048;
+pub const VALUE_MAX: usize = raw::MOST_VALUE;
 /// The most setpoints of a recipe.
-pub const SETPOINTS_MAX: usize = 200;
+pub const SETPOINTS_MAX: usize = 400;
 /// The highest turn.
 pub const TURN_MAX: u32 = 1_000_000;
 /// The highest trim either way, in millinewtons.
@@ -110,9 +110,9 @@ macro_rules! rules {
 
 rules! {
     TooShort, "the value has fewer than the 16 bytes of a trailer";
-    TooLong, "the value has more than 2,048 bytes";
+    TooLong, "the value has more than 3,072 bytes";
     Distance, "the trailer's distance to the first setpoint isn't from 16 to the value's length";
-    TooManySetpoints, "there are more than 200 setpoints";
+    TooManySetpoints, "there are more than 400 setpoints";
     Format, "the format isn't 1";
     RoomTooSmall, "the room before the trailer ends inside it";
     RoomTooLarge, "there are bytes between the last setpoint and the trailer";

@@ -6,7 +6,7 @@ use crate::refusal::Refusal;
 use alloc::vec::Vec;
 
 /// What is saved. The digit is the layout's: it goes up whenever the bytes of a part come to mean something else.
-pub(crate) const BOX: &[u8; 16] = b"starterbell/box1";
+pub(crate) const BOX: &[u8; 16] = b"starterbell/box2";
 pub(crate) const LOOKUP: &[u8; 16] = b"starterbell/ask1";
 
 const NUMBER: usize = 8;

@@ -37,7 +37,7 @@ fn varint(number: usize) -> Vec<u8> {
 /// A note, setpoints at the turns 0, 1, 2 and so on, and a trailer.
 fn value(note: &[u8], trims: &[i32], sequence: u64) -> Vec<u8> {
     let zigzag = |trim: i32| varint((trim << 1 ^ trim >> 31) as usize);
-    let setpoints: Vec<u8> = trims.iter().zip(0u8..).flat_map(|(&trim, turn)| [vec![turn], zigzag(trim)].concat()).collect();
+    let setpoints: Vec<u8> = trims.iter().zip(0..).flat_map(|(&trim, turn)| [varint(turn), zigzag(trim)].concat()).collect();
     let back = (setpoints.len() + 16) as u32;
     [note, &setpoints, &back.to_le_bytes(), &(trims.len() as u16).to_le_bytes(), &[1, 0], &sequence.to_le_bytes()].concat()
 }
@@ -46,10 +46,11 @@ fn value(note: &[u8], trims: &[i32], sequence: u64) -> Vec<u8> {
 fn good(sequence: u64, rng: &mut Rng) -> Vec<u8> {
     let (first, last) = ([rng.pick(&[0, 127, 128, 255])], [rng.pick(&[0, 127, 128, 255])]);
     let trims = [0, 5_000, rng.pick(&[4_999, 5_000, 0]), rng.pick(&[0, 1, 2_500])];
-    match rng.below(4) {
+    match rng.below(5) {
         0 => value(&[&[255; 2][..rng.below(3)], &value(&[], &[], sequence).repeat(rng.below(3))].concat(), &[], sequence),
         1 => value(&[&first[..], b"silver", &last].concat(), &[0, 2_000], sequence),
-        2 => value(&[&first[..], &[7; 2_030], &last].concat(), &[], sequence), // 2,048 bytes: no value is larger
+        2 => value(&[&first[..], &[7; 3_054], &last].concat(), &[], sequence), // 3,072 bytes: no value is larger
+        3 => value(&first, &trims[..2].repeat(rng.pick(&[101, 200])), sequence), // 202 setpoints or 400: no recipe has more
         _ => value(b"silver", &trims[..rng.below(5)], sequence),
     }
 }
@@ -59,11 +60,12 @@ fn broken(rng: &mut Rng) -> Vec<u8> {
     let sequence = rng.pick(&[0, 256, u64::MAX, u64::MAX]);
     let whole = value(&[], &[0, -5_000], sequence);
     let format = whole.len() - 10;
-    match rng.below(8) {
+    match rng.below(9) {
         0 => value(b"silver", &[0, 5_001], sequence),
         1 => value(b"silver", &[0, 5_000, -1], sequence),
         2 => value(&[], &[20_001], sequence),
-        3 => value(&[7; 2_033], &[], sequence),
+        3 => value(&[7; 3_057], &[], sequence),
+        7 => value(&[], &[0; 401], sequence),
         4 => [&whole[..format], &[2], &whole[format + 1..]].concat(),
         5 => whole[1..].to_vec(),
         6 => whole[..whole.len() - 1].to_vec(),
@@ -151,7 +153,7 @@ fn send(node: &mut Node, requests: &[Vec<u8>], rng: &mut Rng) -> Vec<Result<(), 
         let bytes = requests[told.len()..].concat();
         let mut rest = &bytes[..];
         while !rest.is_empty() && !connection.is_shut() {
-            let most = 1 << rng.below(12);
+            let most = 1 << rng.below(13);
             let (piece, after) = rest.split_at(rest.len().min(1 + rng.below(most)));
             rest = after;
             let fed = node.feed(&mut connection, piece, |_, _| told.push(Ok(())));

@@ -251,7 +251,7 @@ fn a_record_in_two_fields_is_judged_by_the_last_of_each() {
     let puts: [(&[&[u8]], Refusal); 7] = [
         (&[&whole, &field(1, b"")], Refusal::BreaksRules),
         (&[&whole, &field(1, &[KEY, &[b'!'; 122]].concat())], Refusal::BreaksRules),
-        (&[&whole, &field(2, &[0; 2_049])], Refusal::BrokenRecipe),
+        (&[&whole, &field(2, &[0; 3_073])], Refusal::BrokenRecipe),
         (&[&whole, &field(1, b"/wind/e")], Refusal::BreaksRules),
         (&[&whole, &field(2, b"")], Refusal::BrokenRecipe),
         (&[&field(1, KEY), &[]], Refusal::BrokenRecipe),
@@ -296,6 +296,111 @@ fn a_leap_is_refused_typed_and_sent() {
         found = Message::read(&reply[2..]).expect("a length of two bytes").record().map(|record| record.value.to_vec());
     });
     assert_eq!((fed, found), (Ok(()), Some(value)));
+}
+
+// ---- recipes at their limits
+
+/// A key of 128 bytes.
+fn long_key() -> Vec<u8> {
+    [&b"/wind/"[..], &[b'k'; 122]].concat()
+}
+
+/// So many setpoints of six bytes, and a note whose bytes are unlike their neighbours: a value of so many bytes, whatever the rules say of it.
+fn cello(count: usize, bytes: usize) -> Vec<u8> {
+    let note = (0..bytes - 16 - 6 * count).map(|n| (n % 251) as u8);
+    let setpoints = (0..count).flat_map(|n| [(n & 0x7f) as u8 | 0x80, (n >> 7) as u8 | 0xc0, 0x3c, 0xc0, 0xb8, 2]);
+    let trailer = [&(16 + 6 * count as u32).to_le_bytes()[..], &(count as u16).to_le_bytes(), &[1, 0, 9, 0, 0, 0, 0, 0, 0, 0]].concat();
+    note.chain(setpoints).chain(trailer).collect()
+}
+
+/// A box with twenty contacts that have all that a contact can have.
+fn crowded() -> Node {
+    let mut node = Node::start(b"crowded", &[], Room { contacts: 20, records: 1 }).expect("a good id");
+    for n in 0..20 {
+        node.seen(Peer::server(&[n; 64], &[&[b'/'; 128][..]; 4])).expect("room");
+    }
+    node
+}
+
+/// What a box replies to a request that comes in pieces of a size.
+fn reply(node: &mut Node, request: &[u8], size: usize) -> Result<Vec<u8>, Refusal> {
+    let mut connection = node.accept(Peer::client(b"asker", &[])).expect("a good id");
+    let mut sent = Vec::new();
+    for piece in request.chunks(size) {
+        node.feed(&mut connection, piece, |_, received| match received.event {
+            Event::Reply(reply) => sent.extend_from_slice(reply),
+            other => panic!("{other:?} on the serving side"),
+        })?;
+    }
+    Ok(sent)
+}
+
+/// The value that one bench reads in another's reply, which comes in pieces of a size; and how long the reply's body is.
+fn read(reply: &[u8], size: usize) -> (Vec<u8>, usize) {
+    let mut asker = bench();
+    let mut connection = asker.connect(Peer::server(b"crowded", &[])).expect("a good id");
+    let mut heard = Vec::new();
+    for piece in reply.chunks(size) {
+        let fed = asker.feed(&mut connection, piece, |_, received| match received.event {
+            Event::Heard(message) => heard.push((message.record().expect("a record").value.to_vec(), message.body().len())),
+            other => panic!("{other:?} on the asking side"),
+        });
+        assert_eq!(fed, Ok(()));
+    }
+    assert_eq!(heard.len(), 1);
+    heard.remove(0)
+}
+
+/// Nobody reads a recipe short: typed or sent, however its bytes are cut, it is echoed, found, served and read by who asked for it as it was put.
+#[test]
+fn the_longest_recipes_are_read_whole() {
+    let key = long_key();
+    let ask = Draft::get_value(&key).to_vec().expect("short");
+    for (count, bytes) in [(0, 16), (200, 2_048), (0, 2_049), (201, 2_048), (201, 2_049), (400, 2_416), (0, 3_072), (400, 3_072)] {
+        let value = cello(count, bytes);
+        let put = Draft::put_value(&key, &value).to_vec().expect("within the limits");
+        for size in [1, 7, 1_000, 2_048, 4_096, 20_000] {
+            let [mut typed, mut sent] = [crowded(), crowded()];
+            assert_eq!(typed.put(&key, &value), Ok(()));
+            assert_eq!(reply(&mut sent, &put, size).as_ref(), Ok(&put), "the echo");
+            for node in [&mut typed, &mut sent] {
+                assert_eq!(node.find(&key), Ok(Some(&value[..])), "{count} setpoints, {bytes} bytes");
+                let served = reply(node, &ask, size).expect("a reply");
+                assert_eq!(read(&served, size).0, value, "{count} setpoints, {bytes} bytes, pieces of {size}");
+            }
+        }
+    }
+}
+
+#[test]
+fn the_largest_messages_have_the_sizes_that_are_stated() {
+    let (key, value) = (long_key(), cello(400, 3_072));
+    let mut node = crowded();
+    let echo = reply(&mut node, &Draft::put_value(&key, &value).to_vec().expect("within the limits"), 4_096).expect("taken");
+    assert_eq!(echo.len(), 2 + 3_342, "a length of two bytes, and the body");
+    let largest = reply(&mut node, &Draft::get_value(&key).to_vec().expect("short"), 4_096).expect("a reply");
+    assert_eq!((largest.len(), read(&largest, 4_096)), (2 + 15_111, (value, 15_111)));
+}
+
+/// Past a limit it is refused, typed and sent, and what is held stays.
+#[test]
+fn what_is_past_a_limit_is_refused_typed_and_sent() {
+    let (key, held) = (long_key(), cello(400, 3_072));
+    let mut node = crowded();
+    assert_eq!(node.put(&key, &held), Ok(()));
+    for (count, bytes) in [(0, 3_073), (400, 3_073), (401, 3_072), (401, 2_422)] {
+        let mut value = cello(count, bytes);
+        let sequence = value.len() - 8;
+        value[sequence] = 10;
+        assert_eq!(node.put(&key, &value), Err(Refusal::BrokenRecipe));
+        let record = [field(1, &key), field(2, &value)].concat();
+        let request = measured(&[field(2, &key), field(3, &record)].concat());
+        assert_eq!(Draft::put_value(&key, &value).to_vec().is_ok(), bytes <= 3_072, "the writer looks at the length alone");
+        for size in [1, 1_000, 20_000] {
+            assert_eq!(reply(&mut node, &request, size), Err(Refusal::BrokenRecipe), "{count} setpoints, {bytes} bytes, pieces of {size}");
+            assert_eq!(node.find(&key), Ok(Some(&held[..])));
+        }
+    }
 }
 
 /// Numbers that look random, the same in every run.

@@ -19,7 +19,7 @@ fn what_is_written_reads_back() {
     let providers = [Named { id: &[7; 64], addresses: &[b"/p"], connection: ConnectionType::CanConnect }];
     let draft = Draft {
         key: b"key",
-        record: Some(Record { key: b"other key", value: &[5; 2_048] }),
+        record: Some(Record { key: b"other key", value: &[5; 3_072] }),
         closer_peers: &closer,
         provider_peers: &providers,
         ..Draft::new(Kind::GetProviders)
@@ -67,7 +67,8 @@ fn over_a_limit_is_unwritable() {
     }
     assert!(Draft { closer_peers: &[longest; 27], ..Draft::ping() }.to_vec().is_ok());
     assert_eq!(Draft::find_node(&[1; 129]).to_vec(), Err(Refusal::Unwritable));
-    assert_eq!(Draft::put_value(b"k", &[1; 2_049]).to_vec(), Err(Refusal::Unwritable));
+    assert_eq!(Draft::put_value(b"k", &[1; 3_073]).to_vec(), Err(Refusal::Unwritable));
+    assert!(Draft::put_value(b"k", &[1; 3_072]).to_vec().is_ok());
     assert_eq!(Draft::ping().write(&mut [0; raw::REPLY - 1]), Err(Refusal::SmallBuffer), "whatever the message");
     assert_eq!(Draft::ping().write(&mut [0; raw::REPLY]), Ok(3));
 }

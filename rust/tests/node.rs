@@ -43,6 +43,8 @@ fn takes_no_more_memory_than_it_can_use() {
     let most = Node::start(b"bench", &[], Room { contacts: 9_000, records: 9_000 }).expect("a good id");
     assert_eq!(most.room(), Room::MOST);
     assert_eq!(Room::MOST, Room { contacts: raw::MOST_CONTACTS, records: raw::MOST_RECORDS });
+    let bytes = |room: Room| room.contacts * raw::CONTACT + room.records * raw::RECORD;
+    assert_eq!((bytes(Room::MOST), bytes(Room::default())), (3_975_168, 363_008), "4.0 megabytes, 360 kilobytes");
 }
 
 #[test]
@@ -158,4 +160,20 @@ fn keeps_records() {
     assert_eq!(node.find(b"/wind/g"), Ok(Some(&value(3)[..])));
     let records: Vec<_> = node.records().map(|record| (record.key.to_vec(), record.value.to_vec())).collect();
     assert_eq!(records, [(b"/wind/g".to_vec(), value(3)), (b"/wind/d".to_vec(), value(1))]);
+}
+
+#[test]
+fn keeps_values_of_16_to_3_072_bytes() {
+    let value = |length: usize, sequence: u8| [&vec![7; length - 16][..], &[16, 0, 0, 0, 0, 0, 1, 0, sequence], &[0; 7]].concat();
+    let mut node = bench();
+    for (length, sequence) in [(16, 1), (2_048, 2), (2_049, 3), (3_072, 4), (17, 5), (3_071, 6)] {
+        let value = value(length, sequence);
+        assert_eq!(node.put(b"/wind/g", &value), Ok(()), "{length} bytes");
+        assert_eq!(node.find(b"/wind/g"), Ok(Some(&value[..])));
+        assert_eq!(node.records().map(|record| record.value.to_vec()).collect::<Vec<_>>(), [value], "the same, and all of it");
+    }
+    for length in [3_073, 3_200, 5_000] {
+        assert_eq!(node.put(b"/wind/g", &value(length, 7)), Err(Refusal::BrokenRecipe), "{length} bytes");
+    }
+    assert_eq!(node.find(b"/wind/g"), Ok(Some(&value(3_071, 6)[..])), "what was held stays");
 }

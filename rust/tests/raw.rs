@@ -1,7 +1,7 @@
 //! The declarations in `raw` are those of the C header, which tests/header holds to the proved source: names, parameters in order with their types, sizes and
 //! refusals. And the functions take slices of any length.
 
-use starterbell::{raw, Refusal};
+use starterbell::{raw, recipe, Refusal};
 use std::collections::BTreeMap;
 
 const HEADER: &str = include_str!("../../include/starterbell.h");
@@ -53,21 +53,36 @@ fn declares_what_the_header_declares() {
     assert_eq!(source.len(), 19);
 }
 
+/// A number that the header defines.
+fn defined(name: &str) -> usize {
+    let line = between(HEADER, "#define STARTERBELL_", "\n").find_map(|line| line.strip_prefix(name)?.strip_prefix(' '));
+    line.and_then(|number| number.trim().parse().ok()).unwrap_or_else(|| panic!("the header has no {name}"))
+}
+
 #[test]
 fn has_the_headers_sizes() {
-    let defined = |name: &str| {
-        let line = between(HEADER, "#define STARTERBELL_", "\n").find_map(|line| line.strip_prefix(name)?.strip_prefix(' '));
-        line.and_then(|number| number.trim().parse::<usize>().ok()).unwrap_or_else(|| panic!("the header has no {name}"))
-    };
     assert_eq!(raw::BOX, defined("BOX"));
     assert_eq!(raw::CONNECTION, defined("CONNECTION"));
     assert_eq!(raw::LOOKUP, defined("LOOKUP"));
     assert_eq!(raw::CONTACT, defined("CONTACT_SLOT"));
     assert_eq!(raw::MOST_CONTACTS, defined("CONTACT_SLOTS_MOST"));
+    assert_eq!(raw::MOST_KEY, defined("KEY_MOST"));
+    assert_eq!(raw::MOST_VALUE, defined("VALUE_MOST"));
+    assert_eq!(raw::KEY_AT, defined("RECORD_KEY_AT"));
+    assert_eq!(raw::VALUE_AT, defined("RECORD_VALUE_AT"));
     assert_eq!(raw::RECORD, defined("RECORD_SLOT"));
     assert_eq!(raw::MOST_RECORDS, defined("RECORD_SLOTS_MOST"));
     assert_eq!(raw::BUFFER, defined("RECEIVE_BUFFER"));
     assert_eq!(raw::REPLY, defined("REPLY_BUFFER"));
+}
+
+#[test]
+fn recipes_have_the_headers_limits() {
+    assert_eq!(recipe::VALUE_MAX, defined("VALUE_MOST"));
+    assert_eq!(recipe::SETPOINTS_MAX, defined("SETPOINTS_MOST"));
+    assert_eq!(recipe::TURN_MAX as usize, defined("TURN_MOST"));
+    assert_eq!(recipe::TRIM_MAX as usize, defined("TRIM_MOST"));
+    assert_eq!(recipe::LEAP_MAX as usize, defined("LEAP_MOST"));
 }
 
 #[test]

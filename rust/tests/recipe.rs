@@ -1,6 +1,6 @@
 //! Recipes: there and back, which rule a refused one breaks and where, and that all of it agrees with the proved check.
 
-use starterbell::recipe::{check, outranks, sequence, Broken, Recipe, Rule, Setpoint};
+use starterbell::recipe::{self, check, outranks, sequence, Broken, Recipe, Rule, Setpoint};
 use starterbell::{raw, Refusal};
 use std::collections::BTreeMap;
 
@@ -42,7 +42,7 @@ fn value(note: &[u8], room: &[u8], count: u16) -> Vec<u8> {
 
 #[test]
 fn there_and_back() {
-    let most = (0..200).map(|n| (n * 5_025, n as i32 * 201 - 20_000)).collect::<Vec<_>>();
+    let most = (0..400).map(|n| (n * 2_506, n as i32 * 100 - 20_000)).collect::<Vec<_>>();
     let lists: [Setpoints; 5] = [&[], &[(0, -1)], &[(127, 0), (128, 1), (16_384, -64)], &[(0, 20_000), (1_000_000, 15_000)], &most];
     for list in lists {
         let recipe = recipe(list);
@@ -91,13 +91,44 @@ fn rules_on_setpoints_are_named_with_the_setpoint() {
 #[test]
 fn rules_on_the_whole_are_named() {
     let count = |count: u32| recipe(&(0..count).map(|n| (n, 0)).collect::<Vec<_>>()).to_value().err();
-    assert_eq!((count(200), count(201), count(70_000)), (None, whole(Rule::TooManySetpoints), whole(Rule::TooManySetpoints)));
+    assert_eq!((count(400), count(401), count(70_000)), (None, whole(Rule::TooManySetpoints), whole(Rule::TooManySetpoints)));
     let note = |bytes: usize| Recipe { note: vec![0; bytes], ..Recipe::default() }.to_value().err();
-    assert_eq!((note(2_032), note(2_033)), (None, whole(Rule::TooLong)));
-    let long = (0..200).map(|n| (900_000 + n, -20_000)).collect::<Vec<_>>();
-    let long = Recipe { note: vec![0; 833], ..recipe(&long) };
-    assert_eq!(long.to_value().err(), whole(Rule::TooLong), "the setpoints have 1,200 bytes");
-    assert_eq!(Recipe { note: vec![0; 832], ..long }.to_value().err(), None);
+    assert_eq!((note(3_056), note(3_057)), (None, whole(Rule::TooLong)));
+    let long = (0..400).map(|n| (900_000 + n, -20_000)).collect::<Vec<_>>();
+    let long = Recipe { note: vec![0; 657], ..recipe(&long) };
+    assert_eq!(long.to_value().err(), whole(Rule::TooLong), "the setpoints have 2,400 bytes");
+    assert_eq!(Recipe { note: vec![0; 656], ..long }.to_value().err(), None);
+}
+
+/// What version 0.1 refused is taken: over 2,048 bytes, over 200 setpoints, or both.
+#[test]
+fn what_was_past_the_limits_of_version_0_1_is_taken() {
+    for (count, bytes) in [(0, 2_049), (200, 2_049), (201, 2_048), (201, 2_049), (400, 2_416), (400, 3_072)] {
+        let mut recipe = recipe(&(0..count).map(|n| (900_000 + n, -20_000)).collect::<Vec<_>>());
+        recipe.note = vec![b'c'; bytes - 16 - 6 * count as usize];
+        let value = recipe.to_value().expect("within the limits");
+        assert_eq!((value.len(), why(&value), Recipe::from_value(&value)), (bytes, None, Ok(recipe)));
+        let mut store = [0; raw::RECORD];
+        let mut found = [0; 2];
+        assert_eq!((raw::put(&mut store, b"/wind/c", &value), raw::find(&store, b"/wind/c", &mut found)), (64, 64));
+        assert_eq!(store[found[0] as usize..found[1] as usize], value, "all of it");
+    }
+}
+
+/// A rule's words say its limit.
+#[test]
+fn words_have_the_limits() {
+    let limits = [
+        (Rule::TooLong, recipe::VALUE_MAX),
+        (Rule::TooManySetpoints, recipe::SETPOINTS_MAX),
+        (Rule::TurnTooHigh, recipe::TURN_MAX as usize),
+        (Rule::TrimOutOfRange, recipe::TRIM_MAX as usize),
+        (Rule::TrimLeaps, recipe::LEAP_MAX as usize),
+    ];
+    for (rule, limit) in limits {
+        let digits = rule.words().replace(',', "");
+        assert!(digits.split(|c: char| !c.is_ascii_digit()).any(|number| number == limit.to_string()), "{limit}: {}", rule.words());
+    }
 }
 
 #[test]
@@ -111,8 +142,9 @@ fn rules_on_reading_are_named() {
     };
     assert_eq!((changed(16, 15), changed(16, 16)), (whole(Rule::Distance), at(Rule::RoomTooSmall, 0)));
     assert_eq!((changed(16, 24), changed(16, 25)), (whole(Rule::RoomTooLarge), whole(Rule::Distance)));
-    assert_eq!((changed(13, 1), changed(11, 1)), (whole(Rule::Distance), whole(Rule::TooManySetpoints)));
-    assert_eq!((changed(12, 200), changed(12, 201)), (at(Rule::RoomTooSmall, 2), whole(Rule::TooManySetpoints)));
+    assert_eq!((changed(13, 1), changed(11, 1), changed(11, 2)), (whole(Rule::Distance), at(Rule::RoomTooSmall, 2), whole(Rule::TooManySetpoints)));
+    let counted = |count: u16| why(&value(b"note", &[0, 0, 1, 0], count));
+    assert_eq!((counted(400), counted(401), counted(656)), (at(Rule::RoomTooSmall, 2), whole(Rule::TooManySetpoints), whole(Rule::TooManySetpoints)));
     assert_eq!((changed(10, 0), changed(10, 2), changed(9, 1)), (whole(Rule::Format), whole(Rule::Format), whole(Rule::Format)));
     assert_eq!((changed(12, 1), changed(12, 3), changed(12, 0)), (whole(Rule::RoomTooLarge), at(Rule::RoomTooSmall, 2), whole(Rule::RoomTooLarge)));
 }
@@ -235,8 +267,8 @@ fn some_value(rng: &mut Rng) -> Vec<u8> {
             put_varint(&mut room, number);
         }
     }
-    let note = vec![rng.byte(); [0, 1, 20, 2_000, 2_033][rng.below(5)] * usize::from(rng.below(4) == 0)];
-    let mut value = value(&note, &room, (list.len() + [0, 0, 0, 0, 0, 1, 199][rng.below(7)]) as u16);
+    let note = vec![rng.byte(); [0, 1, 20, 3_024, 3_057][rng.below(5)] * usize::from(rng.below(4) == 0)];
+    let mut value = value(&note, &room, (list.len() + [0, 0, 0, 0, 0, 1, 399][rng.below(7)]) as u16);
     for _ in 0..[0, 0, 1, 1, 2][rng.below(5)] {
         let at = value.len().saturating_sub(1 + rng.below(40));
         match rng.below(5) {

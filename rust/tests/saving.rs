@@ -48,7 +48,9 @@ fn asked(node: &mut Node, sender: &[u8], draft: Draft) -> String {
 fn step(node: &mut Node, number: u64) -> String {
     let mut rng = Rng(number);
     let (peer, other, key) = (id(rng.below(90)), id(rng.below(90)), [&b"/wind/"[..], &[b'a' + rng.below(7) as u8]].concat());
-    let value = Recipe { note: vec![7; rng.below(40)], sequence: rng.below(9) as u64, ..Recipe::default() }.to_value().expect("a recipe");
+    // one in eight is as long as a value can be
+    let note = vec![7; Some(rng.below(40)).filter(|length| length % 8 > 0).unwrap_or(3_056)];
+    let value = Recipe { note, sequence: rng.below(9) as u64, ..Recipe::default() }.to_value().expect("a recipe");
     match rng.below(10) {
         0..=2 => format!("{:?}", node.seen(Peer::server(&peer, &[&other]))),
         3 => {
@@ -280,7 +282,7 @@ fn what_is_out_of_form_is_refused_whatever_its_sum() {
     let saved = played(STOP).save();
     assert_eq!(saved.len(), 48 * raw::CONTACT + 5 * raw::RECORD + 664, "as the documentation says");
     assert!(Node::restore(&forged(saved.clone(), |_| {})).is_ok(), "nothing is changed");
-    let changes: [(&str, Change); 17] = [
+    let changes: [(&str, Change); 18] = [
         ("the box has no id", |save| save[ME + 2] = 0),
         ("its id has 65 bytes", |save| save[ME + 2] = 65),
         ("it has five addresses", |save| save[ME + 3] = 5),
@@ -293,9 +295,10 @@ fn what_is_out_of_form_is_refused_whatever_its_sum() {
         ("a rank of 21", |save| save[CONTACTS] = 22),
         ("a mark of doubt of 2", |save| save[CONTACTS + 1] = 2),
         ("a contact without an id", |save| save[CONTACTS + 2] = 0),
-        ("a key twice", |save| save.copy_within(RECORDS..RECORDS + 2_184, RECORDS + 2_184)),
+        ("a key twice", |save| save.copy_within(RECORDS..RECORDS + raw::RECORD, RECORDS + raw::RECORD)),
         ("a key of 129 bytes", |save| save[RECORDS] = 129),
         ("a value of 15 bytes", |save| save[RECORDS + 2..RECORDS + 4].copy_from_slice(&[15, 0])),
+        ("a value of 3,073 bytes", |save| save[RECORDS + 2..RECORDS + 4].copy_from_slice(&[1, 12])),
         ("a byte more than its parts have", |save| save.push(0)),
         ("a part of a slot", |save| {
             save[16 + 8..16 + 16].copy_from_slice(&(48 * 616u64 - 1).to_le_bytes());

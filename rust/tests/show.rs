@@ -57,9 +57,9 @@ fn a_connection_and_what_comes() {
 fn messages() {
     let named = [Named { id: b"a", addresses: &[b"/a", b"/b"], ..Named::default() }, Named { id: &[7; 64], ..Named::default() }];
     assert_eq!(format!("{:?}", named[0]), r#"Named { id: "a", addresses: ["/a", "/b"], connection: NotConnected }"#);
-    let record = Some(Record { key: b"AB", value: &[0; 2_048] });
+    let record = Some(Record { key: b"AB", value: &[0; 3_072] });
     let draft = Draft { key: b"AB", record, closer_peers: &named, ..Draft::new(Kind::GetValue) };
-    let record = r#"record: Some(Record { key: "AB", value: 2048 bytes })"#;
+    let record = r#"record: Some(Record { key: "AB", value: 3072 bytes })"#;
     assert_eq!(format!("{draft:?}"), format!(r#"Draft {{ kind: GetValue, key: "AB", {record}, closer_peers: 2, provider_peers: 0 }}"#));
     let bytes = draft.to_vec().expect("within the limits");
     let message = Message::read(&bytes[2..]).expect("well formed");

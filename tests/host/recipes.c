@@ -1,7 +1,8 @@
-/* recipes [SEED]: holds the recipe writer of include/starterbell_recipe.h against the proved starterbell_put. Recipes at every limit of every rule, and random ones,
-   right and broken, are written twice: by the writer, and by plain code here that tests nothing. What put says of the plain bytes decides: the writer has to refuse
-   where put gives 9, and only there, with the rule and the setpoint that the crafted case breaks; what it writes has to be the plain bytes, is put, and found again.
-   No byte past the buffer may change, nor any byte where it is refused. Status 0 and a line, or 1 at the first difference. */
+/* recipes [SEED [ROUNDS]]: holds the recipe writer of include/starterbell_recipe.h against the proved starterbell_put. Recipes at every limit of every rule, and random
+   ones, right and broken, are written twice: by the writer, and by plain code here that tests nothing. What put says of the plain bytes decides: the writer has to
+   refuse where put gives 9, and only there, with the rule and the setpoint that the crafted case breaks; what it writes has to be the plain bytes, is put, and found
+   again. No byte past the buffer may change, nor any byte where it is refused. And values up to the largest are sent in pieces, found, served, and read by who asked
+   for them, byte for byte. Status 0 and a line, or 1 at the first difference. */
 #include "starterbell_box.h"
 #include "starterbell_recipe.h"
 
@@ -9,11 +10,13 @@
 #include <stdlib.h>
 #include <string.h>
 
-enum { ROOM = 8192, POINTS = 260, ROUNDS = 200000 };
+/* A draft's note and its setpoints have room past their limits. No setpoint has more than ten bytes, and around a value there is room for bytes that have to stay. */
+enum { NOTE = STARTERBELL_VALUE_MOST + 1024, POINTS = STARTERBELL_SETPOINTS_MOST + 60 };
+enum { ROOM = NOTE + 10 * POINTS + STARTERBELL_RECIPE_TRAILER + 128 };
 
 /* A recipe that may break any rule. */
 struct draft {
-    uint8_t note[4096];
+    uint8_t note[NOTE];
     size_t note_length;
     struct starterbell_setpoint setpoints[POINTS];
     size_t count;
@@ -151,12 +154,12 @@ static void play_counts(void) {
     size_t count;
     for (count = 0; count <= STARTERBELL_SETPOINTS_MOST; count++) {
         level(count);
-        expect_rule("up to 200 setpoints", STARTERBELL_RECIPE_WRITTEN, 0);
+        expect_rule("up to the most setpoints", STARTERBELL_RECIPE_WRITTEN, 0);
     }
     level(STARTERBELL_SETPOINTS_MOST + 1);
-    expect_rule("201 setpoints", STARTERBELL_RECIPE_TOO_MANY, STARTERBELL_SETPOINTS_MOST);
+    expect_rule("a setpoint too many", STARTERBELL_RECIPE_TOO_MANY, STARTERBELL_SETPOINTS_MOST);
     level(POINTS);
-    expect_rule("260 setpoints", STARTERBELL_RECIPE_TOO_MANY, STARTERBELL_SETPOINTS_MOST);
+    expect_rule("many setpoints too many", STARTERBELL_RECIPE_TOO_MANY, STARTERBELL_SETPOINTS_MOST);
 }
 
 /* Two setpoints, the second with this turn; and one with it alone. */
@@ -245,6 +248,158 @@ static void play_several(void) {
     expect_rule("several rules", STARTERBELL_RECIPE_TURN_TOO_HIGH, 2);
 }
 
+/* ---- The limits in numbers, and what a box does with values at them */
+
+/* So many setpoints, a value of so many bytes, and the rule that it breaks. Version 0.1 took up to 200, and up to 2,048. */
+static const struct stated {
+    size_t count, bytes;
+    uint32_t rule;
+} stated[] = {{0, 16, STARTERBELL_RECIPE_WRITTEN}, {0, 2048, STARTERBELL_RECIPE_WRITTEN}, {0, 2049, STARTERBELL_RECIPE_WRITTEN}, {0, 3072, STARTERBELL_RECIPE_WRITTEN},
+    {200, 2048, STARTERBELL_RECIPE_WRITTEN}, {201, 2048, STARTERBELL_RECIPE_WRITTEN}, {201, 2049, STARTERBELL_RECIPE_WRITTEN}, {400, 2416, STARTERBELL_RECIPE_WRITTEN},
+    {400, 3072, STARTERBELL_RECIPE_WRITTEN}, {0, 3073, STARTERBELL_RECIPE_TOO_LONG}, {400, 3073, STARTERBELL_RECIPE_TOO_LONG}, {401, 3072, STARTERBELL_RECIPE_TOO_MANY}};
+enum { STATED = sizeof stated / sizeof *stated };
+
+/* A draft with setpoints of six bytes each, which no setpoint exceeds, and a note whose bytes are unlike their neighbours. */
+static size_t draft_stated(const struct stated *limits, uint8_t *value) {
+    size_t i;
+    level(limits->count);
+    for (i = 0; i < limits->count; i++) {
+        draft.setpoints[i].turn += 900000;
+        draft.setpoints[i].trim = 20000;
+    }
+    for (i = 0; i < NOTE; i++) draft.note[i] = (uint8_t)(i % 251);
+    draft.note_length = limits->bytes - plain_value(value, &draft);
+    return plain_value(value, &draft);
+}
+
+static struct starterbell_box server, asker;
+static struct starterbell_connection serving, asking;
+static uint8_t contacts[STARTERBELL_NEAREST_MOST * STARTERBELL_CONTACT_SLOT], records[STARTERBELL_RECORD_SLOT];
+static uint8_t reply[STARTERBELL_REPLY_BUFFER], sent[STARTERBELL_REPLY_BUFFER];
+static uint8_t long_key[STARTERBELL_KEY_MOST];
+#define LONG_KEY starterbell_bytes_at(long_key, sizeof long_key)
+
+/* One box knows twenty peers with all that a contact can have; the other asks it. */
+static void make_boxes(void) {
+    uint8_t id[STARTERBELL_ID_MOST], addresses[STARTERBELL_ADDRESSES_MOST * (2 + STARTERBELL_ADDRESS_MOST)];
+    size_t i;
+    memset(long_key, 'k', sizeof long_key);
+    memcpy(long_key, "/wind/", 6);
+    server.contacts = asker.contacts = contacts;
+    server.contacts_length = sizeof contacts;
+    server.records = asker.records = records;
+    server.records_length = sizeof records;
+    server.reply = asker.reply = reply;
+    server.reply_length = asker.reply_length = sizeof reply;
+    expect("start", starterbell_box_start(&server, starterbell_text("server"), starterbell_nothing()), STARTERBELL_DONE);
+    expect("start", starterbell_box_start(&asker, starterbell_text("asker"), starterbell_nothing()), STARTERBELL_DONE);
+    memset(addresses, 'a', sizeof addresses);
+    for (i = 0; i < STARTERBELL_ADDRESSES_MOST; i++) plain_number(addresses + i * (2 + STARTERBELL_ADDRESS_MOST), STARTERBELL_ADDRESS_MOST, 2);
+    for (i = 0; i < STARTERBELL_NEAREST_MOST; i++) {
+        memset(id, 'a' + (int)i, sizeof id);
+        expect("seen", starterbell_box_seen(&server, starterbell_bytes_at(id, sizeof id), 0, starterbell_bytes_at(addresses, sizeof addresses)).code,
+            STARTERBELL_SEEN_JOINED);
+    }
+}
+
+/* What comes of bytes that reach a connection in pieces of a size: of all of them, or up to a refusal. */
+static struct starterbell_received deliver(const struct starterbell_box *box, struct starterbell_connection *conn, const uint8_t *bytes, size_t length, size_t cut) {
+    struct starterbell_received got;
+    size_t at = 0;
+    do {
+        got = starterbell_box_receive(box, conn, starterbell_bytes_at(bytes + at, length - at < cut ? length - at : cut));
+        at += got.taken;
+    } while (at < length && !STARTERBELL_REFUSED(got.code));
+    return got;
+}
+
+/* A field of a message: its tag, its length, its bytes. */
+static size_t plain_field(uint8_t *to, uint8_t tag, const uint8_t *bytes, size_t length) {
+    size_t at = 1 + plain_varint(to + 1, length);
+    to[0] = tag;
+    memcpy(to + at, bytes, length);
+    return at + length;
+}
+
+/* A PUT_VALUE with its length before it, by hand: the writer takes no value over the limit. */
+static size_t plain_put(uint8_t *to, const uint8_t *value, size_t length) {
+    static uint8_t record[ROOM], body[ROOM];
+    size_t record_length = plain_field(record, 10, long_key, sizeof long_key), at = 2, prefix;
+    record_length += plain_field(record + record_length, 18, value, length);
+    body[0] = 8;
+    body[1] = STARTERBELL_TYPE_PUT_VALUE;
+    at += plain_field(body + at, 18, long_key, sizeof long_key);
+    at += plain_field(body + at, 26, record, record_length);
+    prefix = plain_varint(to, at);
+    memcpy(to + prefix, body, at);
+    return prefix + at;
+}
+
+/* The writer writes the same PUT_VALUE, or refuses a value that is too long. */
+static void expect_writer(const uint8_t *value, size_t length, const uint8_t *plain, size_t plain_length) {
+    struct starterbell_message put_value = starterbell_message_of(STARTERBELL_TYPE_PUT_VALUE, LONG_KEY);
+    struct starterbell_written written;
+    put_value.held = 1;
+    put_value.record_key = LONG_KEY;
+    put_value.value = starterbell_bytes_at(value, length);
+    written = starterbell_message_write(sent, sizeof sent, &put_value);
+    expect("writing a PUT_VALUE", written.code, length > 3072 ? (uint32_t)STARTERBELL_REFUSAL_UNWRITABLE : (uint32_t)STARTERBELL_DONE);
+    if (written.code != STARTERBELL_DONE) return;
+    expect("the length of a PUT_VALUE", written.length, plain_length);
+    expect("the bytes of a PUT_VALUE", (uint64_t)memcmp(sent, plain, plain_length), 0);
+}
+
+/* The box finds this value under the long key, and who asks for it reads all of it in the reply. */
+static void expect_read(const uint8_t *value, size_t length, size_t cut) {
+    struct starterbell_message get_value = starterbell_message_of(STARTERBELL_TYPE_GET_VALUE, LONG_KEY);
+    struct starterbell_found held = starterbell_box_find(&server, LONG_KEY);
+    struct starterbell_received got;
+    struct starterbell_bytes read;
+    expect("the length that is found", held.value.length, length);
+    expect("what is found", (uint64_t)memcmp(held.value.at, value, length), 0);
+    got = deliver(&server, &serving, sent, starterbell_message_write(sent, sizeof sent, &get_value).length, cut);
+    expect("GET_VALUE", got.code, STARTERBELL_RECEIVE_REPLY);
+    memcpy(sent, reply, got.length);
+    expect("open", starterbell_box_open(&asker, &asking, starterbell_text("server"), 1, 1, starterbell_nothing()), STARTERBELL_DONE);
+    got = deliver(&asker, &asking, sent, got.length, cut);
+    expect("the reply to GET_VALUE", got.code, STARTERBELL_RECEIVE_HEARD);
+    if (length == 3072) expect("the body of the largest reply to GET_VALUE", got.length, 15111);
+    read = starterbell_part(starterbell_bytes_at(asking.buffer, got.length), got.view[STARTERBELL_VIEW_VALUE_START], got.view[STARTERBELL_VIEW_VALUE_END]);
+    expect("the length that is read", read.length, length);
+    expect("what is read", (uint64_t)memcmp(read.at, value, length), 0);
+}
+
+/* A value at a limit: written, put, and sent in pieces of a size; past it, refused by all of them. */
+static void expect_stated(const struct stated *limits, size_t cut) {
+    static uint8_t value[ROOM], message[ROOM];
+    size_t length = draft_stated(limits, value), request = plain_put(message, value, length);
+    struct starterbell_received got;
+    expect("the length of a value at a limit", length, limits->bytes);
+    expect_rule("a value at a limit", limits->rule, limits->rule == STARTERBELL_RECIPE_TOO_MANY ? 400 : 0);
+    expect_writer(value, length, message, request);
+    memset(records, 0, sizeof records);
+    expect("open", starterbell_box_open(&server, &serving, starterbell_text("asker"), 0, 0, starterbell_nothing()), STARTERBELL_DONE);
+    got = deliver(&server, &serving, message, request, cut);
+    if (limits->rule != STARTERBELL_RECIPE_WRITTEN) {
+        expect("a PUT_VALUE past a limit", got.code, STARTERBELL_REFUSAL_BROKEN_RECIPE);
+        expect("what it leaves", starterbell_box_find(&server, LONG_KEY).code, STARTERBELL_FIND_NOT_HELD);
+        return;
+    }
+    expect("a PUT_VALUE", got.code, STARTERBELL_RECEIVE_REPLY);
+    expect("the length of its echo", got.length, request);
+    expect("its echo", (uint64_t)memcmp(reply, message, request), 0);
+    if (length == 3072) expect("the body of the longest echo, after a length of two bytes", got.length - 2, 3342);
+    expect_read(value, length, cut);
+}
+
+static void play_stated(void) {
+    static const size_t cuts[] = {1, 7, 1000, 2048, STARTERBELL_REPLY_BUFFER};
+    size_t i, cut;
+    make_boxes();
+    for (i = 0; i < STATED; i++)
+        for (cut = 0; cut < sizeof cuts / sizeof *cuts; cut++) expect_stated(&stated[i], cuts[cut]);
+}
+
 /* ---- Random recipes */
 
 static uint64_t state;
@@ -277,22 +432,23 @@ static void random_draft(void) {
     struct starterbell_setpoint before = {0, 0};
     uint64_t odds = 20 + random_below(2000);
     size_t i;
-    draft.note_length = (size_t)(seldom(3) ? random_below(2048) : random_below(64));
+    draft.note_length = (size_t)(seldom(3) ? random_below(STARTERBELL_VALUE_MOST) : random_below(64));
     for (i = 0; i < draft.note_length; i++) draft.note[i] = (uint8_t)random_below(256);
     draft.count = (size_t)(seldom(8) ? random_below(POINTS) : random_below(40));
     draft.sequence = seldom(4) ? UINT64_MAX - random_below(3) : random_below(1 << 20);
     for (i = 0; i < draft.count; i++) draft.setpoints[i] = before = random_setpoint(before, odds);
 }
 
-static void play_random(void) {
-    unsigned i;
-    for (i = 0; i < ROUNDS; i++) {
+static void play_random(unsigned long rounds) {
+    unsigned long i;
+    for (i = 0; i < rounds; i++) {
         random_draft();
         compare(&draft);
     }
 }
 
 int main(int argc, char **argv) {
+    unsigned long rounds = argc > 2 ? strtoul(argv[2], NULL, 10) : 200000;
     unsigned rule;
     state = argc > 1 ? strtoull(argv[1], NULL, 10) * 2 + 1 : 0x9e3779b97f4a7c15;
     play_counts();
@@ -300,11 +456,12 @@ int main(int argc, char **argv) {
     play_trims();
     play_lengths();
     play_several();
+    play_stated();
     memset(by_rule, 0, sizeof by_rule);
-    play_random();
+    play_random(rounds);
     /* what was random is worth something only where it met every rule */
     for (rule = 0; rule < STARTERBELL_RECIPE_SMALL_BUFFER; rule++) expect("a rule that random recipes broke", by_rule[rule] > 20, 1);
-    printf("the recipe writer refuses just what put refuses: every rule at its limits and %d random recipes, %u of all written and found again, %u comparisons\n", ROUNDS,
-        written_well, compared);
+    printf("the recipe writer refuses just what put refuses: every rule at its limits and %lu random recipes, %u of all written and found again; values of up to %d bytes are "
+           "sent, served and read whole; %u comparisons\n", rounds, written_well, STARTERBELL_VALUE_MOST, compared);
     return 0;
 }

@@ -72,10 +72,14 @@ static struct starterbell_bytes text_of(char room[64], const char *what, unsigne
     return starterbell_text(room);
 }
 
+/* Some are as long as a value can be: the setpoints and the trailer have up to 21 bytes. */
 static struct starterbell_bytes recipe_of(uint8_t value[STARTERBELL_VALUE_MOST], unsigned k) {
+    static uint8_t note[STARTERBELL_VALUE_MOST - 21];
     struct starterbell_setpoint setpoints[2] = {{0, 0}, {1, 0}};
     setpoints[1].trim = (int32_t)(k * 37 % 5000);
-    return starterbell_bytes_at(value, starterbell_write_recipe(value, STARTERBELL_VALUE_MOST, NULL, 0, setpoints, 2, k * 7 % 50).length);
+    memset(note, (int)(k % 256), sizeof note);
+    return starterbell_bytes_at(value,
+        starterbell_write_recipe(value, STARTERBELL_VALUE_MOST, note, k % 5 == 0 ? sizeof note : 0, setpoints, 2, k * 7 % 50).length);
 }
 
 static const uint8_t addresses[] = {4, 0, 'h', 'e', 'r', 'e'};
@@ -281,11 +285,19 @@ static void break_contacts(void) {
     lent = good;
 }
 
+static void break_value_length(const char *what, unsigned length) {
+    lent.records[STARTERBELL_RECORD_VALUE_LENGTH_AT] = (uint8_t)(length % 256);
+    lent.records[STARTERBELL_RECORD_VALUE_LENGTH_AT + 1] = (uint8_t)(length / 256);
+    torn_records(what);
+    lent = good;
+}
+
 static void break_records(void) {
     static const struct broken bytes[] = {{"a key of 6 bytes", STARTERBELL_RECORD_KEY_LENGTH_AT, 6}, {"a key of 129 bytes", STARTERBELL_RECORD_KEY_LENGTH_AT, 129},
-        {"a key that doesn't open with /wind/", STARTERBELL_RECORD_KEY_AT + 1, 'b'}, {"a value of 15 bytes", STARTERBELL_RECORD_VALUE_LENGTH_AT, 15},
-        {"a value of more than 2,304 bytes", STARTERBELL_RECORD_VALUE_LENGTH_AT + 1, 9}};
+        {"a key that doesn't open with /wind/", STARTERBELL_RECORD_KEY_AT + 1, 'b'}};
     break_bytes(lent.records, bytes, sizeof bytes / sizeof *bytes, torn_records);
+    break_value_length("a value of 15 bytes", 15);
+    break_value_length("a value that is a byte too long", STARTERBELL_VALUE_MOST + 1);
     memcpy(lent.records + STARTERBELL_RECORD_SLOT, lent.records, STARTERBELL_RECORD_SLOT);
     torn_records("a key that stands twice");
     lent = good;

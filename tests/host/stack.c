@@ -3,6 +3,7 @@
    through for the deepest byte that changed. Where a call needs more than the header says, or than there is, a line says so and the status is 1. */
 #define _DEFAULT_SOURCE
 #include "starterbell.h"
+#include "starterbell_recipe.h"
 
 #include <limits.h>
 #include <pthread.h>
@@ -27,8 +28,7 @@ static uint8_t lookup[STARTERBELL_LOOKUP];
 static uint64_t out[STARTERBELL_OUT_MOST], view[STARTERBELL_VIEW];
 static size_t length;
 static const uint8_t none[1], id[] = "somebody", key[] = "/wind/somebody's recipe";
-static const uint8_t recipe[] = {0x00, 0x01, 0x12, 0x00, 0x00, 0x00, 0x01, 0x00, 0x01, 0x00, 0x07, 0x00, 0x00, 0x00, 0x00, 0x00, 0x00, 0x00};
-static const uint8_t higher[] = {0x00, 0x01, 0x12, 0x00, 0x00, 0x00, 0x01, 0x00, 0x01, 0x00, 0x08, 0x00, 0x00, 0x00, 0x00, 0x00, 0x00, 0x00};
+static uint8_t recipe[STARTERBELL_VALUE_MOST], higher[STARTERBELL_VALUE_MOST];
 static uint8_t addresses[4 * (2 + 128)];
 static uint8_t newcomer[16], head[64];
 static size_t newcomer_length, head_length;
@@ -55,6 +55,21 @@ static void make_addresses(void) {
     }
 }
 
+/* A value that is as long as it can be, with as many setpoints: the note is what they leave room for. */
+static void make_recipe(uint8_t value[STARTERBELL_VALUE_MOST], uint64_t sequence) {
+    static const uint8_t note[STARTERBELL_VALUE_MOST];
+    static struct starterbell_setpoint setpoints[STARTERBELL_SETPOINTS_MOST];
+    struct starterbell_recipe_written bare;
+    unsigned i;
+    for (i = 0; i < STARTERBELL_SETPOINTS_MOST; i++) {
+        setpoints[i].turn = STARTERBELL_TURN_MOST - STARTERBELL_SETPOINTS_MOST + i;
+        setpoints[i].trim = STARTERBELL_TRIM_MOST;
+    }
+    bare = starterbell_write_recipe(value, STARTERBELL_VALUE_MOST, note, 0, setpoints, STARTERBELL_SETPOINTS_MOST, sequence);
+    must("a recipe", starterbell_write_recipe(value, STARTERBELL_VALUE_MOST, note, STARTERBELL_VALUE_MOST - bare.length, setpoints, STARTERBELL_SETPOINTS_MOST,
+        sequence).rule, STARTERBELL_RECIPE_WRITTEN);
+}
+
 /* Twenty contacts in each bucket, as long as a bucket has as many places: the first differing bit from our place says the bucket, the last bits say who. */
 static void make_contacts(void) {
     unsigned bucket, who;
@@ -74,6 +89,8 @@ static void make_contacts(void) {
 /* Every slot holds a key of its own. */
 static void make_records(void) {
     unsigned i;
+    make_recipe(recipe, 7);
+    make_recipe(higher, 8);
     memset(records, 0, sizeof records);
     for (i = 0; i < STARTERBELL_RECORD_SLOTS_MOST - 1; i++) {
         char name[32];
