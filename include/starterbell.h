@@ -38,9 +38,14 @@
      bytes are; but nothing is promised about its nearest contacts, since places that are stored aren't hashed again, nor about its values, which aren't judged
      again.
      Bytes are for the version that wrote them (STARTERBELL_VERSION), so save that with them: another may have other limits or another layout.
+     Version 0.1 laid records out in slots of 2,184 bytes, which this one doesn't read: lent as they are, they are other bytes, and calls give 0, or find some and not
+     others. Find each record in the old layout and put it into cleared memory, which starterbell_older.h does: a put judges it, so what is promised of memory that was
+     cleared once and changed by calls alone holds of what comes out. What a put refuses, as a record from before a rule on recipes (9), is told, and stands in the old
+     memory as before. The box, contacts and lookups of version 0.1 are laid out as they are here.
 
-   Beside this header there are three, with functions in C over these: starterbell_box.h, which takes a box, a connection and a lookup as structs and answers with
-   structs; starterbell_recipe.h, which writes recipes; and starterbell_names.h, which has the refusals' texts. */
+   Beside this header there are four, with functions in C over these: starterbell_box.h, which takes a box, a connection and a lookup as structs and answers with
+   structs; starterbell_recipe.h, which writes recipes; starterbell_names.h, which has the refusals' texts; and starterbell_older.h, which carries records over from
+   memory of version 0.1. */
 #ifndef STARTERBELL_H
 #define STARTERBELL_H
 

@@ -9,6 +9,7 @@ mod connection;
 pub mod lookup;
 pub mod message;
 mod node;
+pub mod older;
 mod peer;
 #[allow(unsafe_code)]
 pub mod raw;
@@ -21,5 +22,6 @@ pub use connection::{Connection, Event, Received, Side};
 pub use lookup::Lookup;
 pub use message::Message;
 pub use node::{Node, Probed, Room, Seen, Settled};
+pub use older::CarriedOver;
 pub use peer::{Contact, Mode, Peer};
 pub use refusal::Refusal;

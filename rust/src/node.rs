@@ -100,7 +100,10 @@ pub enum Settled {
 /// *What is promised.* A box that is restored has the same memory, so that every call answers as though nothing had happened. What is torn, cut short, of another kind
 /// or changed by accident is refused with [`Refusal::OutOfForm`] (0), and nothing is changed. A sum over the bytes tells; it is no signature. Who makes up bytes in form
 /// with a right sum gets a box on which every call still returns and stays inside its memory, and nothing else is promised of what is in it.
-/// Saved bytes are for the version that wrote them, of this crate and of the library that it links.
+///
+/// *Versions.* Saved bytes are for the version that wrote them, of this crate and of the library that it links. This one also takes what version 0.1 saved, whose values
+/// had at most 2,048 bytes: [`Node::restore_older`] puts its records anew, and says which of them were refused; [`Node::carry_over`] does that for record memory that
+/// a host laid out itself.
 #[derive(Clone)]
 pub struct Node {
     me: Box<[u8]>,
@@ -130,18 +133,24 @@ impl Node {
         saved::pack(saved::BOX, &[&self.me, &self.contacts, &self.records])
     }
 
-    /// A box as it was when it was [saved](Node::save). Refused with 0 where the bytes aren't a save of a box, or not as it was written.
+    /// A box as it was when it was [saved](Node::save). Refused with 0 where the bytes aren't a save of a box, or not as it was written; a save of version 0.1 is for
+    /// [`restore_older`](Node::restore_older).
     ///
     /// Stack: as for [`nearest`](Node::nearest), which tests the form of the contacts.
     pub fn restore(saved: &[u8]) -> Result<Node, Refusal> {
         let [me, contacts, records] = saved::unpack(saved::BOX, saved)?;
-        if !(is_started(me) && are_slots(contacts, raw::CONTACT, raw::MOST_CONTACTS) && are_slots(records, raw::RECORD, raw::MOST_RECORDS)) {
+        Node::of(me, contacts, records.into())
+    }
+
+    /// The box of which these are the bytes, where they are in form.
+    pub(crate) fn of(me: &[u8], contacts: &[u8], records: Box<[u8]>) -> Result<Node, Refusal> {
+        if !(is_started(me) && are_slots(contacts, raw::CONTACT, raw::MOST_CONTACTS) && are_slots(&records, raw::RECORD, raw::MOST_RECORDS)) {
             return Err(Refusal::OutOfForm);
         }
         // these change nothing, and test the form of what they are lent first
         answer(raw::nearest(me, contacts, b"any key", &mut []))?;
-        answer(raw::find(records, b"any key", &mut []))?;
-        Ok(Node { me: me.into(), contacts: contacts.into(), records: records.into(), reply: vec![0; raw::REPLY].into() })
+        answer(raw::find(&records, b"any key", &mut []))?;
+        Ok(Node { me: me.into(), contacts: contacts.into(), records, reply: vec![0; raw::REPLY].into() })
     }
 
     /// The box's own bytes, as the exported functions take them.
@@ -401,6 +410,6 @@ fn is_started(me: &[u8]) -> bool {
 }
 
 /// Whether these are whole slots, and no more than are used.
-fn are_slots(bytes: &[u8], size: usize, most: usize) -> bool {
+pub(crate) fn are_slots(bytes: &[u8], size: usize, most: usize) -> bool {
     bytes.len() % size == 0 && bytes.len() / size <= most
 }
