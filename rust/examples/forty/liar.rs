@@ -12,7 +12,7 @@ pub enum Trick {
     MadeUp,
     /// Sends broken bytes.
     Broken,
-    /// Sends recipes that don't check, or that are of another key.
+    /// Sends recipes that don't check, that are cut short, or that are of another key.
     BadRecipes,
     /// Sends the first version of a recipe, whatever it was told since.
     OldRecipes,
@@ -113,10 +113,11 @@ fn broken(rng: &mut Rng) -> Vec<u8> {
 /// It would outrank every other recipe, but its trims leap from 0 to 9,000.
 const LEAPER: [u8; 22] = [0, 0, 1, 0xd0, 0x8c, 1, 22, 0, 0, 0, 2, 0, 1, 0, 255, 255, 255, 255, 255, 255, 255, 255];
 
-/// A record whose value doesn't check, or whose key isn't the one that was asked for.
+/// A record whose value doesn't check, of which the start alone is sent, or whose key isn't the one that was asked for.
 fn bad_recipe(honest: &Message, rng: &mut Rng) -> Vec<u8> {
     let noise = rng.bytes::<64>();
-    let value = if rng.below(2) == 0 { &LEAPER[..] } else { &noise };
+    let start = honest.record().map_or(&noise[..], |record| &record.value[..record.value.len() * 2 / 3]);
+    let value = [&LEAPER[..], &noise, start][rng.below(3)];
     let key = honest.record().map_or(&b"/wind/another"[..], |record| record.key);
     written(Draft { record: Some(Record { key, value }), ..Draft::new(Kind::GetValue) })
 }

@@ -21,12 +21,13 @@ use std::path::{Path, PathBuf};
 use std::process::ExitCode;
 use std::time::{Duration, Instant};
 use tally::Tally;
-use world::{Phase, World};
+use world::{Phase, World, LONG};
 
 const HELP: &str = "\
 usage: forty [--tcp] [--seed N] [--benches N] [--svg FILE]
 
 Forty boxes join over time, put winding recipes at the boxes nearest to their keys, put newer versions, and then every honest one finds every recipe.
+One in five honest ones makes cello strings, whose recipes have over 200 setpoints and over 2,048 bytes.
 One in eight never answers; one in eight lies: it makes up peers, sends broken bytes, recipes that don't check or are old, or more than it was asked for.
 A box marks as doubtful who left a request unanswered, and sends nobody there until it is seen again. All of it then runs once more with boxes that mark
 nobody, so that the summary can say how many requests to silent boxes the marks save.
@@ -179,6 +180,7 @@ fn summary(wanted: &Wanted, world: &World, trusting: &World, took: Duration) -> 
     let lines = [
         format!("{}; {carried}, seed {}", kinds(world), wanted.seed),
         format!("recipes    {} in two versions, {} puts accepted; {} finds by {} benches", world.recipes(), tally.stored, world.found(), world.honest()),
+        format!("longest    {}", longest(&world.long_recipes())),
         format!("lookups    {} begun, {} complete, {} cut short", tally.lookups, tally.complete, tally.cut_short),
         format!("requests   {each:.1} for each lookup, at most {}; {} of all requests unanswered", tally.most_requests, tally.failures),
         format!("dead       {}", dead(tally.dead, trusting.tally.dead)),
@@ -204,6 +206,13 @@ fn summary(wanted: &Wanted, world: &World, trusting: &World, took: Duration) -> 
 fn dead(with: u64, without: u64) -> String {
     let saved = if with < without { format!("{} saved", without - with) } else { "none saved".into() };
     format!("{with} requests to silent benches; {without} where nobody is marked as doubtful: {saved}")
+}
+
+/// The long recipes, by their setpoints and bytes.
+fn longest(long: &[(usize, usize)]) -> String {
+    let most = |size: fn(&(usize, usize)) -> usize| long.iter().map(size).max().unwrap_or_default();
+    let (setpoints, bytes) = (most(|size| size.0), most(|size| size.1));
+    format!("{} recipes of cello strings with over {} setpoints and {} bytes, up to {setpoints} and {bytes}", long.len(), LONG.0, LONG.1)
 }
 
 fn agreement(world: &World) -> String {

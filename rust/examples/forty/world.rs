@@ -8,13 +8,17 @@ use crate::net::Net;
 use crate::rng::Rng;
 use crate::tally::{Around, Tally};
 use starterbell::message::Record;
-use starterbell::recipe::{Recipe, Setpoint};
+use starterbell::recipe::{Recipe, Setpoint, SETPOINTS_MAX, VALUE_MAX};
 use starterbell::{Node, Peer, Refusal, Room};
 use std::collections::BTreeSet;
 use std::time::{Duration, Instant};
 
 /// Each honest bench owns so many recipes.
 const RECIPES_EACH: usize = 2;
+/// One in so many honest benches makes cello strings, the first of them too.
+const CELLO_MAKERS: usize = 5;
+/// A cello string's recipe has more setpoints and more bytes than these, the most that version 0.1 took.
+pub const LONG: (usize, usize) = (200, 2_048);
 /// A run that takes longer has failed.
 const LONGEST: Duration = Duration::from_secs(300);
 
@@ -92,6 +96,13 @@ impl World {
 
     pub fn recipes(&self) -> usize {
         self.recipes.len()
+    }
+
+    /// The setpoints and bytes of each long recipe, as it is to be found.
+    pub fn long_recipes(&self) -> Vec<(usize, usize)> {
+        let newer = self.recipes.iter().map(|recipe| &recipe.versions[1]);
+        let sizes = newer.filter_map(|value| Some((Recipe::from_value(value).ok()?.setpoints.len(), value.len())));
+        sizes.filter(|(setpoints, bytes)| *setpoints > LONG.0 && *bytes > LONG.1).collect()
     }
 
     pub fn silent(&self) -> usize {
@@ -249,16 +260,31 @@ fn roles(count: usize, rng: &mut Rng) -> Vec<Role> {
     roles
 }
 
+/// The recipe of a violin string or of a cello string. The first of all is as long as a recipe can be.
 fn make_recipe(n: usize, owner: usize, rng: &mut Rng) -> Result<Owned, Refusal> {
-    const STRINGS: [&str; 4] = ["e", "a", "d", "g"];
-    let key = format!("/wind/bench-{owner}/{}-string", STRINGS[n % STRINGS.len()]).into_bytes();
+    let cello = n / RECIPES_EACH % CELLO_MAKERS == 0;
+    let string = if cello { ["cello-c", "cello-g", "cello-d", "cello-a"] } else { ["e", "a", "d", "g"] }[n % 4];
+    let key = format!("/wind/bench-{owner}/{string}-string").into_bytes();
     let mut version = |sequence| {
-        let mut trim = 0;
-        let setpoints = (0..1 + rng.below(60)).map(|n| {
-            trim = (trim + rng.below(10_001) as i32 - 5_000).clamp(-20_000, 20_000);
-            Setpoint { turn: n as u32 * 90 + rng.below(90) as u32, trim }
-        });
-        Recipe { note: format!("bench {owner}, version {sequence}").into_bytes(), setpoints: setpoints.collect(), sequence }.to_value()
+        let (count, bytes) = match (n, cello) {
+            (0, _) => (SETPOINTS_MAX, VALUE_MAX),
+            (_, true) => (LONG.0 + 1 + rng.below(SETPOINTS_MAX - LONG.0), LONG.1 + 1 + rng.below(VALUE_MAX - LONG.1)),
+            (_, false) => (1 + rng.below(60), 0),
+        };
+        let mut recipe = Recipe { note: format!("bench {owner}, version {sequence}").into_bytes(), setpoints: some_setpoints(count, rng), sequence };
+        // the note is what brings it to as many bytes
+        let missing = bytes.saturating_sub(recipe.to_value()?.len());
+        recipe.note.resize(recipe.note.len() + missing, b'.');
+        recipe.to_value()
     };
     Ok(Owned { owner, key, versions: [version(1)?, version(2)?] })
+}
+
+fn some_setpoints(count: usize, rng: &mut Rng) -> Vec<Setpoint> {
+    let mut trim = 0;
+    let setpoint = |n| {
+        trim = (trim + rng.below(10_001) as i32 - 5_000).clamp(-20_000, 20_000);
+        Setpoint { turn: n as u32 * 90 + rng.below(90) as u32, trim }
+    };
+    (0..count).map(setpoint).collect()
 }
