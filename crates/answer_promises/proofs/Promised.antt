@@ -34,7 +34,7 @@ use Rattle.record_slots.proofs.Laying.{key-least, key-most}
 use Rattle.records_history.specs.History.{Has, got}
 use Rattle.records_history.proofs.Stays.{offer-form, put-is, put-form as put-kept}
 use Rattle.records_history.proofs.Holding.{held-key, held-found}
-use Rattle.records_history.proofs.Longer.{taken-form, taken-got}
+use Rattle.records_history.proofs.Longer.{taken-form, taken-got, refused-before}
 use Rattle.wire.specs.Items.{num, minimal, written, written1, single, repeated}
 use Rattle.wire_put.proofs.Digits.{minimal-one, minimal-three}
 use Rattle.wire_put.proofs.Putting.{number-length, single-full, bytes-short}
@@ -43,7 +43,7 @@ use Rattle.pieces.specs.Writable.{peerFits, heldFits, recordWith, writable}
 use Rattle.message.specs.View.{fieldsOf, readingOf}
 use Rattle.message.specs.declared.Reading.{Reading}
 use Rattle.message.specs.declared.Reading.the-variants as read
-use Rattle.pieces.proofs.Sizes.{message-length, held-most, entries-most}
+use Rattle.pieces.proofs.Sizes.{message-length, held-most, entries-most, echo-most}
 use Rattle.message.proofs.Meaning.{kind-meant}
 use Rattle.round_trip.proofs.RoundTrip.{round-trip}
 use Rattle.message.specs.Kinds.{putValue, getValue, findNode, ping, keyFits}
@@ -53,14 +53,14 @@ use Rattle.replies.specs.Lent.{Lent, withRecords}
 use Rattle.replies.specs.Verdicts.{Verdict, replies, refuses, keyed, echoed, putVerdict, putAfter, Dealt, refused, replied, byVerdict}
 use Rattle.answer.specs.Answers.{verdictOf, recordsAfter, byRequest, byReading, dealOf}
 use Rattle.answer.proofs.Serving.{deal-contacts}
-use Rattle.answer_promises.specs.Promises.{RefusedChangesNothing, ReadsBack, Roomed, RepliesReadBack, AnsweredByVerdict, AnsweredByFields, SentAsTyped, Serves, HeldIsServed, GivenWhole, EntryIsPeer, ContactsStay, RecordsStayInForm}
+use Rattle.answer_promises.specs.Promises.{RefusedChangesNothing, ReadsBack, Roomed, RepliesReadBack, AnsweredByVerdict, AnsweredByFields, SentAsTyped, Serves, HeldIsServed, GivenWhole, RefusedWhenSent, EntryIsPeer, ContactsStay, RecordsStayInForm}
 use Rattle.replies.specs.declared.Answered.the-variants.{Reply, Refused}
 use Rattle.entries.proofs.Entries.{entry-fits}
 use Rattle.replies.proofs.Runs.{entries-fit}
 use Rattle.replies.proofs.Whole.{record-fits, nearest-few}
 use Rattle.replies.proofs.Serving.{held-lies, value-short, taken-fits}
 use Rattle.answer_promises.proofs.Shown.{shows-record}
-use Rattle.pieces.specs.Sizes.{mostPeerField, mostRecordField, mostReply}
+use Rattle.pieces.specs.Sizes.{mostPeerField, mostRecordField, mostEcho, mostReply}
 
 -- ---- a refusal
 verdict-refused : (v : Verdict) (after l : Lent) (r : Refusal) → byVerdict v after l .told ≡ Refused r → byVerdict v after l .left ≡ l
@@ -336,15 +336,21 @@ echo-held : (key value : List ℕ) → putValueReply key value .held ≡ some (r
 unfolding putValueReply
 echo-held key value = refl
 
+echo-short : (k key v : List ℕ) → putAnswer k key v ≡ store.Taken → length (encode (putValueReply key v)) ≤ mostEcho
+unfolding putValueReply heldFits recordWith
+echo-short k key v t =
+    let f = taken-fits k key v (sym (put-is k key v (taken-form k key v t) .0) ∙ t) in
+    echo-most (putValueReply key v) (omega arith) (f .1) (record-fits key v (f .1) (f .2)) refl refl
+
 pub given-whole : (me : peers.Peer) → GivenWhole me
-given-whole me = record { served = served; echoed = echo }
+given-whole me = record { served = served; echoed = echo; echo = echo-short }
   where
-    served : (who : peers.Peer) (body : List ℕ) (l : Lent) (m : Message) → length body ≤ mostBody → decode body ≡ some m → m .kind ≡ getValue
-        → leastReply ≤ length (l .reply) → (k v : List ℕ) → putAnswer k (m .key) v ≡ store.Taken
-        → Serves (dealOf me who body (withRecords l (putInto k (m .key) v))) (l .reply) (m .key) v
-    served who body l m w d e room k v t =
-        let form = taken-form k (m .key) v t in
-        held-is-served me who body (withRecords l (putInto k (m .key) v)) v m w d e (put-kept k (m .key) v form) (taken-got k (m .key) v t) room
+    served : (who : peers.Peer) (body : List ℕ) (l : Lent) (m : Message) (v : List ℕ) → length body ≤ mostBody → decode body ≡ some m → m .kind ≡ getValue
+        → leastReply ≤ length (l .reply) → putAnswer (l .records) (m .key) v ≡ store.Taken
+        → Serves (dealOf me who body (withRecords l (putInto (l .records) (m .key) v))) (l .reply) (m .key) v
+    served who body l m v w d e room t =
+        let k = l .records in
+        held-is-served me who body (withRecords l (putInto k (m .key) v)) v m w d e (put-kept k (m .key) v (taken-form k (m .key) v t)) (taken-got k (m .key) v t) room
 
     echo : (who : peers.Peer) (body : List ℕ) (l : Lent) (m : Message) (r : Record) → length body ≤ mostBody → decode body ≡ some m → m .kind ≡ putValue
         → m .held ≡ some r → r .key ≡ m .key → leastReply ≤ length (l .reply) → putAnswer (l .records) (m .key) (r .value) ≡ store.Taken
@@ -363,3 +369,6 @@ given-whole me = record { served = served; echoed = echo }
           held = echo-held (m .key) (r .value);
           shown = shows-record says (g .fits) (record { key = m .key; value = r .value }) (echo-held (m .key) (r .value));
         })
+
+pub refused-when-sent : RefusedWhenSent
+refused-when-sent k v plan echo e h = ap (λ (a : stored.Answer). echoed a echo) (refused-before [] k v plan e h .0)

@@ -1,9 +1,7 @@
 -- What a view of a reply shows. Assumes nothing.
-use Prim.Native.Nat.{ℕ}
 use mathlib.Core.Path.{_≡_, refl, sym, ap, _∙_}
 use mathlib.Core.Bool.{Bool, true, false}
-use mathlib.Core.Option.{none, some}
-use native.Mathlib.Omega.{arith}
+use mathlib.Core.Option.{some, Option·some-injective, Option·none-ne-some}
 use Rattle.message.specs.Message.{Record, Message, messageOf, encode}
 use Rattle.message.specs.View.{fieldsOf}
 use Rattle.message.proofs.Meaning.{all-meant}
@@ -15,12 +13,6 @@ use Rattle.parts.specs.Parts.{isView, positionsOf}
 use Rattle.parts.specs.Promises.{Meant}
 use Rattle.parts.proofs.Theorems.{the-readers, views-mean}
 use Rattle.answer_promises.specs.Promises.{ShowsRecord}
-
-some-is : {a b : Record} → some a ≡ some b → a ≡ b
-some-is e = cc
-
-none-is : {a : Record} → none ≡ some a → ⊥
-none-is e = let z : _≡_ {A = ℕ} 0 1 = cc in omega arith
 
 -- a message that can be written, with a record in it
 module _ (m : Message) (fits : writable m ≡ true) (r : Record) (h : m .held ≡ some r) where
@@ -42,5 +34,5 @@ module _ (m : Message) (fits : writable m ≡ true) (r : Record) (h : m .held �
   shows-record = go (positionsOf (encode m) .held .there) refl
     where
       go : (b : Bool) → positionsOf (encode m) .held .there ≡ b → ShowsRecord (encode m) (r .key) (r .value)
-      go false e = absurd (none-is (sym (meant .bare e) ∙ said))
-      go true e = let q = some-is (sym (meant .held e) ∙ said) in record { view = view; key = ap (λ (x : Record). x .key) q; value = ap (λ (x : Record). x .value) q }
+      go false e = absurd (Option·none-ne-some r (sym (meant .bare e) ∙ said))
+      go true e = let q = Option·some-injective _ r (sym (meant .held e) ∙ said) in record { view = view; key = ap (λ (x : Record). x .key) q; value = ap (λ (x : Record). x .value) q }

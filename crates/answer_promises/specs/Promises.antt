@@ -7,12 +7,16 @@ use mathlib.Core.Option.{some}
 use lib.ListN.{length, take, drop}
 use Rattle.limits.specs.Limits.{mostId, mostBody, leastReply, mostKind}
 use Rattle.refusal.specs.declared.Refusal.{Refusal}
+use Rattle.refusal.specs.declared.Refusal.the-variants.{BrokenRecipe}
+use Rattle.recipe.specs.Recipe.{recipeWithin}
 use Rattle.peer.specs.declared.Peer as peers
 use Rattle.peer.specs.Addresses.{keptOf}
 use Rattle.peer.specs.Peers.{idFits, peerOf}
-use Rattle.records.specs.Store.{inForm, putAnswer, putAfter}
+use Rattle.records.specs.Store.{isKey, inForm, judged, answerOf, putAnswer, putAfter}
+use Rattle.records.specs.declared.Plan.{Plan}
 use Rattle.records.specs.declared.Answer.the-variants.{Taken}
 use Rattle.records_history.specs.History.{Has, got}
+use Rattle.records_history.specs.Claims.{before, OverBefore}
 use Rattle.message.specs.Message.{Record, Message, messageOf, decode, encode, frame}
 use Rattle.pieces.specs.Writable.{writable}
 use Rattle.parts.specs.Parts.{isView, positionsOf, recordKeyBytes, recordValueBytes}
@@ -20,7 +24,7 @@ use Rattle.entries.specs.Entries.{peerEntry}
 use Rattle.replies.specs.Lent.{Lent, withRecords}
 use Rattle.message.specs.Kinds.{putValue, getValue}
 use Rattle.replies.specs.Replies.{putValueReply}
-use Rattle.replies.specs.Verdicts.{Verdict, replies, echoed, Dealt, byVerdict}
+use Rattle.replies.specs.Verdicts.{Verdict, replies, refuses, echoed, Dealt, byVerdict}
 use Rattle.answer.specs.Answers.{verdictOf, recordsAfter, dealOf}
 use Rattle.replies.specs.declared.Answered.the-variants.{Reply, Refused}
 
@@ -93,14 +97,21 @@ HeldIsServed me =
     → inForm (l .records) ≡ true → got (l .records) (m .key) ≡ Has u → leastReply ≤ length (l .reply) → Serves (dealOf me who body l) (l .reply) (m .key) u
 
 -- request iii, "nobody may read it short": a value that a put takes, however long, is given whole. In the reply to every GET_VALUE for its key, once it is put; and
--- in the echo of a PUT_VALUE that brings it. (By find: `TakenWhole`, crates/records_history.)
+-- in the echo of a PUT_VALUE that brings it, which has at most 3,342 bytes. (By find: `TakenWhole`, crates/records_history.)
 pub record GivenWhole (me : peers.Peer) : Type 0 where
-  pub served : (who : peers.Peer) (body : List ℕ) (l : Lent) (m : Message) → length body ≤ mostBody → decode body ≡ some m → m .kind ≡ getValue
-      → leastReply ≤ length (l .reply) → (k v : List ℕ) → putAnswer k (m .key) v ≡ Taken
-      → Serves (dealOf me who body (withRecords l (putAfter k (m .key) v))) (l .reply) (m .key) v
+  pub served : (who : peers.Peer) (body : List ℕ) (l : Lent) (m : Message) (v : List ℕ) → length body ≤ mostBody → decode body ≡ some m → m .kind ≡ getValue
+      → leastReply ≤ length (l .reply) → putAnswer (l .records) (m .key) v ≡ Taken
+      → Serves (dealOf me who body (withRecords l (putAfter (l .records) (m .key) v))) (l .reply) (m .key) v
   pub echoed : (who : peers.Peer) (body : List ℕ) (l : Lent) (m : Message) (r : Record) → length body ≤ mostBody → decode body ≡ some m → m .kind ≡ putValue
       → m .held ≡ some r → r .key ≡ m .key → leastReply ≤ length (l .reply) → putAnswer (l .records) (m .key) (r .value) ≡ Taken
       → Serves (dealOf me who body l) (l .reply) (m .key) (r .value)
+  pub echo : (k key v : List ℕ) → putAnswer k key v ≡ Taken → length (encode (putValueReply key v)) ≤ 3342
+
+-- "Boxes not yet changed refuse the longer value with 9", sent as typed: a PUT_VALUE gets what their store says to it (`RefusedBefore`, crates/records_history)
+abbrev pub RefusedWhenSent : Type 0
+RefusedWhenSent =
+    (k v : List ℕ) (store : Plan) (echo : Message) → isKey k ≡ true → OverBefore v
+    → echoed (answerOf (judged (recipeWithin before) k v store)) echo ≡ refuses BrokenRecipe
 
 -- the entry for us or the requester has the id and the usable addresses that were handed in
 abbrev pub EntryIsPeer : Type 0

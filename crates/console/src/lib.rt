@@ -138,7 +138,7 @@ fn usage(fd: i32) -> bool {
         )
         && put(
             fd,
-            b"The box is lent 12,320 bytes for contacts, 139,776 for records, 16,384 to receive and 16,387 to reply.\n",
+            b"The box is lent 12,320 bytes for contacts, 205,312 for records, 16,384 to receive and 16,387 to reply.\n",
         )
         && put(
             fd,

@@ -14,7 +14,7 @@ use Rattle.round_trip.proofs.Written.{written-is-read}
 use Rattle.lookup_runs.proofs.Theorems as lookups
 use Rattle.host_contacts.proofs.Claims as contacts
 use Rattle.host_calls.specs.Hosts.{ownId, lookupStart}
-use Rattle.answer_promises.proofs.Promised.{replies-read-back, answered-by-verdict, answered-by-fields, sent-as-typed, held-is-served, given-whole}
+use Rattle.answer_promises.proofs.Promised.{replies-read-back, answered-by-verdict, answered-by-fields, sent-as-typed, held-is-served, given-whole, refused-when-sent}
 use Rattle.cutting.proofs.Claims.{several, several-plainly, split, one-receive}
 use Rattle.node_promises.proofs.Doing.{message-done}
 use Rattle.node_promises.proofs.Giving.{box-calls}
@@ -87,8 +87,9 @@ third me w =
       sent = sent-as-typed me;
       blind = form-is-blind;
       whole = taken-whole;
-      given = given-whole me;
-      before = refused-before;
+      givenWhole = given-whole me;
+      refusedBefore = refused-before;
+      refusedWhenSent = refused-when-sent;
     }
 
 pub demands : Demands

@@ -52,7 +52,7 @@ use Rattle.replies.specs.Lent.{Lent, withRecords}
 use Rattle.replies.specs.Replies.{lastEntry}
 use Rattle.replies.specs.Verdicts.{replies}
 use Rattle.answer.specs.Answers.{verdictOf, dealOf}
-use Rattle.answer_promises.specs.Promises.{Roomed, ReadsBack, AnsweredByVerdict, AnsweredByFields, SentAsTyped, Serves, HeldIsServed, GivenWhole}
+use Rattle.answer_promises.specs.Promises.{Roomed, ReadsBack, AnsweredByVerdict, AnsweredByFields, SentAsTyped, Serves, HeldIsServed, GivenWhole, RefusedWhenSent}
 use Rattle.node.specs.declared.Answer.the-variants.{Reply, Refused}
 use Rattle.connections.specs.declared.Told.the-variants as nodeTold
 use Rattle.connections.specs.Box.{startOf, openOf, endConn}
@@ -286,10 +286,11 @@ pub record Third (me : Peer) : Type 0 where
   -- nor does 0 look into a value
   pub blind : FormIsBlind
   -- request iii, "nobody may read it short": what a put takes, typed or sent, is given to its last byte by find, in replies and in their views; and a box of before
-  -- the request refuses what is over its bounds
+  -- the request refuses what is over its bounds, typed or sent
   pub whole : TakenWhole
-  pub given : GivenWhole me
-  pub before : RefusedBefore
+  pub givenWhole : GivenWhole me
+  pub refusedBefore : RefusedBefore
+  pub refusedWhenSent : RefusedWhenSent
 
 -- ==== all three, of every box that a start gave
 abbrev pub Demands : Type 0

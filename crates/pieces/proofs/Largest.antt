@@ -1,11 +1,12 @@
 -- Each claim of specs/Claims.antt: the bounds are those of Sizes, and the largest pieces have as many bytes as the limits allow. Assumes nothing.
 use Prim.Native.Nat.{ℕ, zero, suc, _+_, _*_, _<_}
 use mathlib.Core.Path.{_≡_, refl, ap, _∙_}
-use mathlib.Core.List.{List, [], map, append-nil}
+use mathlib.Core.List.{List, [], _∷_, map, append-nil}
 use mathlib.Core.Bool.{true}
 use mathlib.Core.Option.{some}
 use native.Mathlib.Omega.{arith}
 use lib.ListN.{length, replicate, length-append}
+use lib.Dec.{leb}
 use Rattle.octets.specs.Search.{every, allOf}
 use Rattle.limits.specs.Limits.{mostValue}
 use Rattle.wire.specs.Items.{num, bytes, digits, minimal, tagged, written1, written, single, repeated}
@@ -100,9 +101,14 @@ echo-fits : EchoBody full-echo
 unfolding full-echo zeros heldFits
 echo-fits = record { kind = omega arith; key = omega arith; held = record-fits; closer = refl; providers = refl }
 
+limits : (r : Record) → recordFits r ≡ allOf (leb (length (r .key)) 128 ∷ leb (length (r .value)) 3072 ∷ [])
+unfolding recordFits
+limits r = refl
+
 pub claims : Claims
 claims =
     record {
+      record-limits = limits;
       peer = λ f h. record { most = λ p e. entry-most f p h e; one = (full-peer, peer-fits, peer-entry f h) };
       held = record { most = record-entry-most; one = (full-record, record-fits, record-entry) };
       reply = record { most = λ m b. reply-most m (b .kind) (b .key) (b .held) (b .closer) (b .twenty) (b .providers); one = (full-reply, reply-fits, reply-size) };

@@ -1,10 +1,11 @@
 -- The largest sizes of RULES, Messages: nothing within the limits is larger, and something is as large. proofs/Largest.antt shows each.
 use Prim.Native.Nat.{ℕ, _≤_, _<_}
 use mathlib.Core.Path.{_≡_}
-use mathlib.Core.List.{[]}
+use mathlib.Core.List.{[], _∷_}
 use mathlib.Core.Bool.{true}
 use lib.ListN.{length}
-use Rattle.octets.specs.Search.{every}
+use lib.Dec.{leb}
+use Rattle.octets.specs.Search.{every, allOf}
 use Rattle.limits.specs.Limits.{mostKey, mostKind}
 use Rattle.wire.specs.Items.{bytes, written1}
 use Rattle.message.specs.Message.{Peer, Record, Message, encodePeer, encodeRecord, encode}
@@ -24,7 +25,7 @@ pub record GetValueBody (m : Message) : Type 0 where
   pub twenty : length (m .closer) ≤ 20
   pub providers : m .providers ≡ []
 
--- that of PUT_VALUE's echo: a type, a key and a record
+-- that of PUT_VALUE's echo: a type, a key, a record
 pub record EchoBody (m : Message) : Type 0 where
   pub kind : m .kind ≤ mostKind
   pub key : length (m .key) ≤ mostKey
@@ -33,6 +34,8 @@ pub record EchoBody (m : Message) : Type 0 where
   pub providers : m .providers ≡ []
 
 pub record Claims : Type 0 where
+  -- "key 128, value 3,072": a record can be written exactly within these
+  pub record-limits : (r : Record) → recordFits r ≡ allOf (leb (length (r .key)) 128 ∷ leb (length (r .value)) 3072 ∷ [])
   -- "A peer is then at most 595 bytes with tag and length": as a field f, whose tag is one byte
   pub peer : (f : ℕ) → f < 16 → Largest (λ (p : Peer). peerFits p ≡ true) (λ p. length (written1 (bytes f (encodePeer p)))) 595
   -- a record 3,209

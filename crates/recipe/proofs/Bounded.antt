@@ -1,19 +1,23 @@
 -- How long a recipe may be. Assumes nothing.
-use Prim.Native.Nat.{ℕ, zero, suc, _+_, _-_, _*_, _/_, _%_, _≤_}
-use mathlib.Core.Path.{_≡_, refl, sym, ap, _∙_}
+use Prim.Native.Nat.{ℕ, zero, suc, _+_, _-_, _*_, _/_, _%_, _≤_, _<_}
+use mathlib.Core.Path.{_≡_, refl, sym, ap, ap₂, _∙_}
 use mathlib.Core.Bool.{Bool, true, false, cond, _&&_}
 use mathlib.Core.List.{List, [], _∷_, _++_}
 use native.Mathlib.Omega.{arith}
-use lib.ListN.{length, replicate}
+use lib.ListN.{length, take, drop, replicate}
 use lib.Dec.{ltb, leb, eqb}
+use lib.IntN.{ℤ}
 use borrow.Author.Tests.{le-leb, leb-true}
 use Rattle.octets.specs.Octets.{littleNumber}
 use Rattle.octets.specs.Search.{allOf}
-use Rattle.octets.proofs.Bools.{and-fails, all-head, all-rest}
+use Rattle.octets.proofs.Bools.{and-fails, all-none, all-one-more}
 use Rattle.recipe.specs.Limits.{trailerSize, formatOne}
-use Rattle.recipe.specs.Recipe.{trimOf, continued, varint, point, andThen, setpoints, inRange, noLeap, follows, rules, ruled, isList, distanceOf, countOf, formatOf, roomOf, Bounds, recipeWithin, ours, isRecipe}
-use Rattle.recipe.specs.Claims.{LongestRecipes, BoundsAlone}
-use Rattle.recipe.proofs.Trailer.{recipe-least, recipe-most, recipe-count}
+use Rattle.limits.specs.Limits.{mostValue, mostSetpoints}
+use Rattle.recipe.specs.declared.Point.{Point}
+use Rattle.recipe.specs.declared.Point.the-variants.{Is as pIs, Broken as pBroken}
+use Rattle.recipe.specs.Recipe.{Setpoint, Setpoints, These, NoList, onPoint, fromEnd, trimOf, zigzagOf, continued, varint, point, andThen, setpoints, inRange, noLeap, follows, rules, ruled, isList, distanceOf, countOf, formatOf, roomOf, Bounds, recipeWithin, ours, isRecipe}
+use Rattle.recipe.specs.Claims.{Counted, LongestRecipes, NotesAreFree, BoundsAlone}
+use Rattle.recipe.proofs.Trailer.{recipe-least, recipe-most, recipe-near, recipe-far, recipe-count, recipe-format, recipe-list}
 
 -- ---- bounds alone
 and-true : (b : Bool) → b ≡ (b && true)
@@ -55,7 +59,7 @@ longest : List ℕ
 longest = replicate 1984 0 ++ (pointsTo 400 ++ (0x40 ∷ 0x04 ∷ 0x00 ∷ 0x00 ∷ 0x90 ∷ 0x01 ∷ 0x01 ∷ 0x00 ∷ 0x07 ∷ 0x00 ∷ 0x00 ∷ 0x00 ∷ 0x00 ∷ 0x00 ∷ 0x00 ∷ 0x00 ∷ []))
 
 is-recipe : isRecipe longest ≡ true
-unfolding longest pointsTo littleNumber allOf trimOf continued varint point andThen setpoints inRange noLeap follows rules ruled isList distanceOf countOf formatOf roomOf recipeWithin isRecipe
+unfolding longest pointsTo littleNumber allOf trimOf zigzagOf continued varint point andThen setpoints inRange noLeap follows rules ruled isList distanceOf countOf formatOf roomOf recipeWithin isRecipe
 is-recipe = refl
 
 pub longest-recipes : LongestRecipes
@@ -65,3 +69,70 @@ longest-recipes = record {
   points = recipe-count;
   one = (longest, is-recipe, refl, refl);
 }
+
+-- ---- so many setpoints
+these-are : {ps qs : List Setpoint} → These ps ≡ These qs → ps ≡ qs
+these-are e = cc
+
+no-list : {ps : List Setpoint} → NoList ≡ These ps → ⊥
+no-list e = let z : _≡_ {A = ℕ} 0 1 = cc in omega arith
+
+-- what stands after a setpoint, and the setpoint before it
+one-more : (n turn : ℕ) (trim : ℤ) (x : Setpoints) → ((qs : List Setpoint) → x ≡ These qs → length qs ≡ n) → (ps : List Setpoint) → andThen turn trim x ≡ These ps → length ps ≡ suc n
+unfolding andThen
+one-more n turn trim (These qs) h ps e = ap length (sym (these-are e)) ∙ ap suc (h qs refl)
+one-more n turn trim NoList h ps e = absurd (no-list e)
+
+pub counted : Counted
+unfolding setpoints
+counted zero [] ps e = ap length (sym (these-are e))
+counted zero (b ∷ s) ps e = absurd (no-list e)
+counted (suc n) s ps e = go (counted n) (point s) e
+  where
+    go : ((t : List ℕ) (qs : List Setpoint) → setpoints n t ≡ These qs → length qs ≡ n) → (p : Point)
+        → onPoint p (λ turn trim k. andThen turn trim (setpoints n (drop k s))) NoList ≡ These ps → length ps ≡ suc n
+    go h (pIs turn trim k) q = one-more n turn trim (setpoints n (drop k s)) (h (drop k s)) ps q
+    go h pBroken q = absurd (no-list q)
+
+-- ---- a byte more before the note: every number of the trailer is read from the end
+module _ (b : ℕ) (v : List ℕ) where
+  same-end : (d e : ℕ) → d ≤ length v → e ≤ d → fromEnd d e (b ∷ v) ≡ fromEnd d e v
+  same-end d e h l =
+      let x : suc (length v) - d ≡ suc (length v - d) = omega arith in
+      let y : suc (length v) - e - (suc (length v) - d) ≡ length v - e - (length v - d) = omega arith in
+      ap₂ (λ (i j : ℕ). take i (drop j (b ∷ v))) y x
+
+  module _ (r : isRecipe v ≡ true) where
+    least : trailerSize ≤ length v
+    least = recipe-least v r
+
+    same-distance : distanceOf (b ∷ v) ≡ distanceOf v
+    unfolding distanceOf
+    same-distance = ap littleNumber (same-end 16 12 (omega (arith, least)) (omega arith))
+
+    same-count : countOf (b ∷ v) ≡ countOf v
+    unfolding countOf
+    same-count = ap littleNumber (same-end 12 10 (omega (arith, least)) (omega arith))
+
+    same-format : formatOf (b ∷ v) ≡ formatOf v
+    unfolding formatOf
+    same-format = ap littleNumber (same-end 10 8 (omega (arith, least)) (omega arith))
+
+    same-room : roomOf (b ∷ v) ≡ roomOf v
+    unfolding roomOf
+    same-room = ap (λ (d : ℕ). fromEnd d trailerSize (b ∷ v)) same-distance ∙ same-end (distanceOf v) trailerSize (recipe-far v r) (recipe-near v r)
+
+    pub note-is-free : length v < mostValue → isRecipe (b ∷ v) ≡ true
+    unfolding isRecipe recipeWithin
+    note-is-free l =
+        rw (same-distance, same-count, same-format, same-room)
+        (all-one-more _ _ (le-leb trailerSize (suc (length v)) (omega (arith, least)))
+        (all-one-more _ _ (le-leb (suc (length v)) mostValue l)
+        (all-one-more _ _ (le-leb trailerSize (distanceOf v) (recipe-near v r))
+        (all-one-more _ _ (le-leb (distanceOf v) (suc (length v)) (omega (arith, recipe-far v r)))
+        (all-one-more _ _ (le-leb (countOf v) mostSetpoints (recipe-count v r))
+        (all-one-more _ _ (recipe-format v r)
+        (all-one-more _ _ (recipe-list v r) all-none)))))))
+
+pub notes-are-free : NotesAreFree
+notes-are-free b v r l = note-is-free b v r l

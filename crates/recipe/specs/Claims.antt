@@ -2,7 +2,7 @@
 use Prim.Native.Nat.{ℕ, suc, _-_, _<_, _≤_}
 use mathlib.Core.Path.{_≡_}
 use mathlib.Core.Bool.{Bool, true, false, not, _&&_}
-use mathlib.Core.List.{List}
+use mathlib.Core.List.{List, _∷_}
 use lib.ListN.{length, getD}
 use lib.Dec.{ltb, leb}
 use lib.IntN.{ℤ, pos, natAbs, _-ℤ_}
@@ -35,11 +35,19 @@ LeapsAreRefused =
     (v : List ℕ) (ps : List Setpoint) (i : ℕ) → setpoints (countOf v) (roomOf v) ≡ These ps → suc i < length ps → trimStays ps i ≡ false → isRecipe v ≡ false
 
 -- ---- how long a recipe may be
+-- so many setpoints are as many
+abbrev pub Counted : Type 0
+Counted = (n : ℕ) (s : List ℕ) (ps : List Setpoint) → setpoints n s ≡ These ps → length ps ≡ n
+
 -- "A value has 16 to 3,072 bytes", "u16 count, at most 400": no recipe has more, and there is one that has as many of both
 pub record LongestRecipes : Type 0 where
   pub bytes : (v : List ℕ) → isRecipe v ≡ true → (16 ≤ length v) × (length v ≤ 3072)
   pub points : (v : List ℕ) → isRecipe v ≡ true → countOf v ≤ 400
   pub one : (v : List ℕ) × (isRecipe v ≡ true) × (length v ≡ 3072) × (countOf v ≡ 400)
+
+-- and every length between: a note may have any byte more before it
+abbrev pub NotesAreFree : Type 0
+NotesAreFree = (b : ℕ) (v : List ℕ) → isRecipe v ≡ true → length v < 3072 → isRecipe (b ∷ v) ≡ true
 
 -- lower bounds refuse what is over them, and nothing else: every other rule is the same
 abbrev pub BoundsAlone : Type 0
@@ -51,7 +59,9 @@ BoundsAlone =
 pub record Claims : Type 0 where
   pub by-neighbours : ByNeighbours
   pub leaps-are-refused : LeapsAreRefused
+  pub counted : Counted
   pub longest-recipes : LongestRecipes
+  pub notes-are-free : NotesAreFree
   pub bounds-alone : BoundsAlone
   -- the rank orders all values: of two that differ exactly one ranks higher; none ranks higher than itself; rank goes over
   pub rank-total : (a b : List ℕ) → (a ≡ b → ⊥) → outranks a b ≡ not (outranks b a)

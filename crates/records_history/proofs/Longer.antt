@@ -11,12 +11,17 @@ use borrow.Author.Tests.{lt-leb}
 use Rattle.octets.proofs.Bools.{either, and-off, and-fails}
 use Rattle.recipe.specs.Recipe.{countOf, recipeWithin, ours, isRecipe}
 use Rattle.recipe.proofs.Bounded.{bounds-alone}
-use Rattle.records.specs.Store.{inForm, answerOf, afterOf, putAnswer, putAfter}
+use Rattle.records.specs.Store.{slotBytes, header, inForm, answerOf, afterOf, putAnswer, putAfter}
 use Rattle.records.specs.declared.Answer.the-variants.{Taken}
 use Rattle.records_history.specs.History.{Has, got, taken, accepts, offered}
-use Rattle.records_history.specs.Claims.{TakenWhole, before, Longer, RefusedBefore}
+use Rattle.records_history.specs.Claims.{LengthInSlot, TakenWhole, before, OverBefore, RefusedBefore}
 use Rattle.records_history.proofs.Stays.{put-form, step-taken}
 use Rattle.records_history.proofs.Holding.{held-is-found, put-told}
+
+-- ---- laid out
+pub length-in-slot : LengthInSlot
+unfolding slotBytes header
+length-in-slot k v = (refl, refl)
 
 -- ---- found whole
 pub taken-form : (t k v : List ℕ) → putAnswer t k v ≡ Taken → inForm t ≡ true
@@ -31,7 +36,7 @@ pub taken-whole : TakenWhole
 taken-whole t k v e = held-is-found .found (putAfter t k v) k v (put-form t k v (taken-form t k v e)) (taken-got t k v e)
 
 -- ---- refused before
-over-bounds : (v : List ℕ) → Longer v → recipeWithin before v ≡ false
+over-bounds : (v : List ℕ) → OverBefore v → recipeWithin before v ≡ false
 unfolding isRecipe
 over-bounds v h =
     bounds-alone before ours (omega arith) (omega arith) v

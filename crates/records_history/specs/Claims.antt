@@ -1,16 +1,16 @@
--- What becomes of a store over any puts, and what it does with the value that it holds under a key. proofs/Stays.antt, Holding.antt and Blind.antt show each,
+-- What becomes of a store over any puts, and what it does with the value that it holds under a key. proofs/Stays.antt, Holding.antt, Blind.antt and Longer.antt show each,
 -- proofs/Claims.antt all of them.
-use Prim.Native.Nat.{ℕ, _+_, _*_, _<_, _≤_}
+use Prim.Native.Nat.{ℕ, _+_, _*_, _/_, _%_, _<_, _≤_}
 use mathlib.Core.Path.{_≡_}
 use mathlib.Core.Logic.{_⊎_}
 use mathlib.Core.Bool.{true, false, cond}
 use mathlib.Core.List.{List}
-use lib.ListN.{length}
+use lib.ListN.{length, getD}
 use Rattle.octets.specs.Octets.{part}
 use Rattle.refusal.specs.declared.Refusal.the-variants.{OutOfForm, BreaksRules, BrokenRecipe, Outranked, NoRecordSlot}
 use Rattle.recipe.specs.Recipe.{countOf, Bounds, recipeWithin, isRecipe, outranks}
 use Rattle.records.specs.Limits.{valueAt, slotSize}
-use Rattle.records.specs.Store.{slotsOf, slot, used, sizeOf, valueOf, isKey, holds, inForm, findOf, judged, answerOf, afterOf, putAnswer, putAfter}
+use Rattle.records.specs.Store.{slotsOf, slot, used, sizeOf, valueOf, slotBytes, isKey, holds, inForm, findOf, judged, answerOf, afterOf, putAnswer, putAfter}
 use Rattle.records.specs.declared.Found.the-variants.{Held, NotHeld}
 use Rattle.records.specs.declared.Plan.{Plan}
 use Rattle.records.specs.declared.Answer.the-variants.{Taken, Refused}
@@ -70,6 +70,10 @@ pub record PutTold : Type 0 where
 
 -- ---- longer recipes (request iii)
 
+-- a slot says how long its value is in bytes 2 and 3, the low byte first: 3,072 is 00 0C
+abbrev pub LengthInSlot : Type 0
+LengthInSlot = (k v : List ℕ) → (getD (slotBytes k v) 2 0 ≡ length v % 256) × (getD (slotBytes k v) 3 0 ≡ length v / 256)
+
 -- "nobody may read it short": every value that a put takes, however long, is found to its last byte
 abbrev pub TakenWhole : Type 0
 TakenWhole =
@@ -79,15 +83,15 @@ TakenWhole =
 abbrev pub before : Bounds
 before = record { bytes = 2048; points = 200 }
 
--- what is over them
-abbrev pub Longer : List ℕ → Type 0
-Longer v = (2048 < length v) ⊎ (200 < countOf v)
+-- what is over one of them
+abbrev pub OverBefore : List ℕ → Type 0
+OverBefore v = (2048 < length v) ⊎ (200 < countOf v)
 
--- "Boxes not yet changed refuse the longer value with 9" and store nothing, whatever is in their slots and however large these are: `store` is what such a box
--- makes of what it holds, and it isn't reached
+-- "Boxes not yet changed refuse the longer value with 9" and store nothing: what such a box makes of an offer once its memory is found in form. `store` is what it
+-- would make of it by its slots, however large these are; that isn't reached
 abbrev pub RefusedBefore : Type 0
 RefusedBefore =
-    (t k v : List ℕ) (store : Plan) → isKey k ≡ true → Longer v
+    (t k v : List ℕ) (store : Plan) → isKey k ≡ true → OverBefore v
     → let plan = judged (recipeWithin before) k v store in (answerOf plan ≡ Refused BrokenRecipe) × (afterOf t k v plan ≡ t)
 
 pub record Claims : Type 0 where
@@ -97,5 +101,6 @@ pub record Claims : Type 0 where
   pub found : HeldIsFound
   pub judged : JudgedFirst
   pub told : PutTold
+  pub length-in-slot : LengthInSlot
   pub whole : TakenWhole
   pub refused-before : RefusedBefore
