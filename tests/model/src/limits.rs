@@ -13,9 +13,9 @@ pub const ADDRESSES: usize = 4;
 /// What opens every record key; 1 to 122 bytes follow.
 pub const WIND: &[u8] = b"/wind/";
 pub const VALUE_LEAST: usize = 16;
-pub const VALUE: usize = 2_048;
+pub const VALUE: usize = 3_072;
 
-pub const SETPOINTS: usize = 200;
+pub const SETPOINTS: usize = 400;
 pub const TURN: u64 = 1_000_000;
 /// The largest trim in zigzag form: 20,000 millinewtons.
 pub const ZIGZAG: u64 = 40_000;
@@ -26,7 +26,8 @@ pub const LEAP: i64 = 5_000;
 pub const NEAREST: usize = 20;
 pub const CONTACT_SLOT: usize = 616;
 pub const CONTACT_SLOTS: usize = 5_120;
-pub const RECORD_SLOT: usize = 2_184;
+/// Eight bytes, among them the lengths; then room for a key and a value.
+pub const RECORD_SLOT: usize = 8 + KEY + VALUE;
 pub const RECORD_SLOTS: usize = 256;
 
 pub const CANDIDATES: usize = 256;

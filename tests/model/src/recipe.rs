@@ -1,4 +1,4 @@
-//! Recipes: "a value has 16 to 2,048 bytes: note, setpoints, 16-byte trailer."
+//! Recipes: "a value has 16 to 3,072 bytes: note, setpoints, 16-byte trailer."
 
 use crate::limits;
 use crate::wire::{minimal, read_varint};
@@ -64,16 +64,13 @@ fn low_first(bytes: &[u8]) -> u64 {
     bytes.iter().rev().fold(0, |sum, b| sum << 8 | u64::from(*b))
 }
 
-/// What a value says by all rules but that against leaps; none where it breaks one.
-fn read_with_leaps(value: &[u8]) -> Option<Recipe> {
-    if value.len() < limits::VALUE_LEAST || value.len() > limits::VALUE {
-        return None;
-    }
-    let (front, trailer) = value.split_at(value.len() - 16);
+/// What a value says by all rules but those on its length, on the number of its setpoints and on leaps; none where it breaks one.
+pub fn read_of_any_size(value: &[u8]) -> Option<Recipe> {
+    let (front, trailer) = value.split_at(value.len().checked_sub(16)?);
     let distance = low_first(&trailer[0..4]);
     let count = low_first(&trailer[4..6]);
     let format = low_first(&trailer[6..8]);
-    if distance < 16 || distance > value.len() as u64 || count > limits::SETPOINTS as u64 || format != 1 {
+    if distance < 16 || distance > value.len() as u64 || format != 1 {
         return None;
     }
     let (note, list) = front.split_at(value.len() - distance as usize);
@@ -82,6 +79,14 @@ fn read_with_leaps(value: &[u8]) -> Option<Recipe> {
         return None;
     }
     Some(Recipe { note: note.to_vec(), setpoints, sequence: low_first(&trailer[8..16]) })
+}
+
+/// What a value says by all rules but that against leaps; none where it breaks one.
+fn read_with_leaps(value: &[u8]) -> Option<Recipe> {
+    if value.len() < limits::VALUE_LEAST || value.len() > limits::VALUE {
+        return None;
+    }
+    read_of_any_size(value).filter(|recipe| recipe.setpoints.len() <= limits::SETPOINTS)
 }
 
 /// By how much each trim differs from the one before it in the list, however far apart their turns.

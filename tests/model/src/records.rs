@@ -1,4 +1,4 @@
-//! The record store on lent bytes. A slot has 2,184: key length (0: free), a zero, value length (low byte first), four zeros, key, value.
+//! The record store on lent bytes. A slot has 3,208: key length (0: free), a zero, value length (low byte first), four zeros, key, value.
 
 use crate::limits;
 use crate::recipe;
@@ -6,7 +6,7 @@ use crate::Refusal;
 use std::collections::BTreeSet;
 
 const KEY_AT: usize = 8;
-const VALUE_AT: usize = 136;
+const VALUE_AT: usize = KEY_AT + limits::KEY;
 
 /// "The six bytes /wind/ open every record key, with 1 to 122 more."
 pub fn is_key(key: &[u8]) -> bool {
@@ -43,7 +43,7 @@ pub fn entry(store: &[u8], i: usize) -> Result<Option<Entry<'_>>, Refusal> {
     }
 }
 
-/// All slots of a store in form, or 0: "a /wind/ key of 7 to 128 bytes and a value of 16 to 2,048, no key twice".
+/// All slots of a store in form, or 0: "a /wind/ key of 7 to 128 bytes and a value of 16 to 3,072, no key twice".
 pub fn entries(store: &[u8]) -> Result<Vec<Option<Entry<'_>>>, Refusal> {
     let all = (0..slots(store)).map(|i| entry(store, i)).collect::<Result<Vec<_>, _>>()?;
     let mut keys = BTreeSet::new();

@@ -174,10 +174,39 @@ fn the_largest_sizes() {
     let mut one = Vec::new();
     put_bytes(&mut one, 8, &encode_peer(&largest));
     assert_eq!(one.len(), 595);
-    let record = Some(Record { key: vec![3; 128], value: vec![4; 2_048] });
+    let record = Some(Record { key: vec![3; 128], value: vec![4; 3_072] });
+    let echo = Message { key: vec![3; 128], record: record.clone(), ..Message::default() };
+    assert_eq!(encode(&echo).len(), 2 + 131 + 3_209);
+    assert_eq!(write(&mut vec![0; limits::REPLY], &echo), Ok(3_342 + 2), "a prefix of two bytes");
     let reply = Message { kind: 1, record, closer: vec![largest; 20], ..Message::default() };
-    assert_eq!(encode(&reply).len(), 14_087);
-    assert_eq!(write(&mut vec![0; limits::REPLY], &reply), Ok(14_087 + 2), "a prefix of two bytes");
+    assert_eq!(encode(&reply).len(), 2 + 3_209 + 20 * 595);
+    assert_eq!(write(&mut vec![0; limits::REPLY], &reply), Ok(15_111 + 2), "a prefix of two bytes");
+    assert_eq!((limits::RECORD_SLOT, limits::RECORD_SLOTS * limits::RECORD_SLOT), (3_208, 821_248));
+}
+
+/// Request iii: the largest value comes out whole, beside 20 of the largest peers and as an echo.
+#[test]
+fn the_largest_replies() {
+    let (me, mut rng) = (me(), Rng::new(6));
+    let mut table: Vec<u8> = (0..20)
+        .flat_map(|n| {
+            let (place, id) = (place_in(&mut rng, &me.place, n), rng.bytes(64));
+            contacts::slot_bytes(&contacts::Contact { rank: 0, doubtful: false, place, id, addresses: vec![vec![2; 128]; 4] })
+        })
+        .collect();
+    let (key, value) = ([&b"/wind/"[..], &[b'k'; 122]].concat(), recipe::write(&recipe::Recipe { note: rng.bytes(3_056), ..Default::default() }));
+    let record = Some(Record { key: key.clone(), value: value.clone() });
+    let mut store = vec![0; limits::RECORD_SLOT];
+    let mut ask = |kind: u64, record: Option<Record>, due: usize| {
+        let (mut buffer, mut reply) = (vec![0; limits::BODY], vec![0; limits::REPLY]);
+        let mut lent = Lent { contacts: &mut table, records: &mut store, buffer: &mut buffer, reply: &mut reply };
+        let request = framed(&encode(&Message { kind, key: key.clone(), record, ..Message::default() }));
+        assert_eq!(receive(&me, &mut client(), &mut lent, &request).answer, Answer::Replied { length: 2 + due, sighting: None });
+        message::decode(&reply[2..2 + due]).expect("our own reply")
+    };
+    assert_eq!(ask(0, record.clone(), 3_342).record, record);
+    let served = ask(1, None, 15_111);
+    assert_eq!((served.record, served.closer.len()), (record, 20));
 }
 
 /// The last of these hold the record, in a store of one slot.

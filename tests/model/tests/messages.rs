@@ -163,7 +163,7 @@ fn recipes_read_back() {
         let value = gen::damaged_recipe(&mut rng);
         if let Some(r) = recipe::read(&value) {
             assert_eq!(recipe::write(&r), value, "a recipe has one writing");
-            assert!(r.setpoints.len() <= 200 && r.setpoints.iter().all(|s| s.turn <= 1_000_000 && s.trim.abs() <= 20_000));
+            assert!(value.len() <= 3_072 && r.setpoints.len() <= 400 && r.setpoints.iter().all(|s| s.turn <= 1_000_000 && s.trim.abs() <= 20_000));
             assert!(r.setpoints.windows(2).all(|w| w[0].turn < w[1].turn && (w[0].trim - w[1].trim).abs() <= 5_000));
             taken += 1;
         }
@@ -202,6 +202,44 @@ fn made_up_recipes_and_leapers() {
         cases.iter().for_each(|(case, is)| *met.entry(case).or_default() += usize::from(*is));
     }
     assert!(met.values().all(|n| *n >= 40), "{met:?}");
+}
+
+/// Both sides of request iii's limits come up, those of before too.
+#[test]
+fn made_up_values_of_all_sizes() {
+    let mut rng = Rng::new(19);
+    let mut met: BTreeMap<&str, usize> = BTreeMap::new();
+    for _ in 0..4_000 {
+        let (good, leaper, damaged) = (gen::recipe(&mut rng), gen::leaper(&mut rng), gen::damaged_recipe(&mut rng));
+        let (count, length) = (good.setpoints.len(), recipe::write(&good).len());
+        let large = recipe::read_of_any_size(&damaged).filter(|_| recipe::read(&damaged).is_none()).map_or(0, |r| r.setpoints.len());
+        let (read, written) = (decode(&gen::body(&mut rng)), gen::message_to_write(&mut rng));
+        let value_of = |m: &Message| m.record.as_ref().map_or(0, |r| r.value.len());
+        let cases = [
+            ("200 setpoints", count == 200),
+            ("201 setpoints", count == 201),
+            ("399 setpoints", count == 399),
+            ("400 setpoints", count == 400),
+            ("400 in 2,048 bytes or fewer", count == 400 && length <= 2_048),
+            ("400 in more", count == 400 && length > 2_048),
+            ("some number between", (202..399).contains(&count)),
+            ("2,048 bytes", length == 2_048),
+            ("2,049 bytes", length == 2_049),
+            ("3,071 bytes", length == 3_071),
+            ("3,072 bytes", length == 3_072),
+            ("some length between", (2_050..3_071).contains(&length)),
+            ("a leaper with 400", leaper.setpoints.len() == 400),
+            ("401 setpoints", large == 401 && damaged.len() <= 2_048),
+            ("401 in more", large == 401 && damaged.len() > 2_048),
+            ("3,073 bytes", damaged.len() == 3_073 && recipe::read_of_any_size(&damaged).is_some()),
+            ("3,072 read", read.as_ref().is_ok_and(|m| value_of(m) == 3_072)),
+            ("3,073 read", read.is_ok_and(|m| value_of(&m) == 3_073)),
+            ("3,072 to write", value_of(&written) == 3_072),
+            ("3,073 to write", value_of(&written) == 3_073),
+        ];
+        cases.iter().for_each(|(case, is)| *met.entry(case).or_default() += usize::from(*is));
+    }
+    assert!(met.values().all(|n| *n >= 20), "{met:?}");
 }
 
 #[test]

@@ -1,7 +1,7 @@
 //! Each refusal number, at its limits and in its order.
 
 use starterbell_model::contacts::{self, Contact, Newcomer, Seen, Settled};
-use starterbell_model::gen::{place_in, recipe_of_201, Rng};
+use starterbell_model::gen::{place_in, Rng};
 use starterbell_model::limits;
 use starterbell_model::lookup::{Candidate, Lookup, Mark, Next, Step};
 use starterbell_model::message::{self, encode, Message, Peer, Record, View};
@@ -162,7 +162,7 @@ fn refusal_0_of_records() {
         (0, vec![0, 7, 8, 128], vec![1, 6, 129, 255]),
         (1, vec![1, 255], vec![]),
         (2, vec![16, 17, 255], vec![0, 15]),
-        (3, vec![0, 7], vec![8, 9, 255]),
+        (3, vec![0, 7, 8, 11], vec![12, 13, 255]),
         (4, vec![9], vec![]),
         (8, vec![b'/'], vec![b'.', 0]),
         (13, vec![b'/'], vec![b'w']),
@@ -171,8 +171,10 @@ fn refusal_0_of_records() {
         assert!(good.iter().all(|b| one(&|s| s[at] = *b)), "byte {at}");
         assert!(bad.iter().all(|b| !one(&|s| s[at] = *b)), "byte {at}");
     }
-    assert!(one(&|s| s[2..4].copy_from_slice(&2_048u16.to_le_bytes())));
-    assert!(!one(&|s| s[2..4].copy_from_slice(&2_049u16.to_le_bytes())));
+    for (length, good) in [(15u16, false), (16, true), (2_048, true), (2_049, true), (3_071, true), (3_072, true), (3_073, false), (3_328, false)] {
+        assert_eq!(one(&|s| s[2..4].copy_from_slice(&length.to_le_bytes())), good, "{length}");
+    }
+    assert!(one(&|s| s[2..4].copy_from_slice(&[0x00, 0x0c])) && !one(&|s| s[2..4].copy_from_slice(&[0x01, 0x0c])), "3,072 and 3,073, low byte first");
     assert!(!one(&|s| s.copy_within(..limits::RECORD_SLOT, limits::RECORD_SLOT)), "a key twice");
     assert_eq!(records::find(&records::slot_bytes(b"/pk/eeee", &value(1, b"")), b"x"), Err(Refusal::OutOfForm));
 }
@@ -412,15 +414,71 @@ fn refusal_9() {
     assert!(!reads(&[0x80, 0, 0], 19, 1, 1) && !reads(&[0, 0x80, 0], 19, 1, 1) && !reads(&[0, 0x81, 0x80, 0], 20, 1, 1), "minimal");
     assert!(!reads(&[0x80], 17, 1, 1) && !reads(&[0], 17, 1, 1) && !reads(&[0, 0x80], 18, 1, 1), "inside the room");
     assert!(!reads(&[0xff; 12], 28, 1, 1), "a varint without end");
-    let of = |n: u64| recipe::write(&Recipe { setpoints: (0..n).map(|turn| Setpoint { turn, trim: 0 }).collect(), ..Recipe::default() });
-    assert!(recipe::read(&of(200)).is_some() && recipe::read(&recipe_of_201(1)).is_none());
-    for (length, good) in [(0, false), (15, false), (16, true), (2_048, true), (2_049, false)] {
-        let whole = value(1, &vec![0; 2_100]);
-        assert_eq!(recipe::read(&whole[whole.len() - length..]).is_some(), good, "{length}");
-        let asked = put(b"/wind/e", b"/wind/e", &whole[whole.len() - length..]);
-        let (_, answer) = Bench::new(Mode::Server, Side::Serving).hand(&asked);
-        assert_eq!(answer == Answer::Refused(Refusal::BrokenRecipe), !good, "{length}");
+}
+
+/// Offers a value, typed and sent: taken by both, held, found, served and echoed to its last byte; or refused by both with 9, and nothing has changed.
+fn typed_and_sent(value: &[u8], good: bool) {
+    let (key, mut bench) = (b"/wind/e", Bench::new(Mode::Client, Side::Serving));
+    let (asked, mut typed) = (put(key, key, value), bench.records.clone());
+    assert_eq!(records::put(&mut typed, key, value).err(), if good { None } else { Some(Refusal::BrokenRecipe) });
+    if !good {
+        assert_eq!((bench.refused(&asked), bench.is_shut(), bench.records), ((9, asked.len()), true, typed));
+        return;
     }
+    assert_eq!(bench.hand(&asked), (asked.len(), Answer::Replied { length: asked.len(), sighting: None }));
+    assert_eq!((&bench.reply[..asked.len()], &bench.records), (&asked[..], &typed), "the echo, and what is held");
+    assert_eq!(records::find(&typed, key), Ok(Some(records::Found { slot: 0, value: value.to_vec() })));
+    bench.hand(&request(&Message { kind: 1, key: key.to_vec(), ..Message::default() }));
+    let served = request(&Message { kind: 1, record: Some(Record { key: key.to_vec(), value: value.to_vec() }), ..Message::default() });
+    assert_eq!(bench.reply[..served.len()], served);
+}
+
+/// Request iii: 3,072 bytes at most, whatever they are.
+#[test]
+fn refusal_9_of_lengths() {
+    let whole = value(1, &(0..4_000).map(|i| (i % 251) as u8).collect::<Vec<_>>());
+    for (length, good) in [(0, false), (15, false), (16, true), (2_048, true), (2_049, true), (3_071, true), (3_072, true), (3_073, false), (4_016, false)] {
+        typed_and_sent(&whole[whole.len() - length..], good);
+    }
+}
+
+/// Request iii: 400 setpoints at most, in few bytes and in many.
+#[test]
+fn refusal_9_of_too_many_setpoints() {
+    let of = |n: u64, first: u64, apart: u64, trim: i64| {
+        recipe::write(&Recipe { setpoints: (0..n).map(|i| Setpoint { turn: first + apart * i, trim }).collect(), ..Recipe::default() })
+    };
+    for (n, good) in [(200, true), (201, true), (255, true), (256, true), (257, true), (399, true), (400, true), (401, false), (656, false)] {
+        typed_and_sent(&of(n, 0, 1, 0), good);
+    }
+    let longest = of(400, 16_384, 2_000, -20_000);
+    assert_eq!(longest.len(), 400 * 6 + 16, "a setpoint has six bytes at most");
+    typed_and_sent(&longest, true);
+    typed_and_sent(&of(401, 16_384, 2_000, -20_000), false);
+    let full = |more: usize| [vec![b'n'; 3_072 - longest.len() + more], longest.clone()].concat();
+    typed_and_sent(&full(0), true);
+    typed_and_sent(&full(1), false);
+    let mut miscounted = of(400, 0, 1, 0);
+    let count = miscounted.len() - 12;
+    assert_eq!(miscounted[count..count + 2], [0x90, 0x01]);
+    miscounted[count + 1] = 0;
+    typed_and_sent(&miscounted, false);
+}
+
+/// Request iii: of values as long as they may be, every byte counts for rank, and identical ones change nothing.
+#[test]
+fn long_values_are_ranked_to_their_last_byte() {
+    let of = |last: u8| value(7, &[&[b'n'; 3_055][..], &[last]].concat());
+    let (low, middle, high) = (of(1), of(2), of(3));
+    let mut store = vec![0; limits::RECORD_SLOT];
+    assert_eq!(records::put(&mut store, b"/wind/e", &middle), Ok(()));
+    let before = store.clone();
+    assert_eq!(records::put(&mut store, b"/wind/e", &low), Err(Refusal::Outranked));
+    assert_eq!(records::put(&mut store, b"/wind/e", &middle), Ok(()));
+    assert_eq!((store == before, store.len(), &store[..8]), (true, 3_208, &[7, 0, 0x00, 0x0c, 0, 0, 0, 0][..]));
+    assert_eq!(records::put(&mut store, b"/wind/e", &high), Ok(()));
+    assert_eq!(store, records::slot_bytes(b"/wind/e", &high));
+    assert_eq!((store[136], &store[136 + 3_056..]), (b'n', &high[3_056..]), "the value fills its room");
 }
 
 /// A value with these trims, the last of them at turn 1,000,000.
@@ -881,7 +939,7 @@ fn refusal_21() {
     assert!((0..6).all(|kind| writes(&Message { kind, ..Message::default() })));
     assert!(!writes(&Message { kind: 6, ..Message::default() }) && !writes(&Message { kind: 1 << 32, ..Message::default() }));
     assert!(writes(&Message { key: vec![1; 128], ..Message::default() }) && !writes(&Message { key: vec![1; 129], ..Message::default() }));
-    for (key, value, good) in [(0, 0, true), (128, 2_048, true), (129, 0, false), (0, 2_049, false)] {
+    for (key, value, good) in [(0, 0, true), (128, 2_048, true), (0, 2_049, true), (128, 3_072, true), (129, 0, false), (0, 3_073, false)] {
         assert_eq!(writes(&Message { record: Some(Record { key: vec![1; key], value: vec![2; value] }), ..Message::default() }), good);
     }
     for good in [peer(0, &[], 0), peer(64, &[128, 0, 1, 128], 3)] {

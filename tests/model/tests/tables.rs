@@ -16,7 +16,7 @@ fn start(rng: &mut Rng) -> (Me, Vec<Vec<u8>>) {
 #[test]
 fn made_up_memory_is_in_form() {
     let mut rng = Rng::new(21);
-    let (mut leapers, mut doubtful, mut trusted) = (0, 0, 0);
+    let (mut leapers, mut long, mut longest, mut doubtful, mut trusted) = (0, 0, 0, 0, 0);
     for round in 0..600 {
         let (me, ids) = start(&mut rng);
         let slots = rng.size(0, 120);
@@ -29,9 +29,12 @@ fn made_up_memory_is_in_form() {
         let slots = rng.size(0, 20);
         let store = gen::store(&mut rng, &keys, slots, clean);
         let held = records::entries(&store).expect("in form").into_iter().flatten();
-        leapers += held.filter(|e| keys.iter().any(|key| key == e.key) && recipe::is_leaper(e.value)).count();
+        let held: Vec<records::Entry> = held.filter(|e| keys.iter().any(|key| key == e.key)).collect();
+        leapers += held.iter().filter(|e| recipe::is_leaper(e.value)).count();
+        long += held.iter().filter(|e| e.value.len() > 2_048).count();
+        longest += held.iter().filter(|e| e.value.len() == 3_072).count();
     }
-    assert!(leapers > 100 && doubtful > 1_000 && trusted > 2_000, "{leapers} {doubtful} {trusted}");
+    assert!(leapers > 100 && long > 100 && longest > 40 && doubtful > 1_000 && trusted > 2_000, "{leapers} {long} {longest} {doubtful} {trusted}");
 }
 
 #[test]
@@ -39,6 +42,7 @@ fn spoiled_memory_gives_0_and_stays() {
     let mut rng = Rng::new(22);
     let mut spoiled_tables = 0;
     let mut spoiled_stores = 0;
+    let mut over_by_one = 0;
     for _ in 0..1_500 {
         let (me, ids) = start(&mut rng);
         let mut table = gen::spoiled_table(&mut rng, &me.place, &ids, 20);
@@ -61,9 +65,10 @@ fn spoiled_memory_gives_0_and_stays() {
             assert_eq!(records::find(&store, &keys[0]), Err(Refusal::OutOfForm));
             assert_eq!(store, before);
             spoiled_stores += 1;
+            over_by_one += usize::from(store.chunks_exact(limits::RECORD_SLOT).any(|slot| slot[0] != 0 && slot[2..4] == 3_073u16.to_le_bytes()));
         }
     }
-    assert!(spoiled_tables > 300 && spoiled_stores > 200, "{spoiled_tables} {spoiled_stores}");
+    assert!(spoiled_tables > 300 && spoiled_stores > 200 && over_by_one > 50, "{spoiled_tables} {spoiled_stores} {over_by_one}");
 }
 
 /// The table as the rules speak of it: buckets from head to tail, nothing of slots. A contact is an id, addresses, and whether it is doubtful.

@@ -171,25 +171,31 @@ pub fn store_damage(rng: &mut Rng, store: &[u8]) -> (usize, u8) {
     let base = rng.below(store.len() / limits::RECORD_SLOT) * limits::RECORD_SLOT;
     match rng.below(6) {
         0 => (base, *rng.pick(&[0, 1, 6, 7, 128, 129, 255])),
-        1 => (base + 2, rng.byte()),
-        2 => (base + 3, *rng.pick(&[0, 7, 8, 9, 255])),
+        // the value's length, of which 3,072 is 00 0C
+        1 => {
+            let any = rng.byte();
+            (base + 2, *rng.pick(&[0, 1, 15, 16, any]))
+        }
+        2 => (base + 3, *rng.pick(&[0, 7, 8, 11, 12, 12, 13, 255])),
         3 => (base + 8 + rng.below(6), rng.byte()),
         4 => (base + *rng.pick(&[1, 4, 5, 6, 7]), rng.byte()),
         _ => (base + rng.below(limits::RECORD_SLOT), rng.byte()),
     }
 }
 
-/// A store that is mostly out of form.
+/// A store that is mostly out of form: a slot stands twice, a value is too long, or a byte is changed.
 pub fn spoiled_store(rng: &mut Rng, keys: &[Vec<u8>], slots: usize) -> Vec<u8> {
     let count = slots.max(2);
     let clean = rng.one_in(2);
     let mut spoiled = store(rng, keys, count, clean);
     let (a, b) = (rng.below(count) * limits::RECORD_SLOT, rng.below(count) * limits::RECORD_SLOT);
-    if rng.one_in(3) {
-        spoiled.copy_within(a..a + limits::RECORD_SLOT, b);
-    } else {
-        let (at, byte) = store_damage(rng, &spoiled);
-        spoiled[at] = byte;
+    match rng.below(4) {
+        0 => spoiled.copy_within(a..a + limits::RECORD_SLOT, b),
+        1 => spoiled[a + 2..a + 4].copy_from_slice(&(limits::VALUE as u16 + *rng.pick(&[1, 1, 256])).to_le_bytes()),
+        _ => {
+            let (at, byte) = store_damage(rng, &spoiled);
+            spoiled[at] = byte;
+        }
     }
     spoiled
 }

@@ -1,12 +1,13 @@
 //! Messages, the ways to write them, and what is nearly one.
 
-use super::Rng;
+use super::{Rng, VALUE_BEFORE};
 use crate::limits;
 use crate::message::{encode, Message, Peer, Record};
 use crate::wire::{minimal, put_bytes};
 
 fn some_record(rng: &mut Rng) -> Record {
-    let (n, m) = (rng.size(0, limits::KEY), rng.size(0, 300));
+    let most = *rng.pick(&[300, 300, 300, limits::VALUE]);
+    let (n, m) = (rng.size(0, limits::KEY), rng.size(0, most));
     Record { key: rng.bytes(n), value: rng.bytes(m) }
 }
 
@@ -55,7 +56,10 @@ pub fn message_to_write(rng: &mut Rng) -> Message {
         0 => m.kind = *rng.pick(&[6, 7, 255, 256, u64::MAX]),
         1 => m.key = vec![7; rng.between(127, 130)],
         2 => m.record = Some(Record { key: vec![7; rng.between(127, 130)], value: vec![] }),
-        3 => m.record = Some(Record { key: vec![], value: vec![7; rng.between(2_047, 2_050)] }),
+        3 => {
+            let length = *rng.pick(&[limits::VALUE - 1, limits::VALUE, limits::VALUE + 1, limits::VALUE + 2, VALUE_BEFORE, VALUE_BEFORE + 1]);
+            m.record = Some(Record { key: vec![], value: vec![7; length] });
+        }
         4 => m.closer.push(Peer { id: vec![7; rng.between(63, 66)], ..Peer::default() }),
         5 => m.providers.push(Peer { addresses: vec![vec![1]; rng.between(3, 6)], ..Peer::default() }),
         6 => m.closer.push(Peer { addresses: vec![vec![1; rng.between(127, 130)]], ..Peer::default() }),
@@ -267,9 +271,13 @@ pub fn filled_body(m: &Message, length: usize) -> Vec<u8> {
     body
 }
 
-/// A body to be read: exact, loose, damaged or noise.
+/// A body to be read: exact, loose, damaged or noise. The reader has no limit for values.
 pub fn body(rng: &mut Rng) -> Vec<u8> {
-    let m = message(rng);
+    let mut m = message(rng);
+    if rng.one_in(30) {
+        let length = *rng.pick(&[limits::VALUE + 1, limits::VALUE + 1, 2 * limits::VALUE, limits::BODY - 200]);
+        m.record = Some(Record { key: vec![], value: rng.bytes(length) });
+    }
     if rng.one_in(30) {
         return filled_body(&m, *rng.pick(&[limits::BODY - 1, limits::BODY, limits::BODY, limits::BODY + 1, 65_536 + 10]));
     }

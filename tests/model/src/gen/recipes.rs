@@ -6,16 +6,31 @@ use crate::recipe::{self, Recipe, Setpoint};
 use crate::wire::minimal;
 use std::collections::BTreeSet;
 
-/// A recipe that keeps the rules, with turns, trims and their differences at their limits now and then.
+/// The limits before request iii. A box that isn't changed refuses what is just above them.
+pub const VALUE_BEFORE: usize = 2_048;
+const SETPOINTS_BEFORE: usize = 200;
+
+/// A recipe that keeps the rules, with turns, trims and their differences, its setpoints and its length at their limits now and then.
 pub fn recipe(rng: &mut Rng) -> Recipe {
-    let count = *rng.pick(&[0, 0, 1, 1, 2, 3, 10, 50, 199, 200]);
+    let count = some_count(rng);
     let trims = some_trims(rng, count, None);
     recipe_of(rng, &trims)
 }
 
+/// How many setpoints: mostly few, else as many as there may be or could be before request iii, about that, or any number between.
+fn some_count(rng: &mut Rng) -> usize {
+    match rng.below(14) {
+        0 => limits::SETPOINTS,
+        1 => limits::SETPOINTS - 1,
+        2 => SETPOINTS_BEFORE + rng.below(2),
+        3 => rng.between(SETPOINTS_BEFORE + 1, limits::SETPOINTS),
+        _ => *rng.pick(&[0, 0, 1, 1, 2, 3, 10, 50]),
+    }
+}
+
 /// What would be a recipe but for one leap, between any two neighbours.
 pub fn leaper(rng: &mut Rng) -> Recipe {
-    let count = *rng.pick(&[2, 2, 3, 3, 4, 10, 50, 200]);
+    let count = *rng.pick(&[2, 2, 3, 3, 4, 10, 50, limits::SETPOINTS]);
     let leap_to = rng.size(1, count - 1);
     let trims = some_trims(rng, count, Some(leap_to));
     recipe_of(rng, &trims)
@@ -23,23 +38,43 @@ pub fn leaper(rng: &mut Rng) -> Recipe {
 
 /// A recipe with these trims, whether or not they leap.
 fn recipe_of(rng: &mut Rng, trims: &[i64]) -> Recipe {
-    let mut turns = BTreeSet::new();
-    while turns.len() < trims.len() {
-        turns.insert(match rng.below(5) {
-            0 => *rng.pick(&[0, 1, 127, 128, 16_383, 16_384, 999_999, limits::TURN]),
-            1 => rng.below(300) as u64,
-            _ => rng.below(limits::TURN as usize + 1) as u64,
-        });
-    }
+    let turns = some_turns(rng, trims.len());
     let setpoints: Vec<Setpoint> = turns.into_iter().zip(trims).map(|(turn, trim)| Setpoint { turn, trim: *trim }).collect();
     let room = limits::VALUE - 16 - recipe::write_setpoints(&setpoints).len();
-    let n = if rng.one_in(20) { room } else { rng.size(0, room.min(40)) };
+    let n = note_length(rng, room);
     let sequence = match rng.below(4) {
         0 => rng.number(),
         1 => *rng.pick(&[0, 255, 256, u64::MAX]),
         _ => rng.below(6) as u64,
     };
     Recipe { note: rng.bytes(n), setpoints, sequence }
+}
+
+/// So many turns: any, or close together, so that as many setpoints as there may be have fewer bytes than a value could have before request iii.
+fn some_turns(rng: &mut Rng, count: usize) -> BTreeSet<u64> {
+    let most = if rng.one_in(3) { 2 * limits::SETPOINTS } else { limits::TURN as usize };
+    let mut turns = BTreeSet::new();
+    while turns.len() < count {
+        turns.insert(match rng.below(5) {
+            0 => *rng.pick(&[0, 1, 127, 128, 16_383, 16_384, 999_999, limits::TURN]),
+            1 => rng.below(300) as u64,
+            _ => rng.below(most + 1) as u64,
+        });
+    }
+    turns
+}
+
+/// The length of a note where there is so much room for one: mostly a short one, else one that makes the value as long as it may be or could be before
+/// request iii, or about that, or any.
+fn note_length(rng: &mut Rng, room: usize) -> usize {
+    let more = limits::VALUE - VALUE_BEFORE;
+    match rng.below(40) {
+        0..=1 => room,
+        2 => room.saturating_sub(1),
+        3 => room.saturating_sub(more - rng.below(2)),
+        4 => rng.between(0, room),
+        _ => rng.size(0, room.min(40)),
+    }
 }
 
 /// Trims that don't leap, but for the one with the number `leap_to`.
@@ -89,7 +124,7 @@ pub fn leaper_value(rng: &mut Rng) -> Vec<u8> {
     recipe::write(&leaper(rng))
 }
 
-/// A value of 2,048 bytes that is a recipe.
+/// A value of 3,072 bytes that is a recipe.
 pub fn largest_recipe(rng: &mut Rng) -> Vec<u8> {
     let mut made = recipe(rng);
     made.note.clear();
@@ -153,7 +188,11 @@ fn at_a_limit(rng: &mut Rng) -> Vec<u8> {
             of(vec![], [one(0, first), one(limits::TURN, second)].concat())
         }
         6 => of(vec![b'n'; 65_536 * over], vec![]),
-        0 => of(vec![], (0..limits::SETPOINTS + over).map(|turn| Setpoint { turn: turn as u64, trim: 0 }).collect()),
+        0 => {
+            // few bytes to a setpoint, or all six that it can have
+            let (first, apart, trim) = *rng.pick(&[(0, 1, 0), (16_384, 2_000, 20_000)]);
+            of(vec![], (0..limits::SETPOINTS + over).map(|i| Setpoint { turn: first + apart * i as u64, trim }).collect())
+        }
         1 => of(vec![b'n'; limits::VALUE - 16 + over], vec![]),
         2 => of(vec![], one(limits::TURN + over as u64, 0)),
         3 => of(vec![], one(0, 20_000 + over as i64)),
@@ -164,7 +203,7 @@ fn at_a_limit(rng: &mut Rng) -> Vec<u8> {
 
 /// A value that is nearly a recipe; by chance it may still be one.
 pub fn damaged_recipe(rng: &mut Rng) -> Vec<u8> {
-    if rng.one_in(12) {
+    if rng.one_in(4) {
         return at_a_limit(rng);
     }
     let good = recipe(rng);
@@ -174,10 +213,14 @@ pub fn damaged_recipe(rng: &mut Rng) -> Vec<u8> {
         0 => value.truncate(rng.below(end)),
         1 => value[end - 16] = value[end - 16].wrapping_add(*rng.pick(&[1, 255, 2])),
         2 => value[end - 16..end - 12].copy_from_slice(&(*rng.pick(&[0, 15, 16, end as u32, end as u32 + 1, u32::MAX])).to_le_bytes()),
-        3 => value[end - 12..end - 10].copy_from_slice(&(*rng.pick(&[0u16, 1, 200, 201, 456, u16::MAX])).to_le_bytes()),
+        3 => {
+            let (count, most) = (good.setpoints.len() as u16, limits::SETPOINTS as u16);
+            let other = *rng.pick(&[0, 1, most, most + 1, count ^ 256, count.swap_bytes(), u16::MAX]);
+            value[end - 12..end - 10].copy_from_slice(&other.to_le_bytes());
+        }
         4 => value[end - 10..end - 8].copy_from_slice(&(*rng.pick(&[0u16, 2, 257, u16::MAX])).to_le_bytes()),
         5 => value.insert(0, 0),
-        6 => value.resize(rng.between(2_047, 2_060), 0),
+        6 => value.resize(rng.between(limits::VALUE - 1, limits::VALUE + 12), 0),
         7 => value[rng.below(end)] ^= 1 << rng.below(8),
         8 => value = leaper_value(rng),
         _ => {
@@ -190,10 +233,4 @@ pub fn damaged_recipe(rng: &mut Rng) -> Vec<u8> {
         }
     }
     value
-}
-
-/// More setpoints than a recipe may have, by one: a count of 201 and all else right.
-pub fn recipe_of_201(sequence: u64) -> Vec<u8> {
-    let setpoints = (0..201).map(|turn| Setpoint { turn, trim: 0 }).collect();
-    recipe::write(&Recipe { note: vec![], setpoints, sequence })
 }

@@ -108,15 +108,17 @@ impl Source {
         recipe::write(&made)
     }
 
-    /// A value close to the one that is held: the same, one that goes on after it or ends before it, or one with another byte.
+    /// A value close to the one that is held: the same, one that goes on after it or ends before it, or one with another byte, which may be one that no value
+    /// had before request iii.
     fn near_held(&mut self, mut value: Vec<u8>) -> Vec<u8> {
         let end = value.len();
-        match self.rng.below(6) {
+        match self.rng.below(7) {
             0 => {}
             1 => value.extend([&16u32.to_le_bytes()[..], &[0, 0, 1, 0], &value[end - 8..]].concat()),
             2 if end >= 32 => value.truncate(end - 16),
             3 => value[end - 8] = value[end - 8].wrapping_add(*self.rng.pick(&[1, 255])),
             4 => value[0] = value[0].wrapping_add(*self.rng.pick(&[1, 255])),
+            5 if end > VALUE_BEFORE + 16 => value[self.rng.between(VALUE_BEFORE, end - 17)] ^= 1 << self.rng.below(8),
             _ => value[self.rng.below(end)] ^= 1 << self.rng.below(8),
         }
         value
