@@ -3,6 +3,7 @@
 use crate::answer::{view_numbers, Answer};
 use crate::calls::Call;
 use crate::doubts;
+use crate::longer;
 use crate::twin::Twin;
 use starterbell_model::answers::Sender;
 use starterbell_model::contacts;
@@ -40,8 +41,8 @@ const REACHABLE: [(&str, &[u32]); 20] = [
     ("lookup_failure", &[SHORT, 0, 12, 16, 17, 64, 67, 68]),
 ];
 
-/// Beside the numbers: what a long run has to meet too, and after that what crate::doubts has.
-const MET: [&str; 50] = [
+/// Beside the numbers: what a long run has to meet too, and after that what crate::doubts and crate::longer have.
+const MET: [&str; 48] = [
     "receive: the sender moved",
     "receive: the sender joined",
     "receive: the sender's bucket is full",
@@ -55,7 +56,6 @@ const MET: [&str; 50] = [
     "reply to GET_VALUE",
     "reply to FIND_NODE",
     "reply to PING",
-    "reply of 14,000 bytes or more",
     "reply by a box with odd addresses",
     "reply to a sender with odd addresses that asks for itself",
     "receive: a sender with odd addresses joined",
@@ -70,7 +70,6 @@ const MET: [&str; 50] = [
     "seen: 20 in the bucket of a joined one",
     "contacts: 5,120 slots or more",
     "records: 256 slots or more",
-    "put: a value of 2,048 bytes is taken",
     "write: a body of 16,300 bytes or more",
     "read: a record's key and value from two fields",
     "read: 5 for a record that is well formed only if joined",
@@ -147,6 +146,7 @@ impl Coverage {
             self.note(twin, call, answer);
             self.note_leaps(first(&before.records, call.lent.records), &call.step, answer);
             doubts::met(first(&before.contacts, call.lent.contacts), twin, call, answer).into_iter().for_each(|what| self.meet(what));
+            longer::met(first(&before.records, call.lent.records), twin, call, answer).into_iter().for_each(|what| self.meet(what));
         }
     }
 
@@ -165,7 +165,6 @@ impl Coverage {
             }
             Step::Seen { .. } if answer.code == 14 && contacts::slots(&world.contacts) == 0 => self.meet("contacts: no slot at all"),
             Step::Seen { .. } if answer.code >= 64 && contacts::slots(&world.contacts) == 5_120 => self.meet("contacts: 5,120 slots or more"),
-            Step::Put { value, .. } if answer.code == 64 && value.len() == 2_048 => self.meet("put: a value of 2,048 bytes is taken"),
             Step::Put { .. } if answer.code != 0 && records::slots(&world.records) == 256 => self.meet("records: 256 slots or more"),
             Step::Read { body } => self.note_read(body, answer),
             Step::Write { .. } if answer.code == 64 && answer.numbers[0] >= 16_300 => self.meet("write: a body of 16,300 bytes or more"),
@@ -284,9 +283,6 @@ impl Coverage {
             4 => "reply to FIND_NODE",
             _ => "reply to PING",
         });
-        if answer.numbers[1] >= 14_000 {
-            self.meet("reply of 14,000 bytes or more");
-        }
         if kind == 4 && odd(&me.addresses) && reply[..answer.numbers[1] as usize].windows(me.id.len()).any(|w| w == me.id) {
             self.meet("reply by a box with odd addresses");
         }
@@ -354,7 +350,7 @@ fn first(bytes: &[u8], most: usize) -> &[u8] {
 }
 
 fn all_met() -> impl Iterator<Item = &'static str> {
-    MET.into_iter().chain(doubts::MET)
+    MET.into_iter().chain(doubts::MET).chain(longer::MET)
 }
 
 /// The body of the message that was taken, if the piece had it whole, from its prefix on; else nothing. `numbers` are those that the receive gave.

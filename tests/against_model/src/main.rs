@@ -10,6 +10,7 @@ mod cutting;
 mod doubts;
 mod host;
 mod layout;
+mod longer;
 mod memory;
 mod script;
 mod twin;

@@ -6,8 +6,8 @@ use crate::calls::{Call, Region};
 use crate::layout;
 use crate::twin::Twin;
 use starterbell_model::contacts::{self, contact, in_form};
-use starterbell_model::gen::{self, Rng, Source};
-use starterbell_model::limits::{BODY, CONTACT_SLOT, RECORD_SLOT, REPLY};
+use starterbell_model::gen::{self, Rng, Source, VALUE_BEFORE};
+use starterbell_model::limits::{BODY, CONTACT_SLOT, RECORD_SLOT, REPLY, VALUE};
 use starterbell_model::lookup::{Lookup, Mark};
 use starterbell_model::message::{self, encode, Message, View};
 use starterbell_model::node::Side;
@@ -204,7 +204,8 @@ impl Script {
 
     fn odd(&mut self, twin: &Twin) -> Action {
         let (lines, lookups) = (twin.world.lines.len(), twin.world.lookups.len());
-        match self.rng.below(27) {
+        match self.rng.below(29) {
+            27..=28 => self.write_length(twin),
             26 if lines > 0 => self.odd_sender(lines),
             23..=25 => self.write_doubt(twin),
             21..=22 => self.hold_leaper(twin),
@@ -275,6 +276,25 @@ impl Script {
             self.later.push((2, Action::Write { region: Region::Contacts, at: slot + 1, bytes: vec![table[slot + 1]] }));
         }
         Action::Write { region: Region::Contacts, at: slot + 1, bytes: vec![byte] }
+    }
+
+    /// The length of a held value is written over with one at a limit, that of now or that before request iii: more or fewer of the slot's bytes are the value then.
+    /// Where that breaks the form it is set back after two calls: nothing else has changed then.
+    fn write_length(&mut self, twin: &Twin) -> Action {
+        let store = &twin.world.records;
+        let used: Vec<usize> = (0..records::slots(store)).map(|i| i * RECORD_SLOT).filter(|slot| store[*slot] != 0).collect();
+        if used.is_empty() {
+            return Action::Call(self.call(Step::Find { key: vec![] }));
+        }
+        let at = self.rng.pick(&used) + 2;
+        let lengths = [VALUE_BEFORE, VALUE_BEFORE + 1, VALUE - 1, VALUE, VALUE, VALUE + 1, VALUE + 1, VALUE + 1, VALUE + 256];
+        let bytes = (*self.rng.pick(&lengths) as u16).to_le_bytes().to_vec();
+        let mut written = store.clone();
+        written[at..at + 2].copy_from_slice(&bytes);
+        if !records::in_form(&written) {
+            self.later.push((2, Action::Write { region: Region::Records, at, bytes: store[at..at + 2].to_vec() }));
+        }
+        Action::Write { region: Region::Records, at, bytes }
     }
 
     /// A leaper is held from now on, as one from before request ix is: in the slot that holds its key, or else in any.
