@@ -50,6 +50,8 @@ struct Said {
 
 enum { TAKEN = 255, TOO_LONG = 4, MALFORMED = 5, UNKNOWN_TYPE = 6, MOST_BODY = 16384, LEAST_REPLY = 16387 };
 
+static const size_t MOST_VALUE = 3072;
+
 /* TAKEN, or the refusal's number; what was said, if it was taken. */
 struct Outcome {
     int code = TAKEN;
@@ -440,7 +442,7 @@ static string made_by_library() {
     if (one_in(2)) {
         dht::Record *r = m.mutable_record();
         if (!one_in(6)) r->set_key(any_bytes(any_length(128)));
-        if (!one_in(6)) r->set_value(any_bytes(any_length(one_in(4) ? 2048 : 100)));
+        if (!one_in(6)) r->set_value(any_bytes(any_length(one_in(4) ? MOST_VALUE : 100)));
         if (one_in(3)) r->set_timereceived(any_text());
     }
     for (uint64_t n = below(one_in(3) ? 22 : 4); n > 0; n--) fill(m.add_closerpeers());
@@ -648,7 +650,7 @@ static Said to_write() {
     };
     m.key = any_bytes(one_in(3) ? 0 : length(128));
     m.held = one_in(2);
-    if (m.held) m.record_key = any_bytes(length(128)), m.value = any_bytes(length(one_in(3) ? 2048 : 100));
+    if (m.held) m.record_key = any_bytes(length(128)), m.value = any_bytes(length(one_in(3) ? MOST_VALUE : 100));
     m.closer = peers(one_in(3) ? 22 : 4);
     m.providers = peers(one_in(5) ? 22 : 2);
     return m;
@@ -669,7 +671,7 @@ static string as_list(const vector<PeerSaid> &peers) {
 
 /* The limits of RULES, Messages, but for that of the whole body. */
 static bool within_limits(const Said &m) {
-    if (static_cast<uint64_t>(m.kind) > 5 || m.key.size() > 128 || m.record_key.size() > 128 || m.value.size() > 2048) return false;
+    if (static_cast<uint64_t>(m.kind) > 5 || m.key.size() > 128 || m.record_key.size() > 128 || m.value.size() > MOST_VALUE) return false;
     for (const vector<PeerSaid> *l : {&m.closer, &m.providers})
         for (const PeerSaid &p : *l) {
             if (p.id.size() > 64 || p.connection > 3 || p.addrs.size() > 4) return false;
@@ -733,6 +735,13 @@ static bool write_and_compare(const Said &m, Counts &counts) {
     return true;
 }
 
+/* Whether nothing but one byte of its value is too much of a message. */
+static bool over_by_a_byte(Said m) {
+    if (m.value.size() != MOST_VALUE + 1) return false;
+    m.value.pop_back();
+    return within_limits(m) && library_bytes(m).size() <= MOST_BODY;
+}
+
 /* ---- the run */
 
 static void report(const char *what, const Counts &c) {
@@ -753,14 +762,18 @@ int main(int argc, char **argv) {
     size_t count = strtoull(argv[2], nullptr, 10), written = 0;
     google::protobuf::SetLogHandler(nullptr);
     Counts made, wild, hurt, split, own, all;
-    size_t shapes = 0;
+    size_t shapes = 0, longest = 0, too_long = 0;
     for (size_t i = 0; i < count; i++) {
         string a = made_by_library(), b = made_wild();
         compare(a, made);
         compare(b, wild);
         for (int k = 0; k < 3; k++) compare(damaged(a), hurt), compare(damaged(b), hurt);
         shapes = compare_split(split);
-        written += write_and_compare(to_write(), own);
+        Said m = to_write();
+        bool wrote = write_and_compare(m, own);
+        written += wrote;
+        longest += wrote && m.value.size() == MOST_VALUE;
+        too_long += over_by_a_byte(m);
     }
     report("made by the library", made);
     report("in every form of the wire format", wild);
@@ -768,13 +781,18 @@ int main(int argc, char **argv) {
     report("a record in several fields", split);
     printf("  in %zu shapes, each read or refused by both alike\n", shapes);
     report("written by ours", own);
-    printf("  %zu more were over a limit, and ours refused to write them\n", count - written);
+    printf("  %zu of them with a value of %zu bytes\n", longest, MOST_VALUE);
+    printf("  %zu more were over a limit, and ours refused to write them; %zu for one byte of their value\n", count - written, too_long);
     for (const Counts *c : {&made, &wild, &hurt, &split, &own}) add(all, *c);
     for (int r = 0; r < RULES; r++)
         if (!all.by_rule[r]) {
             printf("no body met the rule: %s\n", rule_names[r]);
             return 1;
         }
+    if (!longest || !too_long) {
+        printf("no message had the longest value, or one byte more\n");
+        return 1;
+    }
     printf("%zu bodies are read as by the library, but for the %d rules that are known, and %zu messages are written to the byte as by the library (seed %s)\n", all.bodies, static_cast<int>(RULES),
         written, argv[1]);
     return 0;
