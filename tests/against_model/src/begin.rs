@@ -21,11 +21,11 @@ fn size(rng: &mut Rng) -> Size {
     let records = *rng.pick(&[0, 1, 1, 2, 3, 4, 6, 8]);
     let peers = *rng.pick(&[30, 60, 100, 150]);
     let usual = Size { contacts, records, peers, steps: 1_000, largest: false };
-    match rng.below(151) {
+    match rng.below(160) {
         0..=1 => Size { contacts: rng.between(CONTACT_SLOTS - 2, CONTACT_SLOTS + 3), steps: 45, largest: rng.one_in(4), ..usual },
         2..=4 => Size { records: RECORD_SLOTS + rng.between(1, 5) - 2, steps: 150, largest: rng.one_in(2), ..usual },
         5..=10 => Size { contacts: rng.between(60, 300), records: rng.between(9, 30), peers: 400, steps: 400, ..usual },
-        11..=26 => Size { contacts: rng.between(19, 40), records: rng.between(1, 12), largest: true, ..usual },
+        11..=35 => Size { contacts: rng.between(19, 40), records: rng.between(1, 12), largest: true, ..usual },
         _ => usual,
     }
 }

@@ -11,6 +11,7 @@ use starterbell_model::message::{self, Message};
 use starterbell_model::recipe::{differences, read_of_any_size, sequence_of};
 use starterbell_model::records;
 use starterbell_model::steps::Step;
+use starterbell_model::wire::read_varint;
 use starterbell_model::writer;
 
 pub const MET: [&str; 37] = [
@@ -66,10 +67,10 @@ pub fn met(before: &[u8], twin: &Twin, call: &Call, answer: &Answer) -> Vec<&'st
             let (world, ours) = (&twin.world, &twin.world.me.place);
             let others_fit = answer.code != 0 || contacts::in_form(&world.contacts, ours) && world.lines[*line].conn.in_form(ours);
             let form = if others_fit { store.form(FORMS[2]) } else { vec![] };
-            [store.receive(piece, &answer.numbers), form].concat()
+            [store.receive(piece, &answer.numbers), form, heard_back(twin, answer)].concat()
         }
         Step::Write { message } => write(message, answer.code),
-        Step::Read { body } => vec![(answer.code == 64 && value_in(body) == 3_073, "read: a value of 3,073 bytes is read")],
+        Step::Read { .. } => vec![(answer.code == 64 && value_in(&answer.numbers) == 3_073, "read: a value of 3,073 bytes is read")],
         _ => vec![],
     };
     cases.into_iter().filter(|(is, _)| *is).map(|(_, what)| what).collect()
@@ -82,13 +83,41 @@ const FORMS: [[&str; 2]; 3] = [
     ["receive: in form with a record of 3,072 bytes", "receive: 0 for a record of 3,073 bytes"],
 ];
 
-/// The length of the value that a body has.
-fn value_in(body: &[u8]) -> usize {
-    message::decode(body).ok().and_then(|m| m.record).map_or(0, |record| record.value.len())
+/// The length of a message's value.
+fn value_of(m: &Message) -> usize {
+    m.record.as_ref().map_or(0, |record| record.value.len())
+}
+
+/// The length of the value that a view of eight numbers points at.
+fn value_in(view: &[u64]) -> u64 {
+    view[7] - view[6]
+}
+
+/// What a peer is told, or on the asking side the host.
+fn heard_back(twin: &Twin, answer: &Answer) -> Vec<Case> {
+    match answer.code {
+        65 => reply(&twin.world.reply[..answer.numbers[1] as usize]),
+        66 => vec![(value_in(&answer.numbers[4..]) == 3_073, "receive: a value of 3,073 bytes is given on the asking side")],
+        _ => vec![],
+    }
+}
+
+/// A put that is echoed, or a record that is served.
+fn reply(whole: &[u8]) -> Vec<Case> {
+    let (length, at) = read_varint(whole, 0, whole.len()).expect("a prefix");
+    let said = message::decode(&whole[at..]).expect("our own reply");
+    let (echo, served, value) = (said.kind == message::PUT_VALUE, said.kind == message::GET_VALUE, value_of(&said));
+    vec![
+        (echo && value > 2_048, "receive: the echo of a value over 2,048 bytes"),
+        (echo && length == 3_342, "receive: the largest echo, a body of 3,342 bytes"),
+        (served && value > 2_048, "receive: GET_VALUE is served a value over 2,048 bytes"),
+        (served && value == 3_072, "receive: GET_VALUE is served a value of 3,072 bytes"),
+        (served && length == 15_111, "receive: the largest reply, a body of 15,111 bytes"),
+    ]
 }
 
 fn write(m: &Message, code: u32) -> Vec<Case> {
-    let length = m.record.as_ref().map_or(0, |record| record.value.len());
+    let length = value_of(m);
     let mut shorter = m.clone();
     shorter.record.iter_mut().for_each(|record| record.value.truncate(3_072));
     vec![
@@ -144,33 +173,14 @@ impl Store<'_> {
         self.offered(key, value, self.code == 64).into_iter().map(|(is, own, _)| (is, own)).collect()
     }
 
-    /// A message that a piece had whole.
+    /// A put that a piece had whole.
     fn receive(&self, piece: &[u8], numbers: &[u64]) -> Vec<Case> {
-        let body = whole_body(piece, numbers);
-        match message::decode(body) {
-            Ok(Message { kind: message::PUT_VALUE, record: Some(record), .. }) if self.code != 66 => {
-                let cases = self.offered(&record.key, &record.value, self.code == 65);
-                [cases.into_iter().map(|(is, _, sent)| (is, sent)).collect(), self.echo(&record.value, numbers)].concat()
+        match message::decode(whole_body(piece, numbers)) {
+            Ok(Message { kind: message::PUT_VALUE, record: Some(record), .. }) => {
+                self.offered(&record.key, &record.value, self.code == 65).into_iter().map(|(is, _, sent)| (is, sent)).collect()
             }
-            Ok(Message { kind: message::GET_VALUE, key, .. }) if self.code == 65 => self.get_value(&key, numbers),
-            _ => vec![(self.code == 66 && value_in(body) == 3_073, "receive: a value of 3,073 bytes is given on the asking side")],
+            _ => vec![],
         }
-    }
-
-    fn echo(&self, value: &[u8], numbers: &[u64]) -> Vec<Case> {
-        vec![
-            (self.code == 65 && value.len() > 2_048, "receive: the echo of a value over 2,048 bytes"),
-            (self.code == 65 && numbers[1] == 2 + 3_342, "receive: the largest echo, a body of 3,342 bytes"),
-        ]
-    }
-
-    fn get_value(&self, key: &[u8], numbers: &[u64]) -> Vec<Case> {
-        let length = self.held(key).len();
-        vec![
-            (length > 2_048, "receive: GET_VALUE is served a value over 2,048 bytes"),
-            (length == 3_072, "receive: GET_VALUE is served a value of 3,072 bytes"),
-            (numbers[1] == 2 + 15_111, "receive: the largest reply, a body of 15,111 bytes"),
-        ]
     }
 
     /// A value that is put by the host or sent by a peer, with what that is called for each of them.

@@ -68,11 +68,11 @@ fn some_turns(rng: &mut Rng, count: usize) -> BTreeSet<u64> {
 /// request iii, or about that, or any.
 fn note_length(rng: &mut Rng, room: usize) -> usize {
     let more = limits::VALUE - VALUE_BEFORE;
-    match rng.below(40) {
+    match rng.below(24) {
         0..=1 => room,
         2 => room.saturating_sub(1),
-        3 => room.saturating_sub(more - rng.below(2)),
-        4 => rng.between(0, room),
+        3..=4 => room.saturating_sub(more - rng.below(2)),
+        5 => rng.between(0, room),
         _ => rng.size(0, room.min(40)),
     }
 }
@@ -180,7 +180,7 @@ fn at_a_limit(rng: &mut Rng) -> Vec<u8> {
     let sequence = rng.below(6) as u64;
     let of = |note: Vec<u8>, setpoints: Vec<Setpoint>| recipe::write(&Recipe { note, setpoints, sequence });
     let one = |turn: u64, trim: i64| vec![Setpoint { turn, trim }];
-    match rng.below(8) {
+    match rng.below(10) {
         7 => {
             let by = limits::LEAP + over as i64;
             let low = rng.below((40_001 - by) as usize) as i64 - 20_000;
@@ -188,12 +188,12 @@ fn at_a_limit(rng: &mut Rng) -> Vec<u8> {
             of(vec![], [one(0, first), one(limits::TURN, second)].concat())
         }
         6 => of(vec![b'n'; 65_536 * over], vec![]),
-        0 => {
+        0 | 8 => {
             // few bytes to a setpoint, or all six that it can have
             let (first, apart, trim) = *rng.pick(&[(0, 1, 0), (16_384, 2_000, 20_000)]);
             of(vec![], (0..limits::SETPOINTS + over).map(|i| Setpoint { turn: first + apart * i as u64, trim }).collect())
         }
-        1 => of(vec![b'n'; limits::VALUE - 16 + over], vec![]),
+        1 | 9 => of(vec![b'n'; limits::VALUE - 16 + over], vec![]),
         2 => of(vec![], one(limits::TURN + over as u64, 0)),
         3 => of(vec![], one(0, 20_000 + over as i64)),
         4 => of(vec![], one(0, -20_000 - over as i64)),
@@ -203,7 +203,7 @@ fn at_a_limit(rng: &mut Rng) -> Vec<u8> {
 
 /// A value that is nearly a recipe; by chance it may still be one.
 pub fn damaged_recipe(rng: &mut Rng) -> Vec<u8> {
-    if rng.one_in(4) {
+    if rng.one_in(3) {
         return at_a_limit(rng);
     }
     let good = recipe(rng);

@@ -85,11 +85,14 @@ impl Source {
         }
     }
 
-    fn record_key(&mut self) -> Vec<u8> {
-        if self.rng.one_in(12) {
-            odd_wind_key(&mut self.rng)
-        } else {
-            self.rng.pick(&self.keys).clone()
+    /// A record key: often one that is held, so that offers meet what they are compared with.
+    fn record_key(&mut self, world: &World) -> Vec<u8> {
+        let entries = records::entries(&world.records).unwrap_or_default();
+        let held: Vec<&[u8]> = entries.into_iter().flatten().map(|e| e.key).collect();
+        match self.rng.below(12) {
+            0 => odd_wind_key(&mut self.rng),
+            1..=5 if !held.is_empty() => self.rng.pick(&held).to_vec(),
+            _ => self.rng.pick(&self.keys).clone(),
         }
     }
 
@@ -108,17 +111,18 @@ impl Source {
         recipe::write(&made)
     }
 
-    /// A value close to the one that is held: the same, one that goes on after it or ends before it, or one with another byte, which may be one that no value
-    /// had before request iii.
+    /// A value close to the one that is held: the same, one that goes on after it or ends before it, one with a byte more, or one with another byte, often one that
+    /// no value had before request iii.
     fn near_held(&mut self, mut value: Vec<u8>) -> Vec<u8> {
         let end = value.len();
-        match self.rng.below(7) {
+        match self.rng.below(9) {
             0 => {}
             1 => value.extend([&16u32.to_le_bytes()[..], &[0, 0, 1, 0], &value[end - 8..]].concat()),
             2 if end >= 32 => value.truncate(end - 16),
             3 => value[end - 8] = value[end - 8].wrapping_add(*self.rng.pick(&[1, 255])),
             4 => value[0] = value[0].wrapping_add(*self.rng.pick(&[1, 255])),
-            5 if end > VALUE_BEFORE + 16 => value[self.rng.between(VALUE_BEFORE, end - 17)] ^= 1 << self.rng.below(8),
+            5 => value.insert(0, self.rng.byte()),
+            6..=7 if end > VALUE_BEFORE + 16 => value[self.rng.between(VALUE_BEFORE, end - 17)] ^= 1 << self.rng.below(8),
             _ => value[self.rng.below(end)] ^= 1 << self.rng.below(8),
         }
         value
@@ -140,21 +144,23 @@ impl Source {
     fn value_for(&mut self, world: &World, key: &[u8]) -> Vec<u8> {
         match records::find(&world.records, key) {
             Ok(Some(found)) if recipe::is_leaper(&found.value) && !self.rng.one_in(4) => self.beside_leaper(found.value),
-            Ok(Some(found)) if self.rng.one_in(4) => self.near_held(found.value),
+            Ok(Some(found)) if self.rng.one_in(3) => self.near_held(found.value),
             _ => self.value(),
         }
     }
 
     /// A request as a peer may send it; the requester's own id is a key now and then.
     pub fn request(&mut self, world: &World, requester: &[u8]) -> Vec<u8> {
-        let kind = *self.rng.pick(&[0, 0, 1, 1, 4, 4, 4, 5]);
+        let kind = *self.rng.pick(&[0, 0, 0, 1, 1, 4, 4, 4, 5]);
         let mut m = Message { kind, key: self.any_key(world), ..Message::default() };
         if kind == message::FIND_NODE && self.rng.one_in(4) {
             m.key = requester.to_vec();
         }
+        if kind == message::PUT_VALUE || kind == message::GET_VALUE && self.rng.one_in(2) {
+            m.key = self.record_key(world);
+        }
         if kind == message::PUT_VALUE {
-            m.key = self.record_key();
-            let key = if self.rng.one_in(20) { self.record_key() } else { m.key.clone() };
+            let key = if self.rng.one_in(20) { self.record_key(world) } else { m.key.clone() };
             m.record = if self.rng.one_in(30) { None } else { Some(Record { value: self.value_for(world, &key), key }) };
         }
         match self.rng.below(40) {
@@ -216,13 +222,15 @@ impl Source {
         if self.unsent[line].is_empty() {
             self.refill(world, line);
         }
+        let all = self.unsent[line].len();
         let most = *self.rng.pick(&[0, 1, 3, 64, 500, 4_096, 40_000, 40_000, 40_000]);
-        let n = self.rng.size(0, most).min(self.unsent[line].len());
+        let n = if self.rng.one_in(3) { all } else { self.rng.size(0, most).min(all) };
         Step::Receive { line, piece: self.unsent[line][..n].to_vec() }
     }
 
-    /// What is still to be handed over on a line, in place of what was.
+    /// What is still to be handed over on a line, in place of what was; a piece of that is made up no more.
     pub fn send(&mut self, line: usize, bytes: Vec<u8>) {
+        self.pending.retain(|step| !matches!(step, Step::Receive { line: other, .. } if *other == line));
         self.unsent.resize(self.unsent.len().max(line + 1), vec![]);
         self.unsent[line] = bytes;
     }
@@ -363,9 +371,9 @@ impl Source {
         match self.rng.below(20) {
             0 => Step::Read { body: body(&mut self.rng) },
             1 => Step::Write { message: message_to_write(&mut self.rng) },
-            2 => Step::Find { key: if self.rng.one_in(4) { self.any_key(world) } else { self.record_key() } },
+            2 => Step::Find { key: if self.rng.one_in(4) { self.any_key(world) } else { self.record_key(world) } },
             3..=4 => {
-                let key = self.record_key();
+                let key = self.record_key(world);
                 Step::Put { value: self.value_for(world, &key), key }
             }
             5..=9 => self.on_contacts(world),
