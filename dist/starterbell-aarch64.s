@@ -1,6 +1,6 @@
 /* Starterbell for Linux on aarch64: what the proved sources of crates/host compile to. include/starterbell.h declares its functions.
    Written by tools/dist; the gate compiles the sources again and compares.
-   sources: 1c58083c9c3eccf88984c11bd967e6d8e240168d819d2dab3d3e0c2a837d6ea8 */
+   sources: cdfa57da6faa2410d42540047318fa3304c0530313c7e37cce8fe0b040594d5d */
 	.section	".text.octets::lower_bytes","ax",@progbits
 	.p2align	2
 	.type	"octets::lower_bytes",@function
@@ -416,22 +416,22 @@
 "record_slots::in_form":
 	sub	sp, sp, #416
 	ldr	x8, [x0, #8]
-	mov	x10, #3841
+	mov	x10, #52299
 	stp	x20, x19, [sp, #400]
-	movk	x10, #240, lsl #16
+	movk	x10, #45760, lsl #16
 	stp	x29, x30, [sp, #320]
 	lsr	x9, x8, #3
-	movk	x10, #61455, lsl #32
+	movk	x10, #40040, lsl #32
 	lsr	x8, x8, #11
-	movk	x10, #3840, lsl #48
+	movk	x10, #10459, lsl #48
 	stp	x28, x27, [sp, #336]
 	umulh	x9, x9, x10
-	cmp	x8, #273
+	cmp	x8, #401
 	mov	w8, #256
 	stp	x26, x25, [sp, #352]
 	stp	x24, x23, [sp, #368]
 	stp	x22, x21, [sp, #384]
-	lsr	x9, x9, #4
+	lsr	x9, x9, #6
 	csel	x19, x9, x8, lo
 	cbz	x19, .LBB3_33
 	ldr	x20, [x0]
@@ -446,7 +446,7 @@
 	b	.LBB3_3
 .LBB3_2:
 	subs	x25, x25, #1
-	add	x22, x22, #2184
+	add	x22, x22, #3208
 	b.eq	.LBB3_8
 .LBB3_3:
 	ldurb	w8, [x22, #-8]
@@ -465,7 +465,7 @@
 	cbz	w0, .LBB3_34
 	ldurh	w8, [x22, #-6]
 	sub	x8, x8, #16
-	cmp	x8, #2032
+	cmp	x8, #3056
 	b.ls	.LBB3_2
 .LBB3_7:
 	mov	w0, wzr
@@ -475,7 +475,7 @@
 	mov	x21, xzr
 	mov	x24, xzr
 	add	x23, sp, #32
-	mov	w26, #2184
+	mov	w26, #3208
 	stp	q0, q0, [sp, #32]
 	stp	q0, q0, [sp, #64]
 	stp	q0, q0, [sp, #96]
@@ -647,8 +647,8 @@
 	stp	x25, x9, [sp, #48]
 	bl	"octets::same_bytes"
 	cbz	w0, .LBB4_4
-	sub	x8, x20, #2049
-	cmn	x8, #2033
+	sub	x8, x20, #3073
+	cmn	x8, #3057
 	b.hs	.LBB4_6
 .LBB4_3:
 	mov	w10, #1
@@ -679,7 +679,7 @@
 	b.lo	.LBB4_5
 	add	x10, x21, x20
 	ldurh	w13, [x10, #-12]
-	cmp	x13, #200
+	cmp	x13, #400
 	b.hi	.LBB4_12
 	ldurh	w10, [x10, #-10]
 	cmp	x10, #1
@@ -698,23 +698,22 @@
 .LBB4_14:
 	cmp	x2, x10
 	b.ne	.LBB4_3
-	lsr	w10, w9, #3
-	mov	w11, #49213
-	movk	w11, #15363, lsl #16
-	umull	x10, w10, w11
+	mov	w10, #29091
 	lsr	x11, x9, #11
-	cmp	x11, #273
+	movk	w10, #41838, lsl #16
+	umull	x10, w9, w10
+	cmp	x11, #401
 	mov	w11, #256
-	lsr	x10, x10, #38
+	lsr	x10, x10, #43
 	csel	x28, x10, x11, lo
 	cbz	x28, .LBB4_63
-	mov	w10, #2184
+	mov	w10, #3208
 	mov	x26, xzr
 	mov	x27, xzr
 	umull	x29, w28, w10
 	b	.LBB4_18
 .LBB4_17:
-	add	x26, x26, #2184
+	add	x26, x26, #3208
 	add	x27, x27, #1
 	cmp	x29, x26
 	b.eq	.LBB4_60
@@ -734,7 +733,7 @@
 	cmp	x27, x28
 	b.hs	.LBB4_60
 	add	x8, x8, x26
-	mov	w9, #2048
+	mov	w9, #3072
 	add	x0, sp, #32
 	ldrb	w28, [x8, #2]
 	ldrb	w10, [x8, #3]
@@ -743,7 +742,7 @@
 	stp	x21, x20, [sp, #16]
 	stp	x10, x28, [sp]
 	bfi	x28, x10, #8, #8
-	cmp	w10, #8
+	cmp	w10, #12
 	csel	x27, x28, x9, lo
 	stp	x29, x27, [sp, #32]
 	bl	"octets::same_bytes"
@@ -887,7 +886,7 @@
 	ldrb	w10, [x13]
 	cbz	w10, .LBB4_64
 	add	x12, x12, #1
-	add	x13, x13, #2184
+	add	x13, x13, #3208
 	mov	w10, #1
 	cmp	x28, x12
 	b.ne	.LBB4_61
@@ -897,7 +896,7 @@
 .LBB4_64:
 	cmp	x12, x28
 	b.hs	.LBB4_87
-	mov	w10, #2184
+	mov	w10, #3208
 	mul	x26, x12, x10
 	orr	x11, x22, x20, lsl #16
 	subs	x10, x9, x26
@@ -980,9 +979,9 @@
 	strb	w13, [x12], #1
 	b.ne	.LBB4_82
 .LBB4_83:
-	cmp	x20, #2048
+	cmp	x20, #3072
 	b.eq	.LBB4_85
-	mov	w9, #2048
+	mov	w9, #3072
 	add	x8, x8, x10
 	mov	w1, wzr
 	sub	x2, x9, x20
@@ -8116,7 +8115,7 @@
 	cmp	x10, #128
 	b.hi	.LBB29_39
 	ldr	x8, [x4, #8]
-	cmp	x8, #2049
+	cmp	x8, #3073
 	b.hs	.LBB29_39
 	cmp	x10, #127
 	mov	w9, #1
@@ -10047,14 +10046,13 @@ starterbell_find:
 	mov	x19, x4
 	bl	"record_slots::in_form"
 	cbz	w0, .LBB38_11
-	lsr	w8, w24, #3
-	mov	w9, #49213
-	movk	w9, #15363, lsl #16
-	umull	x8, w8, w9
+	mov	w8, #29091
 	lsr	x9, x24, #11
-	cmp	x9, #273
+	movk	w8, #41838, lsl #16
+	umull	x8, w24, w8
+	cmp	x9, #401
 	mov	w9, #256
-	lsr	x8, x8, #38
+	lsr	x8, x8, #43
 	csel	x25, x8, x9, lo
 	cbz	x25, .LBB38_10
 	mov	x26, xzr
@@ -10063,8 +10061,8 @@ starterbell_find:
 	b	.LBB38_4
 .LBB38_3:
 	add	x26, x26, #1
-	add	x24, x24, #2184
-	sub	x23, x23, #2184
+	add	x24, x24, #3208
+	sub	x23, x23, #3208
 	cmp	x25, x26
 	b.eq	.LBB38_10
 .LBB38_4:
@@ -10082,8 +10080,8 @@ starterbell_find:
 	ldurb	w9, [x24, #-5]
 	neg	x10, x23
 	orr	x8, x8, x9, lsl #8
-	cmp	w9, #8
-	mov	w9, #2048
+	cmp	w9, #12
+	mov	w9, #3072
 	csel	x8, x8, x9, lo
 	sub	x8, x8, x23
 	stp	x10, x8, [sp, #32]
@@ -13312,31 +13310,30 @@ starterbell_receive:
 	bl	"contacts::nearest"
 	ldr	q0, [sp, #5648]
 	ldr	q1, [sp, #5664]
-	lsr	w8, w27, #3
-	mov	w9, #49213
+	mov	w8, #29091
+	movk	w8, #41838, lsl #16
+	lsr	x9, x27, #11
 	ldr	q2, [sp, #5696]
-	ldr	x26, [sp, #5712]
 	str	q0, [sp, #5488]
 	ldr	q0, [sp, #5680]
-	movk	w9, #15363, lsl #16
+	umull	x8, w27, w8
 	str	q1, [sp, #5504]
-	umull	x8, w8, w9
 	ldr	q1, [sp, #5584]
+	cmp	x9, #401
 	str	q0, [sp, #5520]
 	ldr	q0, [sp, #5600]
-	lsr	x9, x27, #11
+	mov	w9, #256
 	str	q1, [sp, #5424]
 	ldr	q1, [sp, #5616]
+	lsr	x8, x8, #43
 	str	q0, [sp, #5440]
 	ldr	q0, [sp, #5632]
-	lsr	x8, x8, #38
-	cmp	x9, #273
+	ldr	x26, [sp, #5712]
 	str	q1, [sp, #5456]
 	ldr	q1, [sp, #5552]
-	mov	w9, #256
+	csel	x23, x8, x9, lo
 	str	q0, [sp, #5472]
 	ldr	q0, [sp, #5568]
-	csel	x23, x8, x9, lo
 	str	q2, [sp, #5536]
 	str	q1, [sp, #5392]
 	str	q0, [sp, #5408]
@@ -13347,7 +13344,7 @@ starterbell_receive:
 	b	.LBB49_140
 .LBB49_139:
 	add	x24, x24, #1
-	add	x22, x22, #2184
+	add	x22, x22, #3208
 	cmp	x23, x24
 	b.eq	.LBB49_224
 .LBB49_140:
@@ -13368,18 +13365,18 @@ starterbell_receive:
 	b.ls	.LBB49_224
 	ldurb	w8, [x22, #-134]
 	ldurb	w9, [x22, #-133]
-	mov	w10, #2048
+	mov	w10, #3072
 	ldr	q0, [sp, #5776]
 	str	x22, [sp, #5360]
 	mov	w22, #2
 	orr	x8, x8, x9, lsl #8
-	cmp	w9, #8
+	cmp	w9, #12
 	str	q0, [sp, #5328]
 	csel	x8, x8, x10, lo
 	cmp	x20, #128
 	str	x8, [sp, #5368]
 	b.hi	.LBB49_146
-	cmp	x8, #2048
+	cmp	x8, #3072
 	b.hi	.LBB49_146
 	cmp	x20, #127
 	mov	w9, #1
@@ -13977,7 +13974,7 @@ starterbell_receive:
 	cmp	x19, #128
 	mov	x9, xzr
 	b.hi	.LBB49_242
-	cmp	x23, #2048
+	cmp	x23, #3072
 	b.hi	.LBB49_242
 	cmp	x19, #127
 	mov	w9, #1
@@ -15582,7 +15579,7 @@ starterbell_write:
 	cbz	w5, .LBB54_8
 	cmp	x7, #128
 	b.hi	.LBB54_25
-	cmp	x26, #2048
+	cmp	x26, #3072
 	b.hi	.LBB54_25
 	cmp	x7, #127
 	mov	w8, #1

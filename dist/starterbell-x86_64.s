@@ -1,6 +1,6 @@
 /* Starterbell for Linux on x86_64: what the proved sources of crates/host compile to. include/starterbell.h declares its functions.
    Written by tools/dist; the gate compiles the sources again and compares.
-   sources: 1c58083c9c3eccf88984c11bd967e6d8e240168d819d2dab3d3e0c2a837d6ea8 */
+   sources: cdfa57da6faa2410d42540047318fa3304c0530313c7e37cce8fe0b040594d5d */
 	.section	".text.octets::lower_bytes","ax",@progbits
 	.p2align	4
 	.type	"octets::lower_bytes",@function
@@ -378,12 +378,12 @@
 	subq	$344, %rsp
 	movq	8(%rdi), %rax
 	movl	$256, %edx
-	cmpq	$559103, %rax
+	cmpq	$821247, %rax
 	ja	.LBB3_2
 	shrq	$3, %rax
-	movabsq	$1081127857799827201, %rcx
+	movabsq	$2944118754906262603, %rcx
 	mulq	%rcx
-	shrq	$4, %rdx
+	shrq	$6, %rdx
 .LBB3_2:
 	testq	%rdx, %rdx
 	je	.LBB3_35
@@ -398,7 +398,7 @@
 	jmp	.LBB3_4
 	.p2align	4
 .LBB3_10:
-	addq	$2184, %rbx
+	addq	$3208, %rbx
 	decq	%rbp
 	je	.LBB3_11
 .LBB3_4:
@@ -422,7 +422,7 @@
 	movzwl	-6(%rbx), %eax
 	addl	$-16, %eax
 	movzwl	%ax, %eax
-	cmpl	$2032, %eax
+	cmpl	$3056, %eax
 	jbe	.LBB3_10
 .LBB3_8:
 	xorl	%eax, %eax
@@ -462,7 +462,7 @@
 	cmpq	%rbx, %rax
 	je	.LBB3_35
 .LBB3_12:
-	imulq	$2184, %rax, %rdx
+	imulq	$3208, %rax, %rdx
 	movzbl	(%r15,%rdx), %ecx
 	testq	%rcx, %rcx
 	je	.LBB3_34
@@ -486,7 +486,7 @@
 	shrq	%r13
 	leaq	(%rbx,%r13), %rbp
 	movzbl	80(%rsp,%rbp), %eax
-	imulq	$2184, %rax, %rax
+	imulq	$3208, %rax, %rax
 	movq	40(%rsp), %rdx
 	movzbl	(%rdx,%rax), %ecx
 	addq	%rdx, %rax
@@ -515,7 +515,7 @@
 	movq	%rcx, 16(%rsp)
 	movq	56(%rsp), %rcx
 	movq	%rcx, 24(%rsp)
-	imulq	$2184, %rax, %rax
+	imulq	$3208, %rax, %rax
 	movzbl	(%r15,%rax), %ecx
 	testq	%rcx, %rcx
 	je	.LBB3_19
@@ -630,8 +630,8 @@
 	movq	8(%rcx), %rbp
 	movq	(%r8), %r13
 	movq	8(%r8), %r12
-	movl	$1852405551, 88(%rsp)
-	movw	$12132, 92(%rsp)
+	movl	$1852405551, 80(%rsp)
+	movw	$12132, 84(%rsp)
 	leaq	-129(%rbp), %rax
 	cmpq	$-123, %rax
 	ja	.LBB4_2
@@ -641,7 +641,7 @@
 .LBB4_2:
 	movq	%rdx, 32(%rsp)
 	movq	%rsi, 40(%rsp)
-	leaq	88(%rsp), %rax
+	leaq	80(%rsp), %rax
 	movq	%rax, 48(%rsp)
 	movq	$6, 56(%rsp)
 	movq	%r15, 64(%rsp)
@@ -653,9 +653,9 @@
 	movb	$8, %dl
 	testb	%al, %al
 	je	.LBB4_123
-	leaq	-2049(%r12), %rax
+	leaq	-3073(%r12), %rax
 	movb	$9, %dl
-	cmpq	$-2033, %rax
+	cmpq	$-3057, %rax
 	jb	.LBB4_123
 	movl	-16(%r13,%r12), %ecx
 	cmpq	$16, %rcx
@@ -666,7 +666,7 @@
 	orb	%sil, %cl
 	jne	.LBB4_123
 	movzwl	-12(%r13,%r12), %r8d
-	cmpq	$200, %r8
+	cmpq	$400, %r8
 	ja	.LBB4_123
 	cmpw	$1, -10(%r13,%r12)
 	jne	.LBB4_123
@@ -674,6 +674,7 @@
 	movq	%rcx, %rsi
 	subq	%rax, %rsi
 	testq	%r8, %r8
+	movq	%r12, 24(%rsp)
 	je	.LBB4_36
 	cmpq	%rax, %rcx
 	movq	40(%rsp), %rdi
@@ -684,38 +685,38 @@
 	movl	$1, %r9d
 	testb	%r11b, %r11b
 	js	.LBB4_54
-	movq	%r11, 8(%rsp)
-	movq	%r13, 16(%rsp)
+	movq	%r11, (%rsp)
+	movq	%r13, 8(%rsp)
 .LBB4_11:
 	movq	%rsi, %r13
 	subq	%r9, %r13
 	jbe	.LBB4_123
 	movzbl	(%rax,%r9), %ecx
 	movl	$1, %r11d
-	movq	%rcx, 24(%rsp)
+	movq	%rcx, 16(%rsp)
 	testb	%cl, %cl
 	js	.LBB4_69
 .LBB4_13:
 	addq	%r9, %r11
 	decq	%r8
-	movq	16(%rsp), %r13
+	movq	8(%rsp), %r13
 	je	.LBB4_37
-	movq	24(%rsp), %rcx
+	movq	16(%rsp), %rcx
 	movl	%ecx, %r9d
 	shrl	%r9d
 	andl	$1, %ecx
 	negl	%ecx
 	xorl	%r9d, %ecx
-	movq	%rcx, 24(%rsp)
-	movq	8(%rsp), %rcx
-	movq	%r13, 16(%rsp)
+	movq	%rcx, 16(%rsp)
+	movq	(%rsp), %rcx
+	movq	%r13, 8(%rsp)
 .LBB4_15:
 	movq	%rsi, %r13
 	subq	%r11, %r13
 	jbe	.LBB4_123
 	movzbl	(%rax,%r11), %r9d
 	movl	$1, %r10d
-	movq	%r9, 8(%rsp)
+	movq	%r9, (%rsp)
 	testb	%r9b, %r9b
 	jns	.LBB4_24
 	cmpq	$2, %r13
@@ -726,10 +727,10 @@
 	testb	%r9b, %r9b
 	js	.LBB4_21
 	shll	$7, %r9d
-	movq	8(%rsp), %r10
+	movq	(%rsp), %r10
 	addl	%r9d, %r10d
 	addl	$-128, %r10d
-	movq	%r10, 8(%rsp)
+	movq	%r10, (%rsp)
 	movl	$2, %r10d
 	jmp	.LBB4_24
 .LBB4_21:
@@ -741,11 +742,11 @@
 	shll	$14, %r10d
 	shll	$7, %r9d
 	addl	%r10d, %r9d
-	movq	8(%rsp), %r13
+	movq	(%rsp), %r13
 	addl	%r9d, %r13d
 	addl	$-16512, %r13d
 	movl	$3, %r10d
-	movq	%r13, 8(%rsp)
+	movq	%r13, (%rsp)
 	cmpl	$1000000, %r13d
 	ja	.LBB4_123
 .LBB4_24:
@@ -784,24 +785,24 @@
 	cmpl	$40000, %r9d
 	ja	.LBB4_123
 .LBB4_33:
-	cmpl	%ecx, 8(%rsp)
+	cmpl	%ecx, (%rsp)
 	jbe	.LBB4_123
 	movl	%r9d, %r13d
 	shrl	%r13d
 	andl	$1, %r9d
 	negl	%r9d
 	xorl	%r13d, %r9d
-	movslq	24(%rsp), %r13
+	movslq	16(%rsp), %r13
 	movslq	%r9d, %rcx
 	subq	%rcx, %r13
 	addq	$5000, %r13
 	cmpq	$10000, %r13
 	ja	.LBB4_123
 	addq	%r10, %r11
-	movq	8(%rsp), %rcx
-	movq	%r9, 24(%rsp)
+	movq	(%rsp), %rcx
+	movq	%r9, 16(%rsp)
 	decq	%r8
-	movq	16(%rsp), %r13
+	movq	8(%rsp), %r13
 	movq	32(%rsp), %r10
 	jne	.LBB4_15
 	jmp	.LBB4_37
@@ -813,25 +814,24 @@
 	cmpq	%rsi, %r11
 	jne	.LBB4_123
 	movl	%r10d, %eax
-	shrl	$3, %eax
-	imulq	$1006878781, %rax, %rax
-	shrq	$38, %rax
-	cmpq	$559104, %r10
-	movl	$256, %ecx
-	cmovbq	%rax, %rcx
-	testq	%rcx, %rcx
+	movl	$2741924259, %ecx
+	imulq	%rax, %rcx
+	shrq	$43, %rcx
+	cmpq	$821248, %r10
+	movl	$256, %r8d
+	cmovbq	%rcx, %r8
+	testq	%r8, %r8
 	je	.LBB4_61
-	movq	%r13, 16(%rsp)
-	imulq	$2184, %rcx, %rax
-	movq	%rax, 24(%rsp)
+	movq	%r13, 8(%rsp)
+	imulq	$3208, %r8, %rax
+	movq	%rax, 16(%rsp)
 	xorl	%edx, %edx
 	xorl	%r13d, %r13d
-	movq	%rcx, 80(%rsp)
 	jmp	.LBB4_41
 .LBB4_40:
 	incq	%r13
-	addq	$2184, %rdx
-	cmpq	%rdx, 24(%rsp)
+	addq	$3208, %rdx
+	cmpq	%rdx, 16(%rsp)
 	je	.LBB4_58
 .LBB4_41:
 	movq	%r15, 48(%rsp)
@@ -845,85 +845,88 @@
 	movq	%rax, 72(%rsp)
 	leaq	64(%rsp), %rdi
 	leaq	48(%rsp), %rsi
-	movq	%rdx, 8(%rsp)
+	movq	%rdx, (%rsp)
+	movq	%r8, %r12
 	callq	"octets::same_bytes"
-	movq	80(%rsp), %rcx
-	movq	8(%rsp), %rdx
+	movq	%r12, %r8
+	movq	24(%rsp), %r12
+	movq	(%rsp), %rdx
 	movq	32(%rsp), %r10
 	movq	40(%rsp), %rdi
 	testb	%al, %al
 	je	.LBB4_40
-	cmpq	%rcx, %r13
+	cmpq	%r8, %r13
 	jae	.LBB4_58
 	movzwl	2(%rdi,%rdx), %eax
-	cmpl	$2048, %eax
-	movl	$2048, %r13d
-	movl	%eax, 24(%rsp)
+	cmpl	$3072, %eax
+	movl	$3072, %r13d
+	movl	%eax, 16(%rsp)
 	cmovbl	%eax, %r13d
 	leaq	136(%rdi,%rdx), %rax
+	movq	%rax, 96(%rsp)
 	movq	%rax, 80(%rsp)
-	movq	%rax, 88(%rsp)
-	movq	%r13, 96(%rsp)
-	movq	16(%rsp), %rax
+	movq	%r13, 88(%rsp)
+	movq	8(%rsp), %rax
 	movq	%rax, 104(%rsp)
 	movq	%r12, 112(%rsp)
-	leaq	88(%rsp), %rdi
+	leaq	80(%rsp), %rdi
 	leaq	104(%rsp), %rsi
 	callq	"octets::same_bytes"
 	testb	%al, %al
 	jne	.LBB4_122
-	movq	80(%rsp), %rax
+	movq	96(%rsp), %rax
 	movq	%rax, 48(%rsp)
 	movq	%r13, 56(%rsp)
-	movq	16(%rsp), %rax
+	movq	8(%rsp), %rax
 	movq	%rax, 64(%rsp)
 	movq	%r12, 72(%rsp)
-	movl	24(%rsp), %eax
+	movl	16(%rsp), %eax
 	cmpw	$7, %ax
 	ja	.LBB4_80
 	testw	%ax, %ax
 	je	.LBB4_124
 	movq	40(%rsp), %rax
 	leaq	(%rax,%r13), %rcx
-	movq	8(%rsp), %rax
+	movq	(%rsp), %rax
 	movzbl	135(%rax,%rcx), %eax
 	cmpq	$1, %r13
-	je	.LBB4_81
+	je	.LBB4_129
 	movq	%r13, %rsi
-	movq	8(%rsp), %rdx
+	movq	(%rsp), %rdx
 	movzbl	134(%rdx,%rcx), %edx
 	shll	$8, %eax
 	orq	%rdx, %rax
 	cmpq	$2, %r13
-	je	.LBB4_81
-	movq	8(%rsp), %rdx
+	je	.LBB4_129
+	movq	(%rsp), %rdx
 	movzbl	133(%rdx,%rcx), %edx
 	shll	$8, %eax
 	orq	%rdx, %rax
 	cmpq	$3, %rsi
-	je	.LBB4_81
-	movq	8(%rsp), %rdx
+	je	.LBB4_129
+	movq	(%rsp), %rdx
 	movzbl	132(%rdx,%rcx), %edx
 	shll	$8, %eax
 	orq	%rdx, %rax
 	cmpq	$4, %rsi
-	je	.LBB4_81
-	movq	8(%rsp), %rdx
+	je	.LBB4_129
+	movq	(%rsp), %rdx
 	movzbl	131(%rdx,%rcx), %edx
 	shlq	$8, %rax
 	orq	%rdx, %rax
 	cmpq	$5, %rsi
-	je	.LBB4_81
-	movq	8(%rsp), %rdx
+	je	.LBB4_129
+	movq	(%rsp), %rdx
 	movzbl	130(%rdx,%rcx), %edx
 	shlq	$8, %rax
 	orq	%rdx, %rax
 	cmpq	$6, %rsi
-	je	.LBB4_81
-	movq	8(%rsp), %rdx
+	je	.LBB4_129
+	movq	(%rsp), %rdx
 	movzbl	129(%rdx,%rcx), %ecx
 	shlq	$8, %rax
 	orq	%rcx, %rax
+	movq	24(%rsp), %r12
 	jmp	.LBB4_81
 .LBB4_54:
 	cmpq	$1, %rsi
@@ -933,33 +936,33 @@
 	je	.LBB4_123
 	testb	%r9b, %r9b
 	js	.LBB4_75
-	movq	%r13, 16(%rsp)
+	movq	%r13, 8(%rsp)
 	shll	$7, %r9d
 	addl	%r9d, %r11d
 	addl	$-128, %r11d
-	movq	%r11, 8(%rsp)
+	movq	%r11, (%rsp)
 	movl	$2, %r9d
 	jmp	.LBB4_11
 .LBB4_58:
 	xorl	%eax, %eax
 	movq	%rdi, %rsi
-	movq	16(%rsp), %r13
+	movq	8(%rsp), %r13
 	movb	$11, %dl
 .LBB4_59:
 	cmpb	$0, (%rsi)
 	je	.LBB4_62
 	incq	%rax
-	addq	$2184, %rsi
-	cmpq	%rax, %rcx
+	addq	$3208, %rsi
+	cmpq	%rax, %r8
 	jne	.LBB4_59
 	jmp	.LBB4_123
 .LBB4_61:
 	xorl	%eax, %eax
 .LBB4_62:
 	movb	$11, %dl
-	cmpq	%rcx, %rax
+	cmpq	%r8, %rax
 	jae	.LBB4_123
-	imulq	$2184, %rax, %r11
+	imulq	$3208, %rax, %r11
 .LBB4_64:
 	movq	%r12, %rax
 	shlq	$16, %rax
@@ -1099,9 +1102,9 @@
 	cmpq	%r8, %r10
 	jne	.LBB4_119
 .LBB4_120:
-	cmpq	$2048, %r12
+	cmpq	$3072, %r12
 	je	.LBB4_122
-	movl	$2048, %edx
+	movl	$3072, %edx
 	subq	%r12, %rdx
 	addq	%rax, %rdi
 	addq	%r12, %rdi
@@ -1130,17 +1133,17 @@
 	testb	%r10b, %r10b
 	js	.LBB4_82
 	shll	$7, %r10d
-	movq	24(%rsp), %r11
+	movq	16(%rsp), %r11
 	addl	%r10d, %r11d
 	addl	$-128, %r11d
-	movq	%r11, 24(%rsp)
+	movq	%r11, 16(%rsp)
 	movl	$2, %r11d
 	movq	32(%rsp), %r10
 	jmp	.LBB4_13
 .LBB4_75:
 	cmpq	$2, %rsi
 	je	.LBB4_123
-	movq	%r13, 16(%rsp)
+	movq	%r13, 8(%rsp)
 	movsbl	2(%rax), %r10d
 	testl	%r10d, %r10d
 	jle	.LBB4_123
@@ -1150,7 +1153,7 @@
 	addl	%r9d, %r11d
 	addl	$-16512, %r11d
 	movl	$3, %r9d
-	movq	%r11, 8(%rsp)
+	movq	%r11, (%rsp)
 	cmpl	$1000000, %r11d
 	movq	32(%rsp), %r10
 	jbe	.LBB4_11
@@ -1167,14 +1170,9 @@
 	jmp	.LBB4_111
 .LBB4_80:
 	addq	40(%rsp), %r13
-	movq	8(%rsp), %rax
+	movq	(%rsp), %rax
 	movq	128(%rax,%r13), %rax
-.LBB4_81:
-	movq	16(%rsp), %rcx
-	movq	-8(%rcx,%r12), %rcx
-	cmpq	%rax, %rcx
-	jae	.LBB4_125
-	jmp	.LBB4_127
+	jmp	.LBB4_81
 .LBB4_82:
 	cmpq	$2, %r13
 	je	.LBB4_123
@@ -1184,14 +1182,15 @@
 	shll	$14, %edi
 	shll	$7, %r10d
 	addl	%edi, %r10d
-	movq	24(%rsp), %rcx
+	movq	16(%rsp), %rcx
 	addl	%r10d, %ecx
 	addl	$-16512, %ecx
 	movl	$3, %r11d
-	movq	%rcx, 24(%rsp)
+	movq	%rcx, 16(%rsp)
 	cmpl	$40000, %ecx
 	movq	40(%rsp), %rdi
 	movq	32(%rsp), %r10
+	movq	24(%rsp), %r12
 	jbe	.LBB4_13
 	jmp	.LBB4_123
 .LBB4_85:
@@ -1258,8 +1257,16 @@
 	cmpq	%rsi, %r10
 	je	.LBB4_120
 	jmp	.LBB4_114
+.LBB4_129:
+	movq	24(%rsp), %r12
+.LBB4_81:
+	movq	8(%rsp), %rcx
+	movq	-8(%rcx,%r12), %rcx
+	cmpq	%rax, %rcx
+	jae	.LBB4_125
+	jmp	.LBB4_127
 .LBB4_124:
-	movq	16(%rsp), %rax
+	movq	8(%rsp), %rax
 	movq	-8(%rax,%r12), %rcx
 	xorl	%eax, %eax
 .LBB4_125:
@@ -1276,8 +1283,9 @@
 .LBB4_128:
 	movq	40(%rsp), %rdi
 	movq	32(%rsp), %r10
-	movq	16(%rsp), %r13
-	movq	8(%rsp), %r11
+	movq	8(%rsp), %r13
+	movq	(%rsp), %r11
+	movq	24(%rsp), %r12
 	jmp	.LBB4_64
 .Lfunc_end4:
 	.size	"records::offer", .Lfunc_end4-"records::offer"
@@ -9496,7 +9504,7 @@
 	movq	8(%r8), %rdx
 	cmpq	$129, %r9
 	setb	%r10b
-	cmpq	$2049, %rdx
+	cmpq	$3073, %rdx
 	setb	%r11b
 	testb	%r11b, %r10b
 	je	.LBB29_67
@@ -11796,12 +11804,12 @@ starterbell_find:
 	movq	%rbp, 32(%rsp)
 	movq	%r14, 24(%rsp)
 	movl	%ebx, %eax
-	shrl	$3, %eax
-	imulq	$1006878781, %rax, %rax
-	shrq	$38, %rax
-	cmpq	$559104, %rbx
+	movl	$2741924259, %ecx
+	imulq	%rax, %rcx
+	shrq	$43, %rcx
+	cmpq	$821248, %rbx
 	movl	$256, %ebp
-	cmovbq	%rax, %rbp
+	cmovbq	%rcx, %rbp
 	testq	%rbp, %rbp
 	je	.LBB38_7
 	addq	$8, %r15
@@ -11811,8 +11819,8 @@ starterbell_find:
 	.p2align	4
 .LBB38_5:
 	incq	%rbx
-	addq	$-2184, %r14
-	addq	$2184, %r15
+	addq	$-3208, %r14
+	addq	$3208, %r15
 	cmpq	%rbx, %rbp
 	je	.LBB38_7
 .LBB38_3:
@@ -11833,8 +11841,8 @@ starterbell_find:
 	movq	%r14, %rax
 	negq	%rax
 	movzwl	-6(%r15), %ecx
-	cmpl	$2048, %ecx
-	movl	$2048, %edx
+	cmpl	$3072, %ecx
+	movl	$3072, %edx
 	cmovbl	%ecx, %edx
 	subq	%r14, %rdx
 	movq	%rax, 8(%rsp)
@@ -15441,12 +15449,12 @@ starterbell_receive:
 	movq	656(%rsp), %r13
 	movq	5880(%rsp), %rbx
 	movl	%ebx, %eax
-	shrl	$3, %eax
-	imulq	$1006878781, %rax, %rax
-	shrq	$38, %rax
-	cmpq	$559104, %rbx
+	movl	$2741924259, %ecx
+	imulq	%rax, %rcx
+	shrq	$43, %rcx
+	cmpq	$821248, %rbx
 	movl	$256, %ebp
-	cmovbq	%rax, %rbp
+	cmovbq	%rcx, %rbp
 	testq	%rbp, %rbp
 	movq	5872(%rsp), %rbx
 	je	.LBB49_220
@@ -15456,7 +15464,7 @@ starterbell_receive:
 	jmp	.LBB49_187
 .LBB49_186:
 	incq	%r14
-	addq	$2184, %rbx
+	addq	$3208, %rbx
 	cmpq	%r14, %rbp
 	je	.LBB49_220
 .LBB49_187:
@@ -15476,8 +15484,8 @@ starterbell_receive:
 	cmpq	%r14, %rbp
 	jbe	.LBB49_220
 	movzwl	-134(%rbx), %ecx
-	cmpl	$2048, %ecx
-	movl	$2048, %eax
+	cmpl	$3072, %ecx
+	movl	$3072, %eax
 	cmovbl	%ecx, %eax
 	movq	%rbx, 144(%rsp)
 	movq	%rax, 152(%rsp)
@@ -15835,7 +15843,7 @@ starterbell_receive:
 .LBB49_242:
 	cmpq	$129, %r14
 	setb	%cl
-	cmpq	$2049, %rbp
+	cmpq	$3073, %rbp
 	setb	%dl
 	andb	%cl, %dl
 	xorl	%ecx, %ecx
@@ -17554,7 +17562,7 @@ starterbell_write:
 	je	.LBB54_5
 	cmpq	$129, 120(%rsp)
 	setae	%al
-	cmpq	$2049, 136(%rsp)
+	cmpq	$3073, 136(%rsp)
 	setae	%dl
 	orb	%al, %dl
 	jne	.LBB54_8
