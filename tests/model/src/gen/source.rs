@@ -228,7 +228,7 @@ impl Source {
         Step::Receive { line, piece: self.unsent[line][..n].to_vec() }
     }
 
-    /// What is still to be handed over on a line, in place of what was; a piece of that is made up no more.
+    /// What is still to be handed over on a line, in place of what was, and of a call made up already that would have handed over some of that.
     pub fn send(&mut self, line: usize, bytes: Vec<u8>) {
         self.pending.retain(|step| !matches!(step, Step::Receive { line: other, .. } if *other == line));
         self.unsent.resize(self.unsent.len().max(line + 1), vec![]);
