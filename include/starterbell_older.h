@@ -13,7 +13,7 @@
 #include "starterbell_box.h"
 
 /* ---- Version 0.1, whose numbers don't move any more: the bytes of a record's slot and the most slots, the most bytes of a key, the least and the most of a value, and
-   where the lengths of both and both stand. */
+   where key, value and their lengths stand. */
 
 #define STARTERBELL_OLDER_SLOT 2184
 #define STARTERBELL_OLDER_SLOTS_MOST 256
@@ -63,7 +63,8 @@ static inline int starterbell_older_is_key(struct starterbell_bytes key) {
     return 1;
 }
 
-/* The record in a slot of old memory. A host that hasn't room for all of that reads a slot at a time, and hands it over as slot 0. */
+/* The record in a slot of old memory. A host that hasn't room for all of that reads a slot at a time, and hands it over as slot 0; that a
+   key stands twice isn't noticed then, and its records are ranked. */
 static inline struct starterbell_older_record starterbell_older_at(const uint8_t *older, size_t older_length, size_t slot) {
     struct starterbell_older_record record;
     struct starterbell_bytes key, value;

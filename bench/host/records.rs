@@ -198,7 +198,7 @@ fn key(random: &mut Random, case: &str, number: usize) -> Vec<u8> {
     key
 }
 
-// The largest recipe of a case: setpoints of six bytes, of which the last comes close to turn 1,000,000, and a note before them.
+// The largest recipe of a case: setpoints of six bytes, of which the last of 400 comes close to turn 1,000,000, and a note before them.
 fn recipe(case: &str, sequence: u64) -> Vec<u8> {
     let (length, count) = if case == SHORTER { (2048, 200) } else { (MOST_VALUE, MOST_SETPOINTS) };
     let mut points = Vec::new();

@@ -35,4 +35,4 @@ module _ (m : Message) (fits : writable m ≡ true) (r : Record) (h : m .held �
     where
       go : (b : Bool) → positionsOf (encode m) .held .there ≡ b → ShowsRecord (encode m) (r .key) (r .value)
       go false e = absurd (Option·none-ne-some r (sym (meant .bare e) ∙ said))
-      go true e = let q = Option·some-injective _ r (sym (meant .held e) ∙ said) in record { view = view; key = ap (λ (x : Record). x .key) q; value = ap (λ (x : Record). x .value) q }
+      go true e = let q = Option·some-injective _ r (sym (meant .held e) ∙ said) in record { view = view; there = e; key = ap (λ (x : Record). x .key) q; value = ap (λ (x : Record). x .value) q }

@@ -75,9 +75,10 @@ SentAsTyped me =
     → dealOf me who body l
     ≡ byVerdict (echoed (putAnswer (l .records) (m .key) (r .value)) (putValueReply (m .key) (r .value))) (withRecords l (putAfter (l .records) (m .key) (r .value))) l
 
--- the reader's view of a body shows a record: its key, and its value to the last byte
+-- the reader's view of a body shows a record: that there is one, its key, and its value to the last byte
 pub record ShowsRecord (body k v : List ℕ) : Type 0 where
   pub view : isView body (positionsOf body) ≡ true
+  pub there : positionsOf body .held .there ≡ true
   pub key : recordKeyBytes body (positionsOf body) ≡ k
   pub value : recordValueBytes body (positionsOf body) ≡ v
 

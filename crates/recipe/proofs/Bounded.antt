@@ -1,23 +1,22 @@
 -- How long a recipe may be. Assumes nothing.
-use Prim.Native.Nat.{ℕ, zero, suc, _+_, _-_, _*_, _/_, _%_, _≤_, _<_}
-use mathlib.Core.Path.{_≡_, refl, sym, ap, ap₂, _∙_}
+use Prim.Native.Nat.{ℕ, zero, suc, _+_, _-_, _*_, _/_, _%_, _≤_}
+use mathlib.Core.Path.{_≡_, refl, sym, ap, _∙_}
 use mathlib.Core.Bool.{Bool, true, false, cond, _&&_}
 use mathlib.Core.List.{List, [], _∷_, _++_}
 use native.Mathlib.Omega.{arith}
-use lib.ListN.{length, take, drop, replicate}
+use lib.ListN.{length, drop, replicate}
 use lib.Dec.{ltb, leb, eqb}
 use lib.IntN.{ℤ}
 use borrow.Author.Tests.{le-leb, leb-true}
 use Rattle.octets.specs.Octets.{littleNumber}
 use Rattle.octets.specs.Search.{allOf}
-use Rattle.octets.proofs.Bools.{and-fails, all-none, all-one-more}
+use Rattle.octets.proofs.Bools.{and-fails}
 use Rattle.recipe.specs.Limits.{trailerSize, formatOne}
-use Rattle.limits.specs.Limits.{mostValue, mostSetpoints}
 use Rattle.recipe.specs.declared.Point.{Point}
 use Rattle.recipe.specs.declared.Point.the-variants.{Is as pIs, Broken as pBroken}
-use Rattle.recipe.specs.Recipe.{Setpoint, Setpoints, These, NoList, onPoint, fromEnd, trimOf, zigzagOf, continued, varint, point, andThen, setpoints, inRange, noLeap, follows, rules, ruled, isList, distanceOf, countOf, formatOf, roomOf, Bounds, recipeWithin, ours, isRecipe}
-use Rattle.recipe.specs.Claims.{Counted, LongestRecipes, NotesAreFree, BoundsAlone}
-use Rattle.recipe.proofs.Trailer.{recipe-least, recipe-most, recipe-near, recipe-far, recipe-count, recipe-format, recipe-list}
+use Rattle.recipe.specs.Recipe.{Setpoint, Setpoints, These, NoList, onPoint, trimOf, zigzagOf, continued, varint, point, andThen, setpoints, inRange, noLeap, follows, rules, ruled, isList, distanceOf, countOf, formatOf, roomOf, Bounds, recipeWithin, ours, isRecipe}
+use Rattle.recipe.specs.Claims.{Counted, LongestRecipes, InNumbers, BoundsAlone}
+use Rattle.recipe.proofs.Trailer.{recipe-least, recipe-most, recipe-count}
 
 -- ---- bounds alone
 and-true : (b : Bool) → b ≡ (b && true)
@@ -94,45 +93,7 @@ counted (suc n) s ps e = go (counted n) (point s) e
     go h (pIs turn trim k) q = one-more n turn trim (setpoints n (drop k s)) (h (drop k s)) ps q
     go h pBroken q = absurd (no-list q)
 
--- ---- a byte more before the note: every number of the trailer is read from the end
-module _ (b : ℕ) (v : List ℕ) where
-  same-end : (d e : ℕ) → d ≤ length v → e ≤ d → fromEnd d e (b ∷ v) ≡ fromEnd d e v
-  same-end d e h l =
-      let x : suc (length v) - d ≡ suc (length v - d) = omega arith in
-      let y : suc (length v) - e - (suc (length v) - d) ≡ length v - e - (length v - d) = omega arith in
-      ap₂ (λ (i j : ℕ). take i (drop j (b ∷ v))) y x
-
-  module _ (r : isRecipe v ≡ true) where
-    least : trailerSize ≤ length v
-    least = recipe-least v r
-
-    same-distance : distanceOf (b ∷ v) ≡ distanceOf v
-    unfolding distanceOf
-    same-distance = ap littleNumber (same-end 16 12 (omega (arith, least)) (omega arith))
-
-    same-count : countOf (b ∷ v) ≡ countOf v
-    unfolding countOf
-    same-count = ap littleNumber (same-end 12 10 (omega (arith, least)) (omega arith))
-
-    same-format : formatOf (b ∷ v) ≡ formatOf v
-    unfolding formatOf
-    same-format = ap littleNumber (same-end 10 8 (omega (arith, least)) (omega arith))
-
-    same-room : roomOf (b ∷ v) ≡ roomOf v
-    unfolding roomOf
-    same-room = ap (λ (d : ℕ). fromEnd d trailerSize (b ∷ v)) same-distance ∙ same-end (distanceOf v) trailerSize (recipe-far v r) (recipe-near v r)
-
-    pub note-is-free : length v < mostValue → isRecipe (b ∷ v) ≡ true
-    unfolding isRecipe recipeWithin
-    note-is-free l =
-        rw (same-distance, same-count, same-format, same-room)
-        (all-one-more _ _ (le-leb trailerSize (suc (length v)) (omega (arith, least)))
-        (all-one-more _ _ (le-leb (suc (length v)) mostValue l)
-        (all-one-more _ _ (le-leb trailerSize (distanceOf v) (recipe-near v r))
-        (all-one-more _ _ (le-leb (distanceOf v) (suc (length v)) (omega (arith, recipe-far v r)))
-        (all-one-more _ _ (le-leb (countOf v) mostSetpoints (recipe-count v r))
-        (all-one-more _ _ (recipe-format v r)
-        (all-one-more _ _ (recipe-list v r) all-none)))))))
-
-pub notes-are-free : NotesAreFree
-notes-are-free b v r l = note-is-free b v r l
+-- ---- in numbers
+pub in-numbers : InNumbers
+unfolding isRecipe recipeWithin
+in-numbers v = refl

@@ -7,7 +7,7 @@ use Rattle.octets.proofs.Bools.{to-false, to-true}
 use Rattle.recipe.specs.Recipe.{outranks}
 use Rattle.recipe.specs.Claims.{Claims}
 use Rattle.recipe.proofs.Neighbours.{by-neighbours, leaps-are-refused}
-use Rattle.recipe.proofs.Bounded.{counted, longest-recipes, notes-are-free, bounds-alone}
+use Rattle.recipe.proofs.Bounded.{counted, longest-recipes, in-numbers, bounds-alone}
 use Rattle.recipe.proofs.Rank.{outranks-asym, outranks-trans, outranks-total, outranks-self}
 use Rattle.recipe.proofs.Zigzag.{trim-zigzag, zigzag-trim}
 
@@ -24,7 +24,7 @@ claims = record {
   leaps-are-refused = leaps-are-refused;
   counted = counted;
   longest-recipes = longest-recipes;
-  notes-are-free = notes-are-free;
+  in-numbers = in-numbers;
   bounds-alone = bounds-alone;
   rank-total = rank-total;
   rank-self = outranks-self;

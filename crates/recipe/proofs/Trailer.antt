@@ -162,32 +162,21 @@ pub recipe-most : (v : List ℕ) → isRecipe v ≡ true → length v ≤ mostVa
 unfolding isRecipe recipeWithin
 recipe-most v h = leb-true (length v) mostValue (all-head (leb (length v) mostValue) (near-test v) (all-rest (leb trailerSize (length v)) (long-test v) h))
 
--- ---- and its trailer and its list
+-- ---- its count and its list
 module _ (v : List ℕ) (h : isRecipe v ≡ true) where
-  near-on : allOf (near-test v) ≡ true
+  counted : allOf (count-test v) ≡ true
   unfolding isRecipe recipeWithin
-  near-on = all-rest (leb (length v) mostValue) (near-test v) (all-rest (leb trailerSize (length v)) (long-test v) h)
-
-  far-on : allOf (far-test v) ≡ true
-  far-on = all-rest (leb trailerSize (distanceOf v)) (far-test v) near-on
-
-  count-on : allOf (count-test v) ≡ true
-  count-on = all-rest (leb (distanceOf v) (length v)) (count-test v) far-on
-
-  format-on : allOf (format-test v) ≡ true
-  format-on = all-rest (leb (countOf v) mostSetpoints) (format-test v) count-on
-
-  pub recipe-near : trailerSize ≤ distanceOf v
-  recipe-near = leb-true trailerSize (distanceOf v) (all-head (leb trailerSize (distanceOf v)) (far-test v) near-on)
-
-  pub recipe-far : distanceOf v ≤ length v
-  recipe-far = leb-true (distanceOf v) (length v) (all-head (leb (distanceOf v) (length v)) (count-test v) far-on)
+  counted =
+      all-rest (leb (distanceOf v) (length v)) (count-test v)
+      (all-rest (leb trailerSize (distanceOf v)) (far-test v)
+      (all-rest (leb (length v) mostValue) (near-test v)
+      (all-rest (leb trailerSize (length v)) (long-test v) h)))
 
   pub recipe-count : countOf v ≤ mostSetpoints
-  recipe-count = leb-true (countOf v) mostSetpoints (all-head (leb (countOf v) mostSetpoints) (format-test v) count-on)
-
-  pub recipe-format : eqb (formatOf v) formatOne ≡ true
-  recipe-format = all-head (eqb (formatOf v) formatOne) (list-test v) format-on
+  recipe-count = leb-true (countOf v) mostSetpoints (all-head (leb (countOf v) mostSetpoints) (format-test v) counted)
 
   pub recipe-list : isList (countOf v) (roomOf v) ≡ true
-  recipe-list = all-head (isList (countOf v) (roomOf v)) [] (all-rest (eqb (formatOf v) formatOne) (list-test v) format-on)
+  recipe-list =
+      all-head (isList (countOf v) (roomOf v)) []
+      (all-rest (eqb (formatOf v) formatOne) (list-test v)
+      (all-rest (leb (countOf v) mostSetpoints) (format-test v) counted))

@@ -2,12 +2,12 @@
 use Prim.Native.Nat.{ℕ, suc, _-_, _<_, _≤_}
 use mathlib.Core.Path.{_≡_}
 use mathlib.Core.Bool.{Bool, true, false, not, _&&_}
-use mathlib.Core.List.{List, _∷_}
+use mathlib.Core.List.{List, [], _∷_}
 use lib.ListN.{length, getD}
-use lib.Dec.{ltb, leb}
+use lib.Dec.{ltb, leb, eqb}
 use lib.IntN.{ℤ, pos, natAbs, _-ℤ_}
-use Rattle.octets.specs.Search.{all}
-use Rattle.recipe.specs.Recipe.{trimOf, zigzagOf, Setpoint, These, setpoints, inRange, rules, countOf, roomOf, Bounds, recipeWithin, isRecipe, outranks}
+use Rattle.octets.specs.Search.{all, allOf}
+use Rattle.recipe.specs.Recipe.{trimOf, zigzagOf, Setpoint, These, setpoints, inRange, rules, isList, distanceOf, countOf, formatOf, roomOf, Bounds, recipeWithin, isRecipe, outranks}
 use Rattle.recipe.specs.declared.Prev.the-variants.{First}
 
 -- the setpoint at a position, from 0; past the end, turn 0 with trim 0
@@ -35,7 +35,7 @@ LeapsAreRefused =
     (v : List ℕ) (ps : List Setpoint) (i : ℕ) → setpoints (countOf v) (roomOf v) ≡ These ps → suc i < length ps → trimStays ps i ≡ false → isRecipe v ≡ false
 
 -- ---- how long a recipe may be
--- so many setpoints are as many
+-- `setpoints n` gives n of them, or no list
 abbrev pub Counted : Type 0
 Counted = (n : ℕ) (s : List ℕ) (ps : List Setpoint) → setpoints n s ≡ These ps → length ps ≡ n
 
@@ -45,9 +45,20 @@ pub record LongestRecipes : Type 0 where
   pub points : (v : List ℕ) → isRecipe v ≡ true → countOf v ≤ 400
   pub one : (v : List ℕ) × (isRecipe v ≡ true) × (length v ≡ 3072) × (countOf v ≡ 400)
 
--- and every length between: a note may have any byte more before it
-abbrev pub NotesAreFree : Type 0
-NotesAreFree = (b : ℕ) (v : List ℕ) → isRecipe v ≡ true → length v < 3072 → isRecipe (b ∷ v) ≡ true
+-- and nothing else is asked of a value than this: distance "16 up to the value's length", "u16 format, 1", and its list
+abbrev pub InNumbers : Type 0
+InNumbers =
+    (v : List ℕ)
+    → isRecipe v
+    ≡ allOf
+    (leb 16 (length v)
+    ∷ leb (length v) 3072
+    ∷ leb 16 (distanceOf v)
+    ∷ leb (distanceOf v) (length v)
+    ∷ leb (countOf v) 400
+    ∷ eqb (formatOf v) 1
+    ∷ isList (countOf v) (roomOf v)
+    ∷ [])
 
 -- lower bounds refuse what is over them, and nothing else: every other rule is the same
 abbrev pub BoundsAlone : Type 0
@@ -61,7 +72,7 @@ pub record Claims : Type 0 where
   pub leaps-are-refused : LeapsAreRefused
   pub counted : Counted
   pub longest-recipes : LongestRecipes
-  pub notes-are-free : NotesAreFree
+  pub in-numbers : InNumbers
   pub bounds-alone : BoundsAlone
   -- the rank orders all values: of two that differ exactly one ranks higher; none ranks higher than itself; rank goes over
   pub rank-total : (a b : List ℕ) → (a ≡ b → ⊥) → outranks a b ≡ not (outranks b a)
