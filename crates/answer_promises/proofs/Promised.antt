@@ -371,4 +371,4 @@ given-whole me = record { served = served; echoed = echo; echo = echo-short }
         })
 
 pub refused-when-sent : RefusedWhenSent
-refused-when-sent k v plan echo e h = ap (λ (a : stored.Answer). echoed a echo) (refused-before [] k v plan e h .0)
+refused-when-sent b k v plan echo e h = ap (λ (a : stored.Answer). echoed a echo) (refused-before b [] k v plan e h .0)

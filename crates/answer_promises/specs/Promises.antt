@@ -8,7 +8,7 @@ use lib.ListN.{length, take, drop}
 use Rattle.limits.specs.Limits.{mostId, mostBody, leastReply, mostKind}
 use Rattle.refusal.specs.declared.Refusal.{Refusal}
 use Rattle.refusal.specs.declared.Refusal.the-variants.{BrokenRecipe}
-use Rattle.recipe.specs.Recipe.{recipeWithin}
+use Rattle.recipe.specs.Recipe.{Bounds, recipeWithin}
 use Rattle.peer.specs.declared.Peer as peers
 use Rattle.peer.specs.Addresses.{keptOf}
 use Rattle.peer.specs.Peers.{idFits, peerOf}
@@ -16,7 +16,7 @@ use Rattle.records.specs.Store.{isKey, inForm, judged, answerOf, putAnswer, put
 use Rattle.records.specs.declared.Plan.{Plan}
 use Rattle.records.specs.declared.Answer.the-variants.{Taken}
 use Rattle.records_history.specs.History.{Has, got}
-use Rattle.records_history.specs.Claims.{before, OverBefore}
+use Rattle.records_history.specs.Claims.{Outside}
 use Rattle.message.specs.Message.{Record, Message, messageOf, decode, encode, frame}
 use Rattle.pieces.specs.Writable.{writable}
 use Rattle.parts.specs.Parts.{isView, positionsOf, recordKeyBytes, recordValueBytes}
@@ -108,11 +108,12 @@ pub record GivenWhole (me : peers.Peer) : Type 0 where
       → Serves (dealOf me who body l) (l .reply) (m .key) (r .value)
   pub echo : (k key v : List ℕ) → putAnswer k key v ≡ Taken → length (encode (putValueReply key v)) ≤ 3342
 
--- "Boxes not yet changed refuse the longer value with 9", sent as typed: a PUT_VALUE gets what their store says to it (`RefusedBefore`, crates/records_history)
+-- "Boxes not yet changed refuse the longer value with 9", "A box knowing only format 1 refuses 2 with 9", sent as typed: a PUT_VALUE gets what their store says to it
+-- (`RefusedBefore`, crates/records_history)
 abbrev pub RefusedWhenSent : Type 0
 RefusedWhenSent =
-    (k v : List ℕ) (store : Plan) (echo : Message) → isKey k ≡ true → OverBefore v
-    → echoed (answerOf (judged (recipeWithin before) k v store)) echo ≡ refuses BrokenRecipe
+    (b : Bounds) (k v : List ℕ) (store : Plan) (echo : Message) → isKey k ≡ true → Outside b v
+    → echoed (answerOf (judged (recipeWithin b) k v store)) echo ≡ refuses BrokenRecipe
 
 -- the entry for us or the requester has the id and the usable addresses that were handed in
 abbrev pub EntryIsPeer : Type 0

@@ -5,6 +5,7 @@ use Rattle.peer.specs.declared.Peer.{Peer}
 use Rattle.contacts.proofs.TwentyNearest.{nearest-are}
 use Rattle.records_history.proofs.Holding.{held-is-found, judged-first, put-told}
 use Rattle.records_history.proofs.Blind.{form-is-blind}
+use Rattle.recipe_fields.proofs.Claims.{claims as recipe-fields}
 use Rattle.records_history.proofs.Longer.{taken-whole, refused-before}
 use Rattle.records_history.proofs.Claims.{highest-is-found}
 use Rattle.message.proofs.Occurrences.{split-is-merged}
@@ -52,6 +53,7 @@ second me w =
       reads = reads-well;
       split = split-is-merged;
       writes = round-trip;
+      recipes = recipe-fields;
       readable = written-is-read;
       written = written;
       prefix = prefix-is-varint;

@@ -28,6 +28,7 @@ use Rattle.records.specs.declared.Answer.the-variants as putTold
 use Rattle.records.specs.declared.Found.the-variants as findTold
 use Rattle.records.specs.Store.{putAnswer, putAfter, findOf}
 use Rattle.records_history.specs.History.{None, got, Offer, after, cleared, Accepted, Unbeaten}
+use Rattle.recipe_fields.specs.Claims.{Claims as RecipeFields}
 use Rattle.records_history.specs.Claims.{FormIsBlind, HighestIsFound, HeldIsFound, JudgedFirst, PutTold, TakenWhole, RefusedBefore}
 use Rattle.message.specs.Message.{Record, Message, messageOf, decode, encode, frame}
 use Rattle.message.specs.Claims.{ReadsWell, SplitIsMerged}
@@ -178,6 +179,8 @@ pub record Second (me : Peer) : Type 0 where
   pub writes : RoundTrip
   pub readable : WrittenIsRead
   pub written : (y : List ℕ) (m : Message) (n : ℕ) → answerOf y m ≡ writer.Done n → Writes m y n
+  -- and so for the fields of a recipe, in both formats (request xi)
+  pub recipes : RecipeFields
   -- with its length prefix, which is a varint of the same wire format: whatever follows, it is a whole message of that body; and handed over in any pieces, that
   -- message arrives
   pub prefix : PrefixIsVarint
@@ -286,7 +289,7 @@ pub record Third (me : Peer) : Type 0 where
   -- nor does 0 look into a value
   pub blind : FormIsBlind
   -- request iii, "nobody may read it short": what a put takes, typed or sent, is given to its last byte by find, in replies and in their views; and a box of before
-  -- the request refuses what is over its bounds, typed or sent
+  -- the request refuses what is over its bounds, typed or sent; so does one that knows format 1 alone refuse what is of format 2 (request xi)
   pub whole : TakenWhole
   pub givenWhole : GivenWhole me
   pub refusedBefore : RefusedBefore

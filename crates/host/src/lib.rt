@@ -7,7 +7,10 @@ ghost use Rattle.records.specs.Store.{putAnswer, putAfter, findOf};
 ghost use Rattle.message.specs.View.{readingOf};
 ghost use Rattle.writer.specs.Writer.{messageWith, answerOf, outAfter};
 ghost use Rattle.host_answers.specs.Answers.{putNumber, findNumber, findNumbers, readNumber, readNumbers, entryFrom, addressFrom, partNumber, peerNumbers, addressNumbers};
-ghost use Rattle.host_answers.specs.Answers.{writeNumber, writeNumbers};
+ghost use Rattle.host_answers.specs.Answers.{writeNumber, writeNumbers, spansNumber, spansNumbers, setpointsNumber, recipeNumber, recipeNumbers};
+ghost use Rattle.recipe.specs.Recipe.{isRecipe};
+ghost use Rattle.recipe_fields.specs.Places.{spansOf, turnsAfter, trimsAfter};
+ghost use Rattle.recipe_fields.specs.Writing.{given, writtenOf, afterOf};
 ghost use Rattle.host.specs.Host.{startCode, startMemory, openCode, openMemory, endCode, endMemory, seenCode, seenContacts, seenOut, settleCode, settleContacts};
 ghost use Rattle.host.specs.Host.{removeCode, removeContacts, doubtCode, doubtContacts, nearestCode, nearestOut, Receives, Begins, Nexts, Replies, Fails};
 
@@ -212,6 +215,71 @@ pub extern "C" fn starterbell_find(records: &[u8], key: &[u8], out: &mut [u64]) 
 {
     let f = host_calls::find(records, key);
     host_answers::find_answer(out, f)
+}
+
+// ---- recipes
+
+// Where the fields of a recipe stand in its value. 64, and seven numbers go to out: its format, where its core, its wrap and its trailer start, how many setpoints core
+// and wrap have, its sequence. 9 where it is no recipe, and three: the rule that is broken, in which part, 0 the whole, 1 the wrap, 2 the core, and at which setpoint. In C:
+//
+//     uint32_t starterbell_recipe_read(const uint8_t *value, size_t value_length, uint64_t *out, size_t out_length);
+#[no_mangle]
+pub extern "C" fn starterbell_recipe_read(value: &[u8], out: &mut [u64]) -> u32
+    ensures { λ r. ⌜ (r ≡ spansNumber (spansOf (now (value .entry)))) × (now (out .exit) ≡ spansNumbers (now (out .entry)) (spansOf (now (value .entry)))) ⌝ }
+{
+    let s = recipe_fields::read(value);
+    host_answers::recipe_read_answer(out, s)
+}
+
+// The setpoints of a recipe's wrap, or of its core if `core` says so, as turns and trims, as many as fit. 64, or 9 where it is no recipe. In C:
+//
+//     uint32_t starterbell_recipe_setpoints(const uint8_t *value, size_t value_length, uint32_t core, uint32_t *turns, size_t turns_length,
+//         int32_t *trims, size_t trims_length);
+#[no_mangle]
+pub extern "C" fn starterbell_recipe_setpoints(
+    value: &[u8],
+    core: u32,
+    turns: &mut [u32],
+    trims: &mut [i32],
+) -> u32
+    ensures { λ r. ⌜ (r ≡ setpointsNumber (isRecipe (now (value .entry)))) × (now (turns .exit) ≡ turnsAfter (now (value .entry)) (saysYes core) (now (turns .entry))) × (now (trims .exit) ≡ trimsAfter (now (value .entry)) (saysYes core) (now (trims .entry))) ⌝ }
+{
+    let is = recipe_fields::setpoints(value, host_numbers::says_yes(core), turns, trims);
+    host_answers::setpoints_answer(is)
+}
+
+// Writes a recipe at the start of `value`, as far as that goes: its format, its note, the turns and trims of its wrap and of its core, its sequence. 64, and its whole length
+// goes to out; or 9 where no recipe has these fields, with the three numbers that a read gives. In C:
+//
+//     uint32_t starterbell_recipe_write(uint8_t *value, size_t value_length, size_t format, const uint8_t *note, size_t note_length,
+//         const uint32_t *wrap_turns, size_t wrap_turns_length, const int32_t *wrap_trims, size_t wrap_trims_length,
+//         const uint32_t *core_turns, size_t core_turns_length, const int32_t *core_trims, size_t core_trims_length,
+//         uint64_t sequence, uint64_t *out, size_t out_length);
+#[no_mangle]
+pub extern "C" fn starterbell_recipe_write(
+    value: &mut [u8],
+    format: usize,
+    note: &[u8],
+    wrap_turns: &[u32],
+    wrap_trims: &[i32],
+    core_turns: &[u32],
+    core_trims: &[i32],
+    sequence: u64,
+    out: &mut [u64],
+) -> u32
+    ensures { λ r. ⌜ (r ≡ recipeNumber (writtenOf (given format (now (note .entry)) (now («wrap_turns» .entry)) (now («wrap_trims» .entry)) (now («core_turns» .entry)) (now («core_trims» .entry)) sequence))) × (now (value .exit) ≡ afterOf (given format (now (note .entry)) (now («wrap_turns» .entry)) (now («wrap_trims» .entry)) (now («core_turns» .entry)) (now («core_trims» .entry)) sequence) (now (value .entry))) × (now (out .exit) ≡ recipeNumbers (now (out .entry)) (writtenOf (given format (now (note .entry)) (now («wrap_turns» .entry)) (now («wrap_trims» .entry)) (now («core_turns» .entry)) (now («core_trims» .entry)) sequence))) ⌝ }
+{
+    let w = recipe_fields::write(
+        value,
+        format,
+        note,
+        wrap_turns,
+        wrap_trims,
+        core_turns,
+        core_trims,
+        sequence,
+    );
+    host_answers::recipe_write_answer(out, w)
 }
 
 // ---- messages

@@ -1,4 +1,4 @@
--- What is handed over of contacts and of a message's peers is what the functions below gave. Assumes nothing.
+-- What is handed over of contacts, recipes and a message's peers is what the functions below gave. Assumes nothing.
 use Prim.Native.Nat.{ℕ, _<_, _≤_}
 use mathlib.Core.Path.{_≡_, sym, ap, _∙_}
 use mathlib.Core.Bool.{Bool, true, false}
@@ -9,6 +9,11 @@ use Rattle.octets.proofs.Bools.{cond-yes, cond-no}
 use Rattle.octets.proofs.Stores.{sets-append}
 use Rattle.refusal.specs.declared.Refusal.{Refusal}
 use Rattle.refusal.specs.Refusal.{numberOf}
+use Rattle.recipe.specs.Faults.{ruleNumber, partNumber as recipePart}
+use Rattle.recipe.specs.declared.Rule.{Rule}
+use Rattle.recipe.specs.declared.Part.{Part}
+use Rattle.recipe.specs.declared.Verdict.{Verdict}
+use Rattle.recipe.specs.declared.Verdict.the-variants.{Broken}
 use Rattle.connections.specs.declared.Told.{Told}
 use Rattle.connections.specs.declared.Told.the-variants as told
 use Rattle.host_calls.specs.declared.Nearby.{Nearby}
@@ -22,7 +27,7 @@ use Rattle.wire.specs.Wire.{firstOf, fieldsAt, spans}
 use Rattle.peer_walk.specs.PeerWalk.{walkedOf}
 use Rattle.peer_walk.specs.declared.Walked.{Walked}
 use Rattle.host_numbers.specs.Numbers.{toldCode, unlessRefused}
-use Rattle.host_answers.specs.Answers.{nearestNumbers, entryFrom, laterOf, addressFrom, partNumber, peerNumbers}
+use Rattle.host_answers.specs.Answers.{nearestNumbers, faultNumbers, entryFrom, laterOf, addressFrom, partNumber, peerNumbers}
 
 -- ---- the nearest contacts
 module _ (out : List ℕ) (x : Nearby) where
@@ -77,3 +82,9 @@ pub address-next : (s : List ℕ) (start end from at : ℕ) (f : Found) → at �
     → f ≡ addressFrom s start end from
 unfolding addressFrom
 address-next s start end from at f ea ef = ef ∙ ap (λ (x : ℕ). firstOf (spans 2 (fieldsAt (take end s) x))) ea
+
+-- ---- which rule is broken
+pub broken-told : (out new : List ℕ) (rule : Rule) (part : Part) (i r p : ℕ) (w : Verdict) → w ≡ Broken rule part i → r ≡ ruleNumber rule → p ≡ recipePart part
+    → new ≡ sets out 0 (r ∷ p ∷ i ∷ []) → new ≡ sets out 0 (faultNumbers w)
+broken-told out new rule part i r p w e er ep h =
+    h ∙ ap (λ (x : ℕ). sets out 0 (x ∷ p ∷ i ∷ [])) er ∙ ap (λ (x : ℕ). sets out 0 (ruleNumber rule ∷ x ∷ i ∷ [])) ep ∙ sym (ap (λ (x : Verdict). sets out 0 (faultNumbers x)) e)

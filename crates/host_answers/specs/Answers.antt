@@ -1,6 +1,6 @@
--- The answers of the calls on contacts, records and messages: each returns a number, a refusal's own or an answer from 64 up, and writes further numbers to out.
+-- The answers of the calls on contacts, records, recipes and messages: each returns a number, a refusal's own or an answer from 64 up, and writes further numbers to out.
 use Prim.Native.Nat.{ℕ}
-use mathlib.Core.Bool.{cond}
+use mathlib.Core.Bool.{Bool, cond}
 use mathlib.Core.List.{List, [], _∷_}
 use lib.ListN.{take}
 use lib.Seq.{sets}
@@ -12,6 +12,13 @@ use Rattle.records.specs.declared.Answer as records
 use Rattle.records.specs.declared.Answer.the-variants as offer
 use Rattle.records.specs.declared.Found.{Found}
 use Rattle.records.specs.declared.Found.the-variants as found
+use Rattle.recipe.specs.Faults.{ruleNumber, partNumber as recipePart}
+use Rattle.recipe.specs.declared.Verdict.{Verdict}
+use Rattle.recipe.specs.declared.Verdict.the-variants as verdict
+use Rattle.recipe_fields.specs.declared.Spans.{Spans}
+use Rattle.recipe_fields.specs.declared.Spans.the-variants as spans
+use Rattle.recipe_fields.specs.declared.Written as fields
+use Rattle.recipe_fields.specs.declared.Written.the-variants as recipe
 use Rattle.wire.specs.declared.Found as wire
 use Rattle.wire.specs.declared.Found.the-variants as part
 use Rattle.wire.specs.Wire.{firstOf, fieldsAt, spans}
@@ -51,6 +58,33 @@ abbrev pub findNumbers : List ℕ → Found → List ℕ
 findNumbers out (found.Held start end) = sets out 0 (start ∷ end ∷ [])
 findNumbers out found.NotHeld = out
 findNumbers out (found.Refused r) = out
+
+-- ---- recipes
+-- 9, and three numbers to out: the rule that is broken, in which part, and at which setpoint
+abbrev pub faultNumbers : Verdict → List ℕ
+faultNumbers verdict.Good = []
+faultNumbers (verdict.Broken rule part setpoint) = ruleNumber rule ∷ recipePart part ∷ setpoint ∷ []
+
+-- 64, and seven: the format, where core, wrap and trailer start, how many setpoints core and wrap have, the sequence
+abbrev pub spansNumber : Spans → ℕ
+spansNumber (spans.Recipe format core wrap trailer cores wraps sequence) = 64
+spansNumber (spans.Refused w) = 9
+
+abbrev pub spansNumbers : List ℕ → Spans → List ℕ
+spansNumbers out (spans.Recipe format core wrap trailer cores wraps sequence) = sets out 0 (format ∷ core ∷ wrap ∷ trailer ∷ cores ∷ wraps ∷ sequence ∷ [])
+spansNumbers out (spans.Refused w) = sets out 0 (faultNumbers w)
+
+abbrev pub setpointsNumber : Bool → ℕ
+setpointsNumber is = cond is 64 9
+
+-- 64, and the length to out
+abbrev pub recipeNumber : fields.Written → ℕ
+recipeNumber (recipe.Length n) = 64
+recipeNumber (recipe.Refused w) = 9
+
+abbrev pub recipeNumbers : List ℕ → fields.Written → List ℕ
+recipeNumbers out (recipe.Length n) = sets out 0 (n ∷ [])
+recipeNumbers out (recipe.Refused w) = sets out 0 (faultNumbers w)
 
 -- ---- messages
 abbrev pub readNumber : Reading → ℕ

@@ -1,4 +1,4 @@
-// What a call on contacts, records or messages answers, as a number and the numbers that go to `out`, for the functions that C and Rust programs link (crates/host).
+// What a call on contacts, records, recipes or messages answers, as a number and the numbers that go to `out`, for the functions that C and Rust programs link (crates/host).
 use contact_calls::Doubted;
 use contact_calls::Removed;
 use contact_calls::Settled;
@@ -6,6 +6,8 @@ use contact_calls::Sighting;
 use host_calls::Nearby;
 use message::Reading;
 use node::Told;
+use recipe::Verdict;
+use recipe_fields::Spans;
 use records::Found;
 use refusal::Refusal;
 use wire::Span;
@@ -14,6 +16,8 @@ ghost use mathlib.Core.Path.{_≡_};
 ghost use Rattle.host_numbers.specs.Numbers.{toldCode};
 ghost use Rattle.contact_calls.specs.Calls.{seenNumber, settleNumber, removeNumber, doubtNumber};
 ghost use Rattle.host_answers.specs.Answers.{seenNumbers, nearestNumbers, putNumber, findNumber, findNumbers, readNumber, readNumbers};
+ghost use lib.Seq.{sets};
+ghost use Rattle.host_answers.specs.Answers.{faultNumbers, spansNumber, spansNumbers, setpointsNumber, recipeNumber, recipeNumbers};
 ghost use Rattle.host_answers.specs.Answers.{entryFrom, laterOf, addressFrom, partNumber, peerNumbers, addressNumbers, writeNumber, writeNumbers};
 
 // ---- contacts
@@ -111,6 +115,75 @@ pub fn find_answer(out: &mut [u64], f: Found) -> u32
         }
         Found::NotHeld => 65,
         Found::Refused(r) => host_numbers::code_of(r),
+    }
+}
+
+// ---- recipes
+
+// 9, and which rule is broken, in which part and at which setpoint goes to out.
+fn broken_recipe(out: &mut [u64], w: Verdict) -> u32
+    ensures { λ r. ⌜ (r ≡ 9) × (now (out .exit) ≡ sets (now (out .entry)) 0 (faultNumbers w)) ⌝ }
+{
+    match w {
+        Verdict::Good => host_numbers::code_of(Refusal::BrokenRecipe),
+        Verdict::Broken {
+            rule,
+            part,
+            setpoint,
+        } => {
+            let numbers = [
+                recipe::rule_number(rule),
+                recipe::part_number(part),
+                setpoint,
+            ];
+            host_numbers::put_numbers(out, 0, &numbers);
+            host_numbers::code_of(Refusal::BrokenRecipe)
+        }
+    }
+}
+
+// 64, and where the fields stand goes to out; or 9.
+pub fn recipe_read_answer(out: &mut [u64], s: Spans) -> u32
+    ensures { λ r. ⌜ (r ≡ spansNumber s) × (now (out .exit) ≡ spansNumbers (now (out .entry)) s) ⌝ }
+{
+    match s {
+        Spans::Recipe {
+            format,
+            core,
+            wrap,
+            trailer,
+            cores,
+            wraps,
+            sequence,
+        } => {
+            let numbers = [format, core, wrap, trailer, cores, wraps, sequence as usize];
+            host_numbers::put_numbers(out, 0, &numbers);
+            64
+        }
+        Spans::Refused(w) => broken_recipe(out, w),
+    }
+}
+
+// 64 where it is a recipe, or 9.
+pub fn setpoints_answer(is: bool) -> u32
+    ensures { λ r. ⌜ r ≡ setpointsNumber is ⌝ }
+{
+    if is {
+        return 64;
+    }
+    host_numbers::code_of(Refusal::BrokenRecipe)
+}
+
+// 64, and the length goes to out; or 9.
+pub fn recipe_write_answer(out: &mut [u64], w: recipe_fields::Written) -> u32
+    ensures { λ r. ⌜ (r ≡ recipeNumber w) × (now (out .exit) ≡ recipeNumbers (now (out .entry)) w) ⌝ }
+{
+    match w {
+        recipe_fields::Written::Length(n) => {
+            host_numbers::put_number(out, n);
+            64
+        }
+        recipe_fields::Written::Refused(why) => broken_recipe(out, why),
     }
 }
 

@@ -20,5 +20,6 @@ pub mod Beginning
 pub mod Accepting
 pub mod Traced
 pub mod Reading
+pub mod Recipes
 pub mod Agree
 pub mod Theorems

@@ -24,6 +24,7 @@ use Rattle.host_demands.proofs.Cutting.{cut-anywhere}
 use Rattle.host_demands.proofs.Accepting.{stays, lasts}
 use Rattle.host_demands.proofs.Traced.{lookup-bytes-are-runs}
 use Rattle.host_demands.proofs.Reading.{messages-cross}
+use Rattle.host_demands.proofs.Recipes.{recipes-cross}
 
 module _ (me : List ℕ) (S : Started me) where
   abbrev us : Peer
@@ -72,6 +73,7 @@ hosted me S =
       steps = steps-formed me S;
       lookups = lookup-bytes-are-runs me S;
       messages = messages-cross;
+      recipes = recipes-cross;
       hashed = hashed me S;
       cut = cut-anywhere me S;
       plain = plain me S;

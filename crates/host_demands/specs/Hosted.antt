@@ -38,6 +38,7 @@ use Rattle.host_demands.specs.Calls as host
 use Rattle.host_demands.specs.Calls.{Memory, Export, Enough, History, Seen, withLookup, kept, receivedBy, takenBy, lengthBy, returns, leaves, writes, meant, seesOf, marksOf, leavesAll, meantAll, seesAll, marksAll, handsOver, worldIn, Stands, entrySeen}
 use Rattle.host_demands.specs.Lookups.{tracedIn, LookupBytesAreRuns}
 use Rattle.host_demands.specs.Messages.{ReadAs, MessagesCross}
+use Rattle.host_demands.specs.Recipes.{RecipesCross}
 
 -- ==== the box, and memory to begin with
 -- the memory of a box that starterbell_start wrote
@@ -350,6 +351,7 @@ module _ (me : List ℕ) where
     pub steps : StepsFormed
     pub lookups : LookupBytesAreRuns me
     pub messages : MessagesCross
+    pub recipes : RecipesCross
     pub hashed : ContactsHashed
     pub cut : CutAnywhere
     pub plain : Plainly

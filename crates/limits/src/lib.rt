@@ -12,12 +12,12 @@ pub const ADDRESSES_SIZE: usize = MOST_ADDRESSES * MOST_ADDRESS;
 
 pub const PLACE: usize = 32;
 
-// A record: its key, its value, and how many setpoints that has.
+// A record: its key, its value, and how many setpoints a list of that has.
 pub const MOST_KEY: usize = 128;
 
 pub const MOST_VALUE: usize = 3072;
 
-pub const MOST_SETPOINTS: u64 = 400;
+pub const MOST_SETPOINTS: usize = 400;
 
 // A message's body; a reply buffer has room for the longest length before it.
 pub const MOST_BODY: usize = 16384;

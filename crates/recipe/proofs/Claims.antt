@@ -1,13 +1,15 @@
 -- The claims of specs/Claims.antt. Assumes nothing.
 use Prim.Native.Nat.{ℕ}
-use mathlib.Core.Path.{_≡_, refl, sym, ap, _∙_}
+use mathlib.Core.Path.{_≡_, refl}
 use mathlib.Core.Bool.{Bool, true, false, not}
 use mathlib.Core.List.{List}
 use Rattle.octets.proofs.Bools.{to-false, to-true}
 use Rattle.recipe.specs.Recipe.{outranks}
 use Rattle.recipe.specs.Claims.{Claims}
 use Rattle.recipe.proofs.Neighbours.{by-neighbours, leaps-are-refused}
-use Rattle.recipe.proofs.Bounded.{counted, longest-recipes, in-numbers, bounds-alone}
+use Rattle.recipe.proofs.Bounded.{counted, longest-recipes, in-numbers, bounds-alone, one-alone}
+use Rattle.recipe.proofs.Faults.{fault-or-recipe}
+use Rattle.recipe.proofs.Named.{of-setpoints, in-bytes}
 use Rattle.recipe.proofs.Rank.{outranks-asym, outranks-trans, outranks-total, outranks-self}
 use Rattle.recipe.proofs.Zigzag.{trim-zigzag, zigzag-trim}
 
@@ -26,6 +28,10 @@ claims = record {
   longest-recipes = longest-recipes;
   in-numbers = in-numbers;
   bounds-alone = bounds-alone;
+  one-alone = one-alone;
+  none-is-broken = fault-or-recipe;
+  of-setpoints = of-setpoints;
+  in-bytes = in-bytes;
   rank-total = rank-total;
   rank-self = outranks-self;
   rank-trans = outranks-trans;

@@ -3,6 +3,8 @@ pub mod Zigzag
 pub mod Leap
 pub mod Points
 pub mod Trailer
+pub mod Faults
+pub mod Named
 pub mod Neighbours
 pub mod Bounded
 pub mod Rank

@@ -1,23 +1,23 @@
--- Laws of a whole value: the numbers of its trailer, and the tests of `check` one after another. Assumes nothing.
+-- Laws of a whole value: the numbers of its trailer, and the facts that make it a recipe. Assumes nothing.
 use Prim.Native.Nat.{ℕ, _+_, _-_, _*_, _^_, _≤_, _<_}
-use mathlib.Core.Path.{_≡_, refl, sym, ap, _∙_}
+use mathlib.Core.Path.{_≡_, sym, ap, _∙_}
+use mathlib.Core.Logic.{_⊎_, inl, inr, ⊎-elim}
 use mathlib.Core.List.{List, [], _∷_}
-use mathlib.Core.Bool.{Bool, true, false}
+use mathlib.Core.Bool.{Bool, true, cond}
 use native.Mathlib.Omega.{arith}
 use native.Mathlib.Nat.{pow-le-pow-right}
 use native.Mathlib.Numerals.{add-one}
 use lib.ListN.{length, getD, drop, length-take, length-drop, drop-of-length-le}
 use lib.Seq.{drop-cons}
 use lib.Dec.{leb, eqb, lit<}
-use borrow.Author.Tests.{le-leb, lt-leb, eq-eqb, ne-eqb, leb-true}
+use borrow.Author.Tests.{le-leb, eq-eqb, ne-eqb, leb-true, eqb-true}
 use Rattle.octets.specs.Octets.{Bytes, part, littleNumber}
-use Rattle.octets.specs.Search.{allOf}
-use Rattle.octets.proofs.Bools.{all-on, all-off, all-none, all-head, all-rest}
-use Rattle.octets.proofs.Parts.{bytes-drop, part-whole}
+use Rattle.octets.proofs.Bools.{all-on, all-none, all-head, all-rest, or-e}
+use Rattle.octets.proofs.Parts.{bytes-drop}
 use Rattle.octets.proofs.Numbers.{little-lt}
-use Rattle.limits.specs.Limits.{mostValue, mostSetpoints}
-use Rattle.recipe.specs.Limits.{trailerSize, formatOne}
-use Rattle.recipe.specs.Recipe.{fromEnd, distanceOf, countOf, formatOf, sequenceOf, roomOf, isList, Bounds, recipeWithin, isRecipe}
+use Rattle.limits.specs.Limits.{mostValue}
+use Rattle.recipe.specs.Limits.{trailerSize, formatOne, formatTwo}
+use Rattle.recipe.specs.Recipe.{fromEnd, distanceOf, countOf, formatOf, isTwo, trailerOf, coreDistanceOf, coreCountOf, padOf, isList, listFills, Bounds, knows, recipeWithin, ours, isRecipe}
 
 -- ---- numbers with the lowest byte first, read from the last byte on, as `little` does
 little-end : (s : List ℕ) (i : ℕ) → length s ≤ i → littleNumber (drop i s) ≡ 0
@@ -54,129 +54,129 @@ module _ (s : List ℕ) (i n : ℕ) (g : Little s i n) where
   pub little-done : i ≤ 0 → n ≡ littleNumber s
   little-done z = let o : i ≡ 0 = omega arith in g .is ∙ ap (λ (k : ℕ). littleNumber (drop k s)) o
 
--- ---- parts of the trailer
+-- ---- parts of a value
 -- the length of a part that the code cuts out
 pub part-few : (v : List ℕ) (d e : ℕ) → length (fromEnd d e v) ≤ d - e
 part-few v d e = simp (length-take, length-drop) (omega arith)
 
-module _ (v : List ℕ) {r : ℕ} where
-  pub sequence-few : length v < 8 → r ≡ littleNumber v → r ≡ sequenceOf v
-  unfolding sequenceOf
-  sequence-few h e =
-      let z : length v - 8 ≡ 0 = omega arith in
-      e ∙ sym (ap littleNumber (ap (λ (n : ℕ). part v n (length v - 0)) z ∙ part-whole v (length v - 0) (omega arith)))
+-- of the positions that the code has worked out
+pub number-few : (v : List ℕ) (d e : ℕ) → d ≤ e + 8 → {a b : ℕ} → a ≡ length v - d → b ≡ length v - e → length (part v a b) ≤ 8
+number-few v d e h {a} {b} ea eb = rw (ea, eb) (omega (arith, part-few v d e))
 
-  pub sequence-is : r ≡ littleNumber (part v (length v - 8) (length v)) → r ≡ sequenceOf v
-  unfolding sequenceOf
-  sequence-is e = let z : length v - 0 ≡ length v = omega arith in e ∙ rw z
+pub number-here : (v : List ℕ) (d e : ℕ) {a b : ℕ} → a ≡ length v - d → b ≡ length v - e → {r : ℕ} → r ≡ littleNumber (part v a b) → r ≡ littleNumber (fromEnd d e v)
+number-here v d e ea eb q = q ∙ rw (ea, eb)
 
--- ---- the tests of `check`
-module _ (v : List ℕ) where
-  abbrev list-test : List Bool
-  list-test = isList (countOf v) (roomOf v) ∷ []
+-- ---- what a list that fills its room gives
+pub record Filled (most : ℕ) (v : List ℕ) (n d e : ℕ) : Type 0 where
+  pub near : e ≤ d
+  pub far : d ≤ length v
+  pub few : n ≤ most
+  pub list : isList n (fromEnd d e v) ≡ true
 
-  abbrev format-test : List Bool
-  format-test = eqb (formatOf v) formatOne ∷ list-test
-
+module _ (most : ℕ) (v : List ℕ) (n d e : ℕ) where
   abbrev count-test : List Bool
-  count-test = leb (countOf v) mostSetpoints ∷ format-test
+  count-test = leb n most ∷ isList n (fromEnd d e v) ∷ []
 
   abbrev far-test : List Bool
-  far-test = leb (distanceOf v) (length v) ∷ count-test
+  far-test = leb d (length v) ∷ count-test
 
-  abbrev near-test : List Bool
-  near-test = leb trailerSize (distanceOf v) ∷ far-test
+  pub filled : listFills most n d e v ≡ true → Filled most v n d e
+  unfolding listFills
+  filled h =
+      let h₁ = all-rest (leb e d) far-test h in
+      let h₂ = all-rest (leb d (length v)) count-test h₁ in
+      record {
+        near = leb-true e d (all-head (leb e d) far-test h);
+        far = leb-true d (length v) (all-head (leb d (length v)) count-test h₁);
+        few = leb-true n most (all-head (leb n most) _ h₂);
+        list = all-head (isList n (fromEnd d e v)) [] (all-rest (leb n most) _ h₂);
+      }
 
-  abbrev long-test : List Bool
-  long-test = leb (length v) mostValue ∷ near-test
+  pub filling : Filled most v n d e → listFills most n d e v ≡ true
+  unfolding listFills
+  filling g =
+      all-on (leb e d) far-test (le-leb e d (g .near))
+      ∙ all-on (leb d (length v)) count-test (le-leb d (length v) (g .far))
+      ∙ all-on (leb n most) _ (le-leb n most (g .few))
+      ∙ all-on (isList n (fromEnd d e v)) [] (g .list)
+      ∙ all-none
 
-  pub short-value : length v < trailerSize → false ≡ isRecipe v
-  unfolding isRecipe recipeWithin
-  short-value h = sym (all-off (leb trailerSize (length v)) long-test (lt-leb trailerSize (length v) h))
+-- ---- the first half of the trailer of format 2
+module _ (v : List ℕ) where
+  pub second-two : {A : Type 0} (x y : A) → formatOf v ≡ formatTwo → x ≡ cond (isTwo v) x y
+  second-two x y h = rw (eq-eqb (formatOf v) formatTwo h)
 
-  module _ (h : trailerSize ≤ length v) where
-    pass-1 : isRecipe v ≡ allOf long-test
-    unfolding isRecipe recipeWithin
-    pass-1 = all-on (leb trailerSize (length v)) long-test (le-leb trailerSize (length v) h)
+  pub second-one : {A : Type 0} (x y : A) → (formatOf v ≡ formatTwo → ⊥) → y ≡ cond (isTwo v) x y
+  second-one x y h = rw (ne-eqb (formatOf v) formatTwo h)
 
-    pub long-value : mostValue < length v → false ≡ isRecipe v
-    long-value l = sym (pass-1 ∙ all-off (leb (length v) mostValue) near-test (lt-leb (length v) mostValue l))
+-- ---- what makes a value a recipe within bounds, one fact after another
+pub record Recipe (b : Bounds) (v : List ℕ) : Type 0 where
+  pub least : trailerSize ≤ length v
+  pub most : length v ≤ b .bytes
+  pub format : knows b (formatOf v) ≡ true
+  pub pad : padOf v ≡ 0
+  pub wrap : Filled (b .points) v (countOf v) (distanceOf v) (trailerOf (formatOf v))
+  pub core : Filled (b .points) v (coreCountOf v) (coreDistanceOf v) (distanceOf v)
 
-    module _ (l : length v ≤ mostValue) {d : ℕ} (ed : d ≡ littleNumber (fromEnd 16 12 v)) where
-      pass-2 : isRecipe v ≡ allOf near-test
-      pass-2 = pass-1 ∙ all-on (leb (length v) mostValue) near-test (le-leb (length v) mostValue l)
+module _ (b : Bounds) (v : List ℕ) where
+  abbrev wrap-is : Bool
+  wrap-is = listFills (b .points) (countOf v) (distanceOf v) (trailerOf (formatOf v)) v
 
-      is-d : d ≡ distanceOf v
-      unfolding distanceOf
-      is-d = ed
+  abbrev core-is : Bool
+  core-is = listFills (b .points) (coreCountOf v) (coreDistanceOf v) (distanceOf v) v
 
-      pub near-value : d < trailerSize → false ≡ isRecipe v
-      near-value a = sym (pass-2 ∙ all-off (leb trailerSize (distanceOf v)) far-test (lt-leb trailerSize (distanceOf v) (omega (arith, is-d))))
+  abbrev tests-3 : List Bool
+  tests-3 = eqb (padOf v) 0 ∷ wrap-is ∷ core-is ∷ []
 
-      module _ (a : trailerSize ≤ d) where
-        pass-3 : isRecipe v ≡ allOf far-test
-        pass-3 = pass-2 ∙ all-on (leb trailerSize (distanceOf v)) far-test (le-leb trailerSize (distanceOf v) (omega (arith, is-d)))
+  abbrev tests-2 : List Bool
+  tests-2 = knows b (formatOf v) ∷ tests-3
 
-        pub far-value : length v < d → false ≡ isRecipe v
-        far-value b = sym (pass-3 ∙ all-off (leb (distanceOf v) (length v)) count-test (lt-leb (distanceOf v) (length v) (omega (arith, is-d))))
+  abbrev tests-1 : List Bool
+  tests-1 = leb (length v) (b .bytes) ∷ tests-2
 
-        module _ (b : d ≤ length v) {n : ℕ} (en : n ≡ littleNumber (fromEnd 12 10 v)) where
-          pass-4 : isRecipe v ≡ allOf count-test
-          pass-4 = pass-3 ∙ all-on (leb (distanceOf v) (length v)) count-test (le-leb (distanceOf v) (length v) (omega (arith, is-d)))
+  pub recipe-is : recipeWithin b v ≡ true → Recipe b v
+  unfolding recipeWithin
+  recipe-is h =
+      let h₁ = all-rest (leb trailerSize (length v)) tests-1 h in
+      let h₂ = all-rest (leb (length v) (b .bytes)) tests-2 h₁ in
+      let h₃ = all-rest (knows b (formatOf v)) tests-3 h₂ in
+      let h₄ = all-rest (eqb (padOf v) 0) (wrap-is ∷ core-is ∷ []) h₃ in
+      record {
+        least = leb-true trailerSize (length v) (all-head (leb trailerSize (length v)) tests-1 h);
+        most = leb-true (length v) (b .bytes) (all-head (leb (length v) (b .bytes)) tests-2 h₁);
+        format = all-head (knows b (formatOf v)) tests-3 h₂;
+        pad = eqb-true (padOf v) 0 (all-head (eqb (padOf v) 0) (wrap-is ∷ core-is ∷ []) h₃);
+        wrap = filled (b .points) v (countOf v) (distanceOf v) (trailerOf (formatOf v)) (all-head wrap-is (core-is ∷ []) h₄);
+        core = filled (b .points) v (coreCountOf v) (coreDistanceOf v) (distanceOf v) (all-head core-is [] (all-rest wrap-is (core-is ∷ []) h₄));
+      }
 
-          is-n : n ≡ countOf v
-          unfolding countOf
-          is-n = en
+  pub is-recipe : Recipe b v → recipeWithin b v ≡ true
+  unfolding recipeWithin
+  is-recipe g =
+      all-on (leb trailerSize (length v)) tests-1 (le-leb trailerSize (length v) (g .least))
+      ∙ all-on (leb (length v) (b .bytes)) tests-2 (le-leb (length v) (b .bytes) (g .most))
+      ∙ all-on (knows b (formatOf v)) tests-3 (g .format)
+      ∙ all-on (eqb (padOf v) 0) (wrap-is ∷ core-is ∷ []) (eq-eqb (padOf v) 0 (g .pad))
+      ∙ all-on wrap-is (core-is ∷ []) (filling (b .points) v (countOf v) (distanceOf v) (trailerOf (formatOf v)) (g .wrap))
+      ∙ all-on core-is [] (filling (b .points) v (coreCountOf v) (coreDistanceOf v) (distanceOf v) (g .core))
+      ∙ all-none
 
-          pub many-points : mostSetpoints < n → false ≡ isRecipe v
-          many-points m = sym (pass-4 ∙ all-off (leb (countOf v) mostSetpoints) format-test (lt-leb (countOf v) mostSetpoints (omega (arith, is-n))))
+-- the same within our bounds
+pub our-recipe : (v : List ℕ) → isRecipe v ≡ true → Recipe ours v
+unfolding isRecipe
+our-recipe v h = recipe-is ours v h
 
-          module _ (m : n ≤ mostSetpoints) {f : ℕ} (ef : f ≡ littleNumber (fromEnd 10 8 v)) where
-            pass-5 : isRecipe v ≡ allOf format-test
-            pass-5 = pass-4 ∙ all-on (leb (countOf v) mostSetpoints) format-test (le-leb (countOf v) mostSetpoints (omega (arith, is-n)))
+pub our-format : (v : List ℕ) → Recipe ours v → (formatOf v ≡ formatOne) ⊎ (formatOf v ≡ formatTwo)
+our-format v g =
+    ⊎-elim (λ e. inl (eqb-true (formatOf v) formatOne e)) (λ e. inr (eqb-true (formatOf v) formatTwo e))
+    (or-e (eqb (formatOf v) formatOne) (isTwo v) (g .format))
 
-            is-f : f ≡ formatOf v
-            unfolding formatOf
-            is-f = ef
+pub is-ours : (v : List ℕ) → Recipe ours v → isRecipe v ≡ true
+unfolding isRecipe
+is-ours v g = is-recipe ours v g
 
-            pub other-format : (f ≡ formatOne → ⊥) → false ≡ isRecipe v
-            other-format q = sym (pass-5 ∙ all-off (eqb (formatOf v) formatOne) list-test (ne-eqb (formatOf v) formatOne (λ e. q (is-f ∙ e))))
-
-            pub whole-value : f ≡ formatOne → {r : Bool} → r ≡ isList n (fromEnd d trailerSize v) → r ≡ isRecipe v
-            unfolding roomOf
-            whole-value q {r} e =
-                let p : isRecipe v ≡ allOf list-test = pass-5 ∙ all-on (eqb (formatOf v) formatOne) list-test (eq-eqb (formatOf v) formatOne (sym is-f ∙ q)) in
-                e ∙ ap (λ (k : ℕ). isList k (fromEnd d trailerSize v)) is-n ∙ ap (λ (k : ℕ). isList (countOf v) (fromEnd k trailerSize v)) is-d
-                ∙ sym (only (isList (countOf v) (fromEnd (distanceOf v) trailerSize v))) ∙ sym p
-              where
-                only : (b : Bool) → allOf (b ∷ []) ≡ b
-                only true = all-on true [] refl ∙ all-none
-                only false = all-off false [] refl
-
--- ---- what a recipe's length is
 pub recipe-least : (v : List ℕ) → isRecipe v ≡ true → trailerSize ≤ length v
-unfolding isRecipe recipeWithin
-recipe-least v h = leb-true trailerSize (length v) (all-head (leb trailerSize (length v)) (long-test v) h)
+recipe-least v h = our-recipe v h .least
 
 pub recipe-most : (v : List ℕ) → isRecipe v ≡ true → length v ≤ mostValue
-unfolding isRecipe recipeWithin
-recipe-most v h = leb-true (length v) mostValue (all-head (leb (length v) mostValue) (near-test v) (all-rest (leb trailerSize (length v)) (long-test v) h))
-
--- ---- its count and its list
-module _ (v : List ℕ) (h : isRecipe v ≡ true) where
-  counted : allOf (count-test v) ≡ true
-  unfolding isRecipe recipeWithin
-  counted =
-      all-rest (leb (distanceOf v) (length v)) (count-test v)
-      (all-rest (leb trailerSize (distanceOf v)) (far-test v)
-      (all-rest (leb (length v) mostValue) (near-test v)
-      (all-rest (leb trailerSize (length v)) (long-test v) h)))
-
-  pub recipe-count : countOf v ≤ mostSetpoints
-  recipe-count = leb-true (countOf v) mostSetpoints (all-head (leb (countOf v) mostSetpoints) (format-test v) counted)
-
-  pub recipe-list : isList (countOf v) (roomOf v) ≡ true
-  recipe-list =
-      all-head (isList (countOf v) (roomOf v)) []
-      (all-rest (eqb (formatOf v) formatOne) (list-test v)
-      (all-rest (leb (countOf v) mostSetpoints) (format-test v) counted))
+recipe-most v h = our-recipe v h .most

@@ -1,8 +1,10 @@
 -- What the parts of the code give. No reader of `isRecipe` needs these.
-use Prim.Native.Nat.{ℕ}
+use Prim.Native.Nat.{ℕ, _+_}
 use mathlib.Core.Bool.{cond}
+use mathlib.Core.List.{List}
+use lib.ListN.{drop}
 use lib.Dec.{ltb}
-use Rattle.recipe.specs.Recipe.{inRange}
+use Rattle.recipe.specs.Recipe.{trimOf, varint, onVarint}
 use Rattle.recipe.specs.declared.Varint.{Varint}
 use Rattle.recipe.specs.declared.Varint.the-variants.{Is, Broken}
 use Rattle.recipe.specs.declared.Point.{Point}
@@ -13,7 +15,6 @@ unfoldable pub short : Varint → Varint
 short (Is v n) = cond (ltb v 2097152) (Is v n) Broken
 short Broken = Broken
 
--- a setpoint that keeps the rules by itself
-unfoldable pub within : Point → Point
-within (pIs turn trim n) = cond (inRange turn trim) (pIs turn trim n) pBroken
-within pBroken = pBroken
+-- the setpoint that opens a byte string, of two such varints: no setpoint within the limits has longer ones
+unfoldable pub shortPoint : List ℕ → Point
+shortPoint s = onVarint (short (varint s)) (λ turn n. onVarint (short (varint (drop n s))) (λ z m. pIs turn (trimOf z) (n + m)) pBroken) pBroken

@@ -1,5 +1,6 @@
 pub mod Limits
 pub mod Recipe
-pub mod Claims
 pub mod Inner
+pub mod Faults
+pub mod Claims
 pub mod Examples

@@ -2,14 +2,14 @@
 use Prim.Native.Nat.{ℕ, zero, suc, _+_, _-_, _*_, _/_, _%_}
 use mathlib.Core.Bool.{Bool, true, false, cond, _&&_, _||_}
 use mathlib.Core.List.{List, [], _∷_}
-use lib.ListN.{length, take, drop}
+use lib.ListN.{length, drop}
 use lib.Dec.{ltb, leb, eqb}
 use lib.IntN.{ℤ, pos, negsuc, natAbs, _-ℤ_}
 use lib.Signed.{leZ}
 use Rattle.octets.specs.Octets.{part, lower, littleNumber}
 use Rattle.octets.specs.Search.{allOf}
 use Rattle.limits.specs.Limits.{mostValue, mostSetpoints}
-use Rattle.recipe.specs.Limits.{trailerSize, formatOne, turnMax, trimMax, leapMax}
+use Rattle.recipe.specs.Limits.{trailerSize, longTrailer, formatOne, formatTwo, turnMax, trimMax, leapMax}
 use Rattle.recipe.specs.declared.Varint.{Varint}
 use Rattle.recipe.specs.declared.Varint.the-variants.{Is, Broken}
 use Rattle.recipe.specs.declared.Point.{Point}
@@ -113,31 +113,58 @@ formatOf v = littleNumber (fromEnd 10 8 v)
 unfoldable pub sequenceOf : List ℕ → ℕ
 sequenceOf v = littleNumber (fromEnd 8 0 v)
 
--- "Setpoints fill the room before the trailer exactly"
-unfoldable pub roomOf : List ℕ → List ℕ
-roomOf v = fromEnd (distanceOf v) trailerSize v
+-- ---- two spools (request xi): "Format 2 has a 24-byte trailer; its last 16 bytes are laid out as before with format 2, and the first 8 hold a second u32 distance
+-- back, a u16 count and two zero bytes". The first list is the wrap, the second the core. Format 1 has no such bytes: its core is empty
+abbrev pub isTwo : List ℕ → Bool
+isTwo v = eqb (formatOf v) formatTwo
+
+unfoldable pub trailerOf : ℕ → ℕ
+trailerOf format = cond (eqb format formatTwo) longTrailer trailerSize
+
+unfoldable pub coreDistanceOf : List ℕ → ℕ
+coreDistanceOf v = cond (isTwo v) (littleNumber (fromEnd 24 20 v)) (distanceOf v)
+
+unfoldable pub coreCountOf : List ℕ → ℕ
+coreCountOf v = cond (isTwo v) (littleNumber (fromEnd 20 18 v)) 0
+
+unfoldable pub padOf : List ℕ → ℕ
+padOf v = cond (isTwo v) (littleNumber (fromEnd 18 16 v)) 0
+
+-- "The second list ends where the first begins, the first ends at the trailer"
+unfoldable pub wrapRoom : List ℕ → List ℕ
+wrapRoom v = fromEnd (distanceOf v) (trailerOf (formatOf v)) v
+
+unfoldable pub coreRoom : List ℕ → List ℕ
+coreRoom v = fromEnd (coreDistanceOf v) (distanceOf v) v
 
 -- ---- a recipe
--- how long a recipe may be: boxes of before request iii had other bounds, and else the same rules
+-- the rule of every list: n setpoints, at most so many, fill the room from d before a value's end up to e before it
+unfoldable pub listFills : ℕ → ℕ → ℕ → ℕ → List ℕ → Bool
+listFills most n d e v = allOf (leb e d ∷ leb d (length v) ∷ leb n most ∷ isList n (fromEnd d e v) ∷ [])
+
+-- how long a recipe and its lists may be, and whether format 2 is known: boxes of before requests iii and xi had other bounds, and else the same rules
 pub record Bounds : Type 0 where
   pub bytes : ℕ
   pub points : ℕ
+  pub two : Bool
+
+abbrev pub knows : Bounds → ℕ → Bool
+knows b format = eqb format formatOne || (b .two && eqb format formatTwo)
 
 unfoldable pub recipeWithin : Bounds → List ℕ → Bool
 recipeWithin b v =
     allOf
     (leb trailerSize (length v)
     ∷ leb (length v) (b .bytes)
-    ∷ leb trailerSize (distanceOf v)
-    ∷ leb (distanceOf v) (length v)
-    ∷ leb (countOf v) (b .points)
-    ∷ eqb (formatOf v) formatOne
-    ∷ isList (countOf v) (roomOf v)
+    ∷ knows b (formatOf v)
+    ∷ eqb (padOf v) 0
+    ∷ listFills (b .points) (countOf v) (distanceOf v) (trailerOf (formatOf v)) v
+    ∷ listFills (b .points) (coreCountOf v) (coreDistanceOf v) (distanceOf v) v
     ∷ [])
 
--- "A value has 16 to 3,072 bytes", and its count is "at most 400"
+-- "A value has 16 to 3,072 bytes", its counts are "at most 400", and its format is 1 or 2
 abbrev pub ours : Bounds
-ours = record { bytes = mostValue; points = mostSetpoints }
+ours = record { bytes = mostValue; points = mostSetpoints; two = true }
 
 unfoldable pub isRecipe : List ℕ → Bool
 isRecipe v = recipeWithin ours v

@@ -1,4 +1,4 @@
-// The examples on recipes that aren't starred (RULES, Examples), and the edges of each limit (RULES, Recipes): one line for each.
+// The examples on recipes that aren't starred (RULES, Examples), the edges of each limit and of format 2 (RULES, Recipes), and recipes written and read: one line for each.
 ghost use Prim.Native.Nat.{_+_, _*_, _<_, _≤_};
 ghost use lib.ListN.{length};
 
@@ -11,6 +11,15 @@ fn say(what: &[u8], taken: bool) {
         return;
     }
     io::write_all(OUT, b": refused\n");
+}
+
+fn ask(what: &[u8], yes: bool) {
+    io::write_all(OUT, what);
+    if yes {
+        io::write_all(OUT, b": yes\n");
+        return;
+    }
+    io::write_all(OUT, b": no\n");
 }
 
 // Setpoints from a place on, three bytes each: turns 128, 129 .., trim -1.
@@ -177,6 +186,163 @@ fn trailers() {
     say(b"format 2", with_trailer(18, 1, 2));
 }
 
+// The worked bytes of format 2, core (0, 0) and wrap (0, -1), with other numbers in the trailer.
+fn with_spools(far: u8, count: u8, pad: u8, near: u8, format: u8) -> bool {
+    let mut v = [0u8; 28];
+    octets::copy(&mut v, 3, &[1, far]);
+    octets::copy(
+        &mut v,
+        8,
+        &[count, 0, 0, pad, near, 0, 0, 0, 1, 0, format, 0, 7],
+    );
+    recipe::check(&v)
+}
+
+fn formats() {
+    say(b"format 2: core and wrap", with_spools(28, 1, 0, 26, 2));
+    say(b"format 3", with_spools(28, 1, 0, 26, 3));
+    say(b"a zero byte that is 1", with_spools(28, 1, 1, 26, 2));
+    say(b"distance 23", with_spools(28, 1, 0, 23, 2));
+    say(b"second distance 29 of 28", with_spools(29, 1, 0, 26, 2));
+    say(
+        b"second distance under the first",
+        with_spools(25, 1, 0, 26, 2),
+    );
+    say(b"the same with count 0", with_spools(25, 0, 0, 26, 2));
+    say(b"an empty core", with_spools(26, 0, 0, 26, 2));
+    say(
+        b"24 bytes of format 2",
+        recipe::check(
+            &[
+                24,
+                0,
+                0,
+                0,
+                0,
+                0,
+                0,
+                0,
+                24,
+                0,
+                0,
+                0,
+                0,
+                0,
+                2,
+                0,
+                5,
+                0,
+                0,
+                0,
+                0,
+                0,
+                0,
+                0,
+            ],
+        ),
+    );
+    say(
+        b"16 bytes of format 2",
+        recipe::check(&[16, 0, 0, 0, 0, 0, 2, 0, 5, 0, 0, 0, 0, 0, 0, 0]),
+    );
+}
+
+// Written: two setpoints to each list, the core's trims as given.
+fn write_with(buf: &mut [u8], format: usize, before: i32, trim: i32) -> recipe_fields::Written {
+    recipe_fields::write(
+        buf,
+        format,
+        b"G",
+        &[0u32, 300],
+        &[20000i32, 15000],
+        &[5u32, 1000000],
+        &[before, trim],
+        7,
+    )
+}
+
+// Whether so many bytes are written that are a recipe.
+fn is_written(buf: &mut [u8], format: usize, before: i32, trim: i32, length: usize) -> bool {
+    match write_with(buf, format, before, trim) {
+        recipe_fields::Written::Length(n) => n == length,
+        recipe_fields::Written::Refused(_) => false,
+    }
+}
+
+// Whether the writer names a rule, a part and a setpoint, by their numbers.
+fn is_refused(
+    format: usize,
+    before: i32,
+    trim: i32,
+    rule: usize,
+    part: usize,
+    setpoint: usize,
+) -> bool {
+    let mut buf = [0u8; 0];
+    match write_with(&mut buf, format, before, trim) {
+        recipe_fields::Written::Length(_) => false,
+        recipe_fields::Written::Refused(w) => is_fault(w, rule, part, setpoint),
+    }
+}
+
+fn is_fault(w: recipe::Verdict, rule: usize, part: usize, setpoint: usize) -> bool {
+    match w {
+        recipe::Verdict::Good => false,
+        recipe::Verdict::Broken {
+            rule: r,
+            part: p,
+            setpoint: i,
+        } => {
+            if recipe::rule_number(r) != rule {
+                return false;
+            }
+            if recipe::part_number(p) != part {
+                return false;
+            }
+            i == setpoint
+        }
+    }
+}
+
+fn writing() {
+    let mut buf = [0u8; 44];
+    ask(
+        b"written in format 2",
+        is_written(&mut buf, 2, -20000, -15000, 44),
+    );
+    say(b"what is written", recipe::check(&buf));
+    let mut short = [0u8; 5];
+    ask(
+        b"told whole in five bytes",
+        is_written(&mut short, 2, -20000, -15000, 44),
+    );
+    ask(b"rule 4: a core in format 1", is_refused(1, 0, 0, 4, 2, 0));
+    ask(b"rule 3: format 3", is_refused(3, 0, 0, 3, 0, 0));
+    ask(b"rule 12: trim 20,001", is_refused(2, 0, 20001, 12, 2, 1));
+    ask(
+        b"rule 13: a leap in the core",
+        is_refused(2, -20000, -14999, 13, 2, 1),
+    );
+}
+
+// The first trim of a recipe's core or wrap, as it is read; 7 where nothing is.
+fn first_trim(value: &[u8], core: bool) -> i32 {
+    let mut turns = [0u32; 2];
+    let mut trims = [7i32; 2];
+    recipe_fields::setpoints(value, core, &mut turns, &mut trims);
+    trims[0]
+}
+
+fn reading() {
+    let mut buf = [0u8; 44];
+    write_with(&mut buf, 2, -20000, -15000);
+    ask(b"a core from -20,000 on", first_trim(&buf, true) == -20000);
+    ask(b"a wrap from 20,000 on", first_trim(&buf, false) == 20000);
+    let mut part = [0u8; 43];
+    write_with(&mut part, 2, -20000, -15000);
+    ask(b"nothing of a part", first_trim(&part, true) == 7);
+}
+
 fn sizes() {
     say(b"count 0, distance 16, 16 bytes", with_points(0, 16));
     say(b"15 bytes", recipe::check(&[0u8; 15]));
@@ -197,6 +363,9 @@ fn main() {
     numbers();
     leaps();
     trailers();
+    formats();
+    writing();
+    reading();
     sizes();
     longer();
 }

@@ -10,7 +10,7 @@ use Rattle.octets.specs.Octets.{littleNumber, lower, same, startsWith}
 use Rattle.octets.specs.Search.{allOf}
 use Rattle.octets.proofs.Bools.{cond-yes, cond-no}
 use Rattle.octets.proofs.Strings.{same-refl}
-use Rattle.recipe.specs.Recipe.{varint, point, andThen, setpoints, inRange, follows, rules, ruled, isList, distanceOf, countOf, formatOf, roomOf, recipeWithin, isRecipe, sequenceOf, outranks}
+use Rattle.recipe.specs.Recipe.{varint, point, andThen, setpoints, inRange, follows, rules, ruled, isList, distanceOf, countOf, formatOf, trailerOf, coreDistanceOf, coreCountOf, padOf, listFills, recipeWithin, isRecipe, sequenceOf, outranks}
 use Rattle.records.specs.Limits.{slotSize}
 use Rattle.records.specs.Store.{slotsOf, isKey}
 use Rattle.records_history.specs.History.{Got, Has, None, got, Offer, offered, after, cleared, accepts, taken}
@@ -37,15 +37,15 @@ unfolding isKey allOf startsWith same
 is-key = refl
 
 is-low : isRecipe low ≡ true
-unfolding littleNumber allOf varint point andThen setpoints inRange follows rules ruled isList distanceOf countOf formatOf roomOf recipeWithin isRecipe
+unfolding littleNumber allOf varint point andThen setpoints inRange follows rules ruled isList distanceOf countOf formatOf trailerOf coreDistanceOf coreCountOf padOf listFills recipeWithin isRecipe
 is-low = refl
 
 is-high : isRecipe high ≡ true
-unfolding littleNumber allOf varint point andThen setpoints inRange follows rules ruled isList distanceOf countOf formatOf roomOf recipeWithin isRecipe
+unfolding littleNumber allOf varint point andThen setpoints inRange follows rules ruled isList distanceOf countOf formatOf trailerOf coreDistanceOf coreCountOf padOf listFills recipeWithin isRecipe
 is-high = refl
 
 no-recipe : isRecipe [] ≡ false
-unfolding littleNumber allOf distanceOf countOf formatOf roomOf recipeWithin isRecipe
+unfolding littleNumber allOf distanceOf countOf formatOf trailerOf coreDistanceOf coreCountOf padOf listFills recipeWithin isRecipe
 no-recipe = refl
 
 is-higher : outranks high low ≡ true

@@ -1,20 +1,18 @@
--- Longer recipes: what a put takes is found whole, and a box of before refuses what is over its bounds. Assumes nothing.
+-- What a put takes is found whole, and a box of other bounds refuses what is outside them. Assumes nothing.
 use Prim.Native.Nat.{ℕ}
 use mathlib.Core.Path.{_≡_, refl, sym, ap, _∙_}
 use mathlib.Core.Logic.{⊎-elim}
-use mathlib.Core.Bool.{true, false, _&&_}
+use mathlib.Core.Bool.{true, false}
 use mathlib.Core.List.{List}
 use native.Mathlib.Omega.{arith}
-use lib.ListN.{length}
-use lib.Dec.{leb}
-use borrow.Author.Tests.{lt-leb}
-use Rattle.octets.proofs.Bools.{either, and-off, and-fails}
-use Rattle.recipe.specs.Recipe.{countOf, recipeWithin, ours, isRecipe}
-use Rattle.recipe.proofs.Bounded.{bounds-alone}
+use Rattle.octets.proofs.Bools.{either, to-false, not-both}
+use Rattle.recipe.specs.Recipe.{Bounds, recipeWithin}
+use Rattle.recipe.proofs.Trailer.{Recipe, recipe-is, is-recipe}
+use Rattle.recipe.proofs.Bounded.{one-alone}
 use Rattle.records.specs.Store.{slotBytes, header, inForm, answerOf, afterOf, putAnswer, putAfter}
 use Rattle.records.specs.declared.Answer.the-variants.{Taken}
 use Rattle.records_history.specs.History.{Has, got, taken, accepts, offered}
-use Rattle.records_history.specs.Claims.{LengthInSlot, TakenWhole, before, OverBefore, RefusedBefore}
+use Rattle.records_history.specs.Claims.{LengthInSlot, TakenWhole, Outside, RefusedBefore}
 use Rattle.records_history.proofs.Stays.{put-form, step-taken}
 use Rattle.records_history.proofs.Holding.{held-is-found, put-told}
 
@@ -36,14 +34,15 @@ pub taken-whole : TakenWhole
 taken-whole t k v e = held-is-found .found (putAfter t k v) k v (put-form t k v (taken-form t k v e)) (taken-got t k v e)
 
 -- ---- refused before
-over-bounds : (v : List ℕ) → OverBefore v → recipeWithin before v ≡ false
-unfolding isRecipe
-over-bounds v h =
-    bounds-alone before ours (omega arith) (omega arith) v
-    ∙ and-fails (isRecipe v) (leb (length v) 2048 && leb (countOf v) 200)
-    (⊎-elim (λ l. and-off (leb (length v) 2048) (leb (countOf v) 200) (lt-leb (length v) 2048 l))
-    (λ l. and-fails (leb (length v) 2048) (leb (countOf v) 200) (lt-leb (countOf v) 200 l)) h)
+outside : (b : Bounds) (v : List ℕ) → Outside b v → recipeWithin b v ≡ false
+outside b v h = to-false (recipeWithin b v) (λ r. broken (recipe-is b v r) h)
+  where
+    broken : Recipe b v → Outside b v → ⊥
+    broken g o =
+        ⊎-elim (λ l. omega (arith, l, g .most))
+        (⊎-elim (λ l. omega (arith, l, g .wrap .few))
+        (⊎-elim (λ l. omega (arith, l, g .core .few)) (λ l. not-both (recipeWithin b v) (is-recipe b v g) (one-alone b v (l .0) (l .1))))) o
 
 pub refused-before : RefusedBefore
 unfolding answerOf afterOf
-refused-before t k v store e h = rw (e, over-bounds v h) (refl, refl)
+refused-before b t k v store e h = rw (e, outside b v h) (refl, refl)

@@ -8,7 +8,7 @@ use mathlib.Core.List.{List}
 use lib.ListN.{length, getD}
 use Rattle.octets.specs.Octets.{part}
 use Rattle.refusal.specs.declared.Refusal.the-variants.{OutOfForm, BreaksRules, BrokenRecipe, Outranked, NoRecordSlot}
-use Rattle.recipe.specs.Recipe.{countOf, Bounds, recipeWithin, isRecipe, outranks}
+use Rattle.recipe.specs.Recipe.{countOf, formatOf, coreCountOf, Bounds, recipeWithin, isRecipe, outranks}
 use Rattle.records.specs.Limits.{valueAt, slotSize}
 use Rattle.records.specs.Store.{slotsOf, slot, used, sizeOf, valueOf, slotBytes, isKey, holds, inForm, findOf, judged, answerOf, afterOf, putAnswer, putAfter}
 use Rattle.records.specs.declared.Found.the-variants.{Held, NotHeld}
@@ -79,20 +79,19 @@ abbrev pub TakenWhole : Type 0
 TakenWhole =
     (t k v : List ℕ) → putAnswer t k v ≡ Taken → (a : ℕ) × (e : ℕ) × (findOf (putAfter t k v) k ≡ Held a e) × (part (putAfter t k v) a e ≡ v)
 
--- the bounds of a box of before the request
-abbrev pub before : Bounds
-before = record { bytes = 2048; points = 200 }
+-- ---- boxes of other bounds
 
--- what is over one of them
-abbrev pub OverBefore : List ℕ → Type 0
-OverBefore v = (2048 < length v) ⊎ (200 < countOf v)
+-- what is over a box's bounds, or of a format that it doesn't know. Of before request iii the bounds were 2,048 bytes and 200 setpoints; of before request xi format 2
+-- wasn't known
+abbrev pub Outside : Bounds → List ℕ → Type 0
+Outside b v = (b .bytes < length v) ⊎ ((b .points < countOf v) ⊎ ((b .points < coreCountOf v) ⊎ ((b .two ≡ false) × (formatOf v ≡ 2))))
 
--- "Boxes not yet changed refuse the longer value with 9" and store nothing: what such a box makes of an offer once its memory is found in form. `store` is what it
--- would make of it by its slots, however large these are; that isn't reached
+-- "Boxes not yet changed refuse the longer value with 9", "A box knowing only format 1 refuses 2 with 9", and they store nothing: what such a box makes of an offer once its
+-- memory is found in form. `store` is what it would make of it by its slots, however large these are; that isn't reached
 abbrev pub RefusedBefore : Type 0
 RefusedBefore =
-    (t k v : List ℕ) (store : Plan) → isKey k ≡ true → OverBefore v
-    → let plan = judged (recipeWithin before) k v store in (answerOf plan ≡ Refused BrokenRecipe) × (afterOf t k v plan ≡ t)
+    (b : Bounds) (t k v : List ℕ) (store : Plan) → isKey k ≡ true → Outside b v
+    → let plan = judged (recipeWithin b) k v store in (answerOf plan ≡ Refused BrokenRecipe) × (afterOf t k v plan ≡ t)
 
 pub record Claims : Type 0 where
   pub form : FormIsKept

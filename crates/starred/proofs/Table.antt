@@ -18,7 +18,7 @@ use Rattle.stream.specs.declared.Answer.the-variants.{More}
 use Rattle.stream.specs.Stream.{Out, out, fresh, shift, limited, minimal, prefixStep, runOf, receiveOf}
 use Rattle.stream.proofs.Runs.{body-part, body-whole}
 use Rattle.stream.proofs.Steps.{call-runs}
-use Rattle.recipe.specs.Recipe.{trimOf, zigzagOf, continued, varint, point, andThen, setpoints, inRange, noLeap, follows, rules, ruled, isList, distanceOf, countOf, formatOf, sequenceOf, roomOf, recipeWithin, isRecipe}
+use Rattle.recipe.specs.Recipe.{trimOf, zigzagOf, continued, varint, point, andThen, setpoints, inRange, noLeap, follows, rules, ruled, isList, distanceOf, countOf, formatOf, sequenceOf, trailerOf, coreDistanceOf, coreCountOf, padOf, wrapRoom, listFills, recipeWithin, isRecipe}
 use Rattle.records_history.proofs.Holding.{judged-first}
 use Rattle.wire.specs.Wire.{fields, fieldsAt, fieldsFrom, fieldAt, more, nextOf, numbers, spans}
 use Rattle.wire.specs.Items.{items, values, parts}
@@ -93,7 +93,7 @@ unfolding Each
 done = tt
 
 pub starred : Starred
-unfolding trimOf zigzagOf continued varint point andThen setpoints inRange noLeap follows rules ruled isList distanceOf countOf formatOf sequenceOf roomOf recipeWithin isRecipe littleNumber allOf common
+unfolding trimOf zigzagOf continued varint point andThen setpoints inRange noLeap follows rules ruled isList distanceOf countOf formatOf sequenceOf trailerOf coreDistanceOf coreCountOf padOf wrapRoom listFills recipeWithin isRecipe littleNumber allOf common
 starred =
     row _ _ empty
     (row _ _ emptied

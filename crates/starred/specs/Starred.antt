@@ -16,7 +16,7 @@ use Rattle.stream.specs.declared.Framing.the-variants.{Shut, Body}
 use Rattle.stream.specs.declared.Answer.the-variants as stream
 use Rattle.stream.specs.Stream.{fresh, out, receiveOf}
 use Rattle.recipe.specs.declared.Varint.the-variants.{Is}
-use Rattle.recipe.specs.Recipe.{trimOf, zigzagOf, varint, These, setpoints, countOf, roomOf, sequenceOf, isRecipe}
+use Rattle.recipe.specs.Recipe.{trimOf, zigzagOf, varint, These, setpoints, countOf, wrapRoom, sequenceOf, isRecipe}
 use Rattle.records.specs.declared.Answer.the-variants as store
 use Rattle.records.specs.Store.{isKey, inForm, putAnswer}
 use Rattle.peer.specs.declared.Peer.{Peer}
@@ -67,7 +67,7 @@ Holds (zigzag trim z) = (zigzagOf trim ≡ z) × (trimOf z ≡ trim)
 -- whatever follows
 Holds (written z bs) = (s : List ℕ) → varint (bs ++ s) ≡ Is z (length bs)
 -- taken as a recipe, with this one setpoint and this sequence
-Holds (recipe v turn trim sequence) = (isRecipe v ≡ true) × (setpoints (countOf v) (roomOf v) ≡ These (record { turn = turn; trim = trim } ∷ [])) × (sequenceOf v ≡ sequence)
+Holds (recipe v turn trim sequence) = (isRecipe v ≡ true) × (setpoints (countOf v) (wrapRoom v) ≡ These (record { turn = turn; trim = trim } ∷ [])) × (sequenceOf v ≡ sequence)
 -- put into any store in form, under any record key
 Holds (badRecipe v n) = ByNumber n (λ r. (t k : List ℕ) → inForm t ≡ true → isKey k ≡ true → putAnswer t k v ≡ store.Refused r)
 -- all places that start so

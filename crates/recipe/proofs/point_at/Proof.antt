@@ -2,8 +2,7 @@
 use native.Mathlib.Omega.{arith}
 use denote.Ref.{now}
 use borrow.Author.Needs.{needs}
-use Rattle.recipe.proofs.Points.{point-none, turn-in, point-turn, point-no-trim, point-trim, trim-in, point-whole}
-use borrow.Author.Needs.{needs}
+use Rattle.recipe.proofs.Points.{point-none, turn-size, point-no-trim, trim-size, point-whole}
 use Rattle.recipe.proofs.point_at.Statement.{statement}
 use Rattle.recipe.proofs.point_at.Tie as tie
 
@@ -13,11 +12,8 @@ short-varint-requires c κs = search needs
 enum-known-turn : tie.Need-enum-known-turn
 enum-known-turn c = search needs
 
-returns : tie.Need-returns
-returns c = point-turn (now (c .before .before .before .before .before .before .args .s)) (c .before .before .before .before .before .before .args .at) (c .before .before .turn .given .0 .0) (c .before .before .turn .given .0 .1 .0) (c .before .before .before .before .short-varint .ensures) (c .before .before .turn .given .1) (omega arith)
-
 add-short-varint : tie.Need-add-short-varint
-add-short-varint c = record { fits = omega (arith, turn-in (now (c .before .before .before .before .before .before .args .s)) (c .before .before .before .before .before .before .args .at) (c .before .before .turn .given .0 .0) (c .before .before .turn .given .0 .1 .0) (c .before .before .before .before .short-varint .ensures) (c .before .before .turn .given .1) (omega arith)) }
+add-short-varint c = record { fits = omega (arith, turn-size (now (c .before .before .before .before .before .args .s)) (c .before .before .before .before .before .args .at) (c .before .before .before .short-varint .ensures) (c .before .turn .given .0 .0) (c .before .turn .given .0 .1 .0) (c .before .turn .given .1)) }
 
 short-varint-requires-2 : tie.Need-short-varint-requires-2
 short-varint-requires-2 c κs = search needs
@@ -25,17 +21,11 @@ short-varint-requires-2 c κs = search needs
 enum-known-value : tie.Need-enum-known-value
 enum-known-value c = search needs
 
-mul-if2 : tie.Need-mul-if2
-mul-if2 c = search needs
-
-returns-2 : tie.Need-returns-2
-returns-2 c = point-trim (now (c .before .before .before .before .before .before .before .before .before .before .before .args .s)) (c .before .before .before .before .before .before .before .before .before .before .before .args .at) (c .before .before .before .before .before .before .before .turn .given .0 .0) (c .before .before .before .before .before .before .before .turn .given .0 .1 .0) (c .before .before .before .before .before .before .before .before .before .short-varint .ensures) (c .before .before .before .before .before .before .before .turn .given .1) (c .before .before .before .before .short-varint2 .ensures) (c .before .before .value .given .0 .0) (c .before .before .value .given .0 .1 .0) (c .before .before .value .given .1) (omega arith)
-
 trim-of-requires : tie.Need-trim-of-requires
 trim-of-requires c κs = search needs
 
-add-t16 : tie.Need-add-t16
-add-t16 c = record { fits = omega (arith, trim-in (now (c .before .before .before .before .before .before .before .before .before .before .before .before .args .s)) (c .before .before .before .before .before .before .before .before .before .before .before .before .args .at) (c .before .before .before .before .before .before .before .before .turn .given .0 .0) (c .before .before .before .before .before .before .before .before .turn .given .0 .1 .0) (c .before .before .before .before .before .before .before .before .before .before .short-varint .ensures) (c .before .before .before .before .before .before .before .before .turn .given .1) (c .before .before .before .before .before .short-varint2 .ensures) (c .before .before .before .value .given .0 .0) (c .before .before .before .value .given .0 .1 .0) (c .before .before .before .value .given .1) (turn-in (now (c .before .before .before .before .before .before .before .before .before .before .before .before .args .s)) (c .before .before .before .before .before .before .before .before .before .before .before .before .args .at) (c .before .before .before .before .before .before .before .before .turn .given .0 .0) (c .before .before .before .before .before .before .before .before .turn .given .0 .1 .0) (c .before .before .before .before .before .before .before .before .before .before .short-varint .ensures) (c .before .before .before .before .before .before .before .before .turn .given .1) (omega arith))) }
+add-t13 : tie.Need-add-t13
+add-t13 c = record { fits = omega (arith, turn-size (now (c .before .before .before .before .before .before .before .before .before .before .args .s)) (c .before .before .before .before .before .before .before .before .before .before .args .at) (c .before .before .before .before .before .before .before .before .short-varint .ensures) (c .before .before .before .before .before .before .turn .given .0 .0) (c .before .before .before .before .before .before .turn .given .0 .1 .0) (c .before .before .before .before .before .before .turn .given .1), trim-size (now (c .before .before .before .before .before .before .before .before .before .before .args .s)) (c .before .before .before .before .before .before .before .before .before .before .args .at) (c .before .before .before .before .before .before .before .before .short-varint .ensures) (c .before .before .before .before .before .before .turn .given .0 .0) (c .before .before .before .before .before .before .turn .given .0 .1 .0) (c .before .before .before .before .before .before .turn .given .1) (c .before .before .before .before .short-varint2 .ensures) (c .before .before .value .given .0 .0) (c .before .before .value .given .0 .1 .0) (c .before .before .value .given .1)) }
 
 enum-told : tie.Need-enum-told
 enum-told c = search needs
@@ -43,14 +33,14 @@ enum-told c = search needs
 enum-told-2 : tie.Need-enum-told-2
 enum-told-2 c = search needs
 
+returns : tie.Need-returns
+returns c = point-whole (now (c .before .before .before .before .before .before .before .before .before .before .args .s)) (c .before .before .before .before .before .before .before .before .before .before .args .at) (c .before .before .before .before .before .before .before .before .short-varint .ensures) (c .before .before .before .before .before .before .turn .given .0 .0) (c .before .before .before .before .before .before .turn .given .0 .1 .0) (c .before .before .before .before .before .before .turn .given .1) (c .before .before .before .before .short-varint2 .ensures) (c .before .before .value .given .0 .0) (c .before .before .value .given .0 .1 .0) (c .before .before .value .given .1) (c .trim-of .ensures)
+
+returns-2 : tie.Need-returns-2
+returns-2 c = point-no-trim (now (c .before .before .before .before .before .before .before .before .args .s)) (c .before .before .before .before .before .before .before .before .args .at) (c .before .before .before .before .before .before .short-varint .ensures) (c .before .before .before .before .turn .given .0 .0) (c .before .before .before .before .turn .given .0 .1 .0) (c .before .before .before .before .turn .given .1) (c .before .before .short-varint2 .ensures) (c .enum-told .given .1)
+
 returns-3 : tie.Need-returns-3
-returns-3 c = point-whole (now (c .before .before .before .before .before .before .before .before .before .before .before .before .args .s)) (c .before .before .before .before .before .before .before .before .before .before .before .before .args .at) (c .before .before .before .before .before .before .before .before .turn .given .0 .0) (c .before .before .before .before .before .before .before .before .turn .given .0 .1 .0) (c .before .before .before .before .before .before .before .before .before .before .short-varint .ensures) (c .before .before .before .before .before .before .before .before .turn .given .1) (c .before .before .before .before .before .short-varint2 .ensures) (c .before .before .before .value .given .0 .0) (c .before .before .before .value .given .0 .1 .0) (c .before .before .before .value .given .1) (omega arith) (omega arith) (c .trim-of .ensures)
-
-returns-4 : tie.Need-returns-4
-returns-4 c = point-no-trim (now (c .before .before .before .before .before .before .before .before .before .args .s)) (c .before .before .before .before .before .before .before .before .before .args .at) (c .before .before .before .before .before .turn .given .0 .0) (c .before .before .before .before .before .turn .given .0 .1 .0) (c .before .before .before .before .before .before .before .short-varint .ensures) (c .before .before .before .before .before .turn .given .1) (c .before .before .short-varint2 .ensures) (c .enum-told .given .1)
-
-returns-5 : tie.Need-returns-5
-returns-5 c = point-none (now (c .before .before .before .before .args .s)) (c .before .before .before .before .args .at) (c .before .before .short-varint .ensures) (c .enum-told2 .given .1)
+returns-3 c = point-none (now (c .before .before .before .before .args .s)) (c .before .before .before .before .args .at) (c .before .before .short-varint .ensures) (c .enum-told2 .given .1)
 
 pub point-at-spec : {M : Type 1} → statement M
 point-at-spec =
@@ -58,16 +48,13 @@ point-at-spec =
     (tie.spec
     short-varint-requires
     enum-known-turn
-    returns
     add-short-varint
     short-varint-requires-2
     enum-known-value
-    mul-if2
-    returns-2
     trim-of-requires
-    add-t16
+    add-t13
     enum-told
     enum-told-2
-    returns-3
-    returns-4
-    returns-5)
+    returns
+    returns-2
+    returns-3)

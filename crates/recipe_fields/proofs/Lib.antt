@@ -1,0 +1,13 @@
+pub mod Varints
+pub mod Lists
+pub mod Numbers
+pub mod Ends
+pub mod Sizes
+pub mod Forth
+pub mod Back
+pub mod Steps
+pub mod Places
+pub mod Taken
+pub mod Judging
+pub mod Whole
+pub mod Claims
