@@ -1,21 +1,35 @@
-//! The numbers that a call has to give for the model's outcome: the one it returns, and those it writes to `out` (comments of crates/host).
+//! The numbers that a call has to give for the model's outcome: the one it returns, those it writes to `out`, and those in lists lent for setpoints (comments of
+//! crates/host).
 
 use starterbell_model::contacts::{Seen, Settled};
 use starterbell_model::lookup::{Lookup, Mark, Next, Outcome as Over, Step as Progress};
 use starterbell_model::message::{PeerView, View};
 use starterbell_model::node::{Answer as Said, Received};
+use starterbell_model::recipe::Broken;
 use starterbell_model::steps::{Outcome, Step, World};
 use starterbell_model::wire::Span;
 use starterbell_model::Refusal;
 
-#[derive(Clone, Debug, PartialEq, Eq)]
+#[derive(Clone, Debug, Default, PartialEq, Eq)]
 pub struct Answer {
     pub code: u32,
     pub numbers: Vec<u64>,
+    /// All that the lent lists have then.
+    pub turns: Vec<u32>,
+    pub trims: Vec<i32>,
 }
 
 fn gives(code: u32, numbers: &[usize]) -> Answer {
-    Answer { code, numbers: numbers.iter().map(|n| *n as u64).collect() }
+    Answer { code, numbers: numbers.iter().map(|n| *n as u64).collect(), ..Answer::default() }
+}
+
+fn says(code: u32, numbers: Vec<u64>) -> Answer {
+    Answer { code, numbers, ..Answer::default() }
+}
+
+/// 9: the rule, of what it is broken, and which setpoint.
+fn of_broken(broken: &Broken) -> Answer {
+    gives(9, &[broken.rule as usize, broken.part as usize, broken.setpoint])
 }
 
 fn refuses(refusal: Refusal) -> Answer {
@@ -136,10 +150,15 @@ pub fn answer_of(outcome: &Outcome, step: &Step, world: &World) -> Answer {
         Outcome::Received(got) => of_received(got),
         Outcome::Step(progress) => of_step(progress, lookup_of(step, world)),
         Outcome::Next(next) => of_next(next, lookup_of(step, world)),
-        Outcome::Read(Ok(view)) => Answer { code: 64, numbers: view_numbers(view) },
-        Outcome::Peer(Some(peer)) => Answer { code: 64, numbers: peer_numbers(peer) },
-        Outcome::Address(Some(address)) => Answer { code: 64, numbers: ends(address).to_vec() },
-        Outcome::Written(Ok(length)) => gives(64, &[*length]),
+        Outcome::Read(Ok(view)) => says(64, view_numbers(view)),
+        Outcome::Peer(Some(peer)) => says(64, peer_numbers(peer)),
+        Outcome::Address(Some(address)) => says(64, ends(address).to_vec()),
+        Outcome::Written(Ok(length)) | Outcome::RecipeWritten(Ok(length)) => gives(64, &[*length]),
+        Outcome::RecipeRead(Ok(numbers)) => says(64, numbers.to_vec()),
+        Outcome::RecipeRead(Err(broken)) | Outcome::RecipeWritten(Err(broken)) => of_broken(broken),
+        Outcome::RecipeSetpoints { broken, turns, trims } => {
+            Answer { code: broken.map_or(64, |_| 9), turns: turns.clone(), trims: trims.clone(), ..Answer::default() }
+        }
         Outcome::Done => unreachable!("no call"),
     }
 }

@@ -59,8 +59,9 @@ impl Call {
             Step::Start { lookup, .. } => vec![Region::Box, Region::Lookup(*lookup), Region::Contacts],
             Step::Next { lookup } => vec![Region::Lookup(*lookup)],
             Step::Reply { lookup, .. } | Step::Failure { lookup, .. } => vec![Region::Box, Region::Lookup(*lookup)],
-            Step::Write { .. } => vec![Region::Reply],
-            Step::Read { .. } | Step::Peer { .. } | Step::Address { .. } | Step::Poke { .. } | Step::Lend { .. } => vec![],
+            Step::Write { .. } | Step::RecipeWrite { .. } => vec![Region::Reply],
+            Step::Read { .. } | Step::Peer { .. } | Step::Address { .. } | Step::RecipeRead { .. } | Step::RecipeSetpoints { .. } => vec![],
+            Step::Poke { .. } | Step::Lend { .. } => vec![],
         }
     }
 

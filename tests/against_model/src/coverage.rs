@@ -3,6 +3,7 @@
 use crate::answer::{view_numbers, Answer};
 use crate::calls::Call;
 use crate::doubts;
+use crate::formats;
 use crate::longer;
 use crate::twin::Twin;
 use starterbell_model::answers::Sender;
@@ -18,7 +19,7 @@ use starterbell_model::wire::{fields, read_varint, Span};
 use std::collections::BTreeMap;
 
 /// Each entry point, with the numbers that RULES, Refusals, and the comments of crates/host allow it; `receive` by the connection's side.
-const REACHABLE: [(&str, &[u32]); 20] = [
+const REACHABLE: [(&str, &[u32]); 23] = [
     ("start", &[SHORT, 12, 64]),
     ("open", &[SHORT, 12, 64]),
     ("receive, serving", &[SHORT, 0, 1, 2, 3, 4, 5, 6, 7, 8, 9, 10, 11, 12, 64, 65]),
@@ -39,9 +40,12 @@ const REACHABLE: [(&str, &[u32]); 20] = [
     ("lookup_next", &[SHORT, 0, 65, 66, 67, 68]),
     ("lookup_reply", &[SHORT, 0, 12, 16, 17, 64, 67, 68]),
     ("lookup_failure", &[SHORT, 0, 12, 16, 17, 64, 67, 68]),
+    ("recipe_read", &[9, 64]),
+    ("recipe_setpoints", &[9, 64]),
+    ("recipe_write", &[9, 64]),
 ];
 
-/// Beside the numbers: what a long run has to meet too, and after that what crate::doubts and crate::longer have.
+/// Beside the numbers: what a long run has to meet too, and after that what crate::doubts, crate::longer and crate::formats have.
 const MET: [&str; 48] = [
     "receive: the sender moved",
     "receive: the sender joined",
@@ -130,6 +134,9 @@ fn entry(step: &Step, twin: &Twin) -> usize {
         Step::Next { .. } => 17,
         Step::Reply { .. } => 18,
         Step::Failure { .. } => 19,
+        Step::RecipeRead { .. } => 20,
+        Step::RecipeSetpoints { .. } => 21,
+        Step::RecipeWrite { .. } => 22,
         Step::Poke { .. } | Step::Lend { .. } => unreachable!("no call"),
     }
 }
@@ -147,6 +154,7 @@ impl Coverage {
             self.note_leaps(first(&before.records, call.lent.records), &call.step, answer);
             doubts::met(first(&before.contacts, call.lent.contacts), twin, call, answer).into_iter().for_each(|what| self.meet(what));
             longer::met(first(&before.records, call.lent.records), twin, call, answer).into_iter().for_each(|what| self.meet(what));
+            formats::met(first(&before.records, call.lent.records), twin, call, answer).into_iter().for_each(|what| self.meet(what));
         }
     }
 
@@ -256,7 +264,7 @@ impl Coverage {
             _ if code == 9 && is_leaper(value) => meet("put: 9 for a leaper", "receive: 9 for a leaper"),
             _ => {}
         }
-        let by = recipe::read(value).filter(|_| taken).map(|recipe| differences(&recipe.setpoints)).unwrap_or_default();
+        let by: Vec<i64> = recipe::read(value).ok().filter(|_| taken).map_or(vec![], |recipe| recipe.lists().into_iter().flat_map(differences).collect());
         if by.contains(&5_000) {
             meet("put: trims exactly 5,000 up are taken", "receive: trims exactly 5,000 up are taken");
         }
@@ -350,7 +358,7 @@ fn first(bytes: &[u8], most: usize) -> &[u8] {
 }
 
 fn all_met() -> impl Iterator<Item = &'static str> {
-    MET.into_iter().chain(doubts::MET).chain(longer::MET)
+    MET.into_iter().chain(doubts::MET).chain(longer::MET).chain(formats::all())
 }
 
 /// The body of the message that was taken, if the piece had it whole, from its prefix on; else nothing. `numbers` are those that the receive gave.

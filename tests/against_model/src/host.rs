@@ -5,6 +5,7 @@ use crate::memory::{Guarded, Inputs};
 use starterbell::raw;
 use starterbell_model::node::Side;
 use starterbell_model::peer::Mode;
+use starterbell_model::recipe::Fields;
 use starterbell_model::steps::Step;
 
 #[derive(Clone)]
@@ -18,10 +19,13 @@ pub struct Host {
     pub lookups: Vec<Guarded<u8>>,
 }
 
-/// What a call gave: its number, `out`, and whether nothing was written into what was lent to be read, nor around `out`.
+/// What a call gave: its number, `out`, the lists that were lent for setpoints, and whether nothing was written into what was lent to be read, nor around `out`
+/// and the lists.
 pub struct Made {
     pub code: u32,
     pub out: Vec<u64>,
+    pub turns: Vec<u32>,
+    pub trims: Vec<i32>,
     pub kept: bool,
 }
 
@@ -51,6 +55,9 @@ impl Host {
     }
 
     pub fn call(&mut self, call: &Call) -> Made {
+        if let Step::RecipeSetpoints { value, core, turns, trims } = &call.step {
+            return recipe_setpoints(value, call.says(*core), turns, trims, &call.out);
+        }
         let mut out = Guarded::of(&call.out);
         let (code, kept) = match &call.step {
             Step::Box { .. } | Step::Open { .. } | Step::Receive { .. } | Step::End { .. } => self.on_connection(call, &mut out),
@@ -58,7 +65,7 @@ impl Host {
             Step::Start { .. } | Step::Next { .. } | Step::Reply { .. } | Step::Failure { .. } => self.on_lookup(call, &mut out),
             _ => self.on_others(call, &mut out),
         };
-        Made { code, kept: kept && out.stands(), out: out.get().to_vec() }
+        Made { code, kept: kept && out.stands(), out: out.get().to_vec(), turns: vec![], trims: vec![] }
     }
 
     fn on_connection(&mut self, call: &Call, out: &mut Guarded<u64>) -> (u32, bool) {
@@ -164,6 +171,11 @@ impl Host {
                 (raw::peer_address(given.at(0), *start, *end, *from, out), given.stand())
             }
             Step::Write { .. } => self.write(call, out),
+            Step::RecipeRead { value } => {
+                let given = Inputs::of([value]);
+                (raw::recipe_read(given.at(0), out), given.stand())
+            }
+            Step::RecipeWrite { fields } => self.recipe_write(fields, lent.reply, out),
             _ => unreachable!("no call"),
         }
     }
@@ -177,6 +189,24 @@ impl Host {
         let reply = self.reply.lend(call.lent.reply);
         (raw::write(reply, message.kind, given.at(0), held, given.at(1), given.at(2), given.at(3), given.at(4), out), given.stand())
     }
+
+    fn recipe_write(&mut self, fields: &Fields, room: usize, out: &mut [u64]) -> (u32, bool) {
+        let Fields { format, note, core, wrap, sequence } = fields;
+        let note = Inputs::of([note]);
+        let (turns, trims) = (Inputs::of([&wrap.turns[..], &core.turns]), Inputs::of([&wrap.trims[..], &core.trims]));
+        let room = self.reply.lend(room);
+        let code = raw::recipe_write(room, *format as usize, note.at(0), turns.at(0), trims.at(0), turns.at(1), trims.at(1), *sequence, out);
+        (code, note.stand() && turns.stand() && trims.stand())
+    }
+}
+
+/// The setpoints of a recipe go into lists that are lent for this call; there is no `out`.
+fn recipe_setpoints(value: &[u8], core: u32, turns: &[u32], trims: &[i32], out: &[u64]) -> Made {
+    let given = Inputs::of([value]);
+    let (mut turns, mut trims) = (Guarded::of(turns), Guarded::of(trims));
+    let code = raw::recipe_setpoints(given.at(0), core, turns.lend(usize::MAX), trims.lend(usize::MAX));
+    let kept = given.stand() && turns.stands() && trims.stands();
+    Made { code, out: out.to_vec(), turns: turns.get().to_vec(), trims: trims.get().to_vec(), kept }
 }
 
 impl Call {

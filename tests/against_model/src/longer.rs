@@ -8,7 +8,7 @@ use crate::twin::Twin;
 use starterbell_model::contacts;
 use starterbell_model::limits::RECORD_SLOT;
 use starterbell_model::message::{self, Message};
-use starterbell_model::recipe::{differences, read_of_any_size, sequence_of};
+use starterbell_model::recipe::{differences, read_of_any_size, sequence_of, Setpoint};
 use starterbell_model::records;
 use starterbell_model::steps::Step;
 use starterbell_model::wire::read_varint;
@@ -104,8 +104,7 @@ fn heard_back(twin: &Twin, answer: &Answer) -> Vec<Case> {
 
 /// A put that is echoed, or a record that is served.
 fn reply(whole: &[u8]) -> Vec<Case> {
-    let (length, at) = read_varint(whole, 0, whole.len()).expect("a prefix");
-    let said = message::decode(&whole[at..]).expect("our own reply");
+    let (length, said) = said(whole);
     let (echo, served, value) = (said.kind == message::PUT_VALUE, said.kind == message::GET_VALUE, value_of(&said));
     vec![
         (echo && value > 2_048, "receive: the echo of a value over 2,048 bytes"),
@@ -114,6 +113,12 @@ fn reply(whole: &[u8]) -> Vec<Case> {
         (served && value == 3_072, "receive: GET_VALUE is served a value of 3,072 bytes"),
         (served && length == 15_111, "receive: the largest reply, a body of 15,111 bytes"),
     ]
+}
+
+/// The length of a reply's body, and the message that it is.
+pub fn said(whole: &[u8]) -> (u64, Message) {
+    let (length, at) = read_varint(whole, 0, whole.len()).expect("a prefix");
+    (length, message::decode(&whole[at..]).expect("our own reply"))
 }
 
 fn write(m: &Message, code: u32) -> Vec<Case> {
@@ -126,9 +131,10 @@ fn write(m: &Message, code: u32) -> Vec<Case> {
     ]
 }
 
-/// How many setpoints a value has that breaks no rule but those on its length and on their number.
+/// How many setpoints the longer list of a value has that breaks no rule but those on its length and on their number.
 fn setpoints_in(value: &[u8]) -> Option<usize> {
-    read_of_any_size(value).map(|recipe| recipe.setpoints).filter(|list| differences(list).iter().all(|by| by.abs() <= 5_000)).map(|list| list.len())
+    let leaps = |list: &[Setpoint]| differences(list).iter().any(|by| by.abs() > 5_000);
+    read_of_any_size(value).filter(|recipe| !recipe.lists().into_iter().any(leaps)).map(|recipe| recipe.core.len().max(recipe.wrap.len()))
 }
 
 /// Whether two values of one sequence are the same for 2,048 bytes, and differ after them.

@@ -8,6 +8,7 @@ mod calls;
 mod coverage;
 mod cutting;
 mod doubts;
+mod formats;
 mod host;
 mod layout;
 mod longer;

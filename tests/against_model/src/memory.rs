@@ -9,6 +9,14 @@ impl Cell for u8 {
     const GUARD: u8 = 0xa5;
 }
 
+impl Cell for u32 {
+    const GUARD: u32 = 0xa5a5_5a5a;
+}
+
+impl Cell for i32 {
+    const GUARD: i32 = 0x5a5a_a5a5;
+}
+
 impl Cell for u64 {
     const GUARD: u64 = 0xa5a5_5a5a_a5a5_5a5a;
 }
@@ -49,17 +57,17 @@ impl<T: Cell> Guarded<T> {
 }
 
 /// What a call is given to read, each in guarded memory of its own.
-pub struct Inputs<'a, const N: usize> {
-    was: [&'a [u8]; N],
-    lent: [Guarded<u8>; N],
+pub struct Inputs<'a, const N: usize, T = u8> {
+    was: [&'a [T]; N],
+    lent: [Guarded<T>; N],
 }
 
-impl<'a, const N: usize> Inputs<'a, N> {
-    pub fn of(was: [&'a [u8]; N]) -> Inputs<'a, N> {
+impl<'a, const N: usize, T: Cell> Inputs<'a, N, T> {
+    pub fn of(was: [&'a [T]; N]) -> Inputs<'a, N, T> {
         Inputs { was, lent: was.map(Guarded::of) }
     }
 
-    pub fn at(&self, i: usize) -> &[u8] {
+    pub fn at(&self, i: usize) -> &[T] {
         self.lent[i].get()
     }
 

@@ -12,6 +12,7 @@ use starterbell_model::lookup::{Lookup, Mark};
 use starterbell_model::message::{self, encode, Message, View};
 use starterbell_model::node::Side;
 use starterbell_model::peer::Mode;
+use starterbell_model::recipe::{self, Fields};
 use starterbell_model::records;
 use starterbell_model::steps::{Memory, Step};
 use starterbell_model::wire::Span;
@@ -142,6 +143,7 @@ impl Script {
                 *view = view_meant(&call.view, body);
             }
             Step::Write { message } => call.lists = self.lists(message),
+            Step::RecipeWrite { fields } => call.lent.reply = self.room_for(fields),
             _ => {}
         }
         call
@@ -163,6 +165,19 @@ impl Script {
             Region::Records => call.lent.records = part(rng, RECORD_SLOT),
             Region::Reply => call.lent.reply = *rng.pick(&[0, 1, REPLY - 1, REPLY]),
             Region::Buffer(_) => call.lent.buffer = *rng.pick(&[0, 1, BODY - 1, BODY]),
+        }
+    }
+
+    /// How many bytes are lent for a recipe to be written: about as many as it has, more, or hardly any.
+    fn room_for(&mut self, fields: &Fields) -> usize {
+        let length = recipe::write_fields(fields).map_or(100, |value| value.len());
+        match self.rng.below(8) {
+            0 => self.rng.below(2),
+            1 => self.rng.below(length),
+            2 => length - 1,
+            3 => length,
+            4 => length + 1,
+            _ => usize::MAX,
         }
     }
 

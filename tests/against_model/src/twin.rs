@@ -116,7 +116,7 @@ impl Twin {
     /// The model's step: what the library has to give. Too little memory for a box, a connection or a lookup is 0, and `receive` says that it took nothing.
     fn expect(&mut self, call: &Call) -> Answer {
         if call.is_short() {
-            return Answer { code: 0, numbers: if matches!(call.step, Step::Receive { .. }) { vec![0; 4] } else { vec![] } };
+            return Answer { numbers: if matches!(call.step, Step::Receive { .. }) { vec![0; 4] } else { vec![] }, ..Answer::default() };
         }
         let answer = self.run_lent(call);
         self.follow(&call.step, answer.code);
@@ -214,8 +214,10 @@ fn difference(call: &Call, expected: &Answer, made: &Made) -> Option<String> {
         Some("the answers differ".to_string())
     } else if made.out != out {
         Some("the numbers in out differ".to_string())
+    } else if made.turns != expected.turns || made.trims != expected.trims {
+        Some(format!("the setpoints differ\n  library: {:?} {:?}\n  model:   {:?} {:?}", made.turns, made.trims, expected.turns, expected.trims))
     } else if !made.kept {
-        Some("what was lent to be read, or a guard of out, was written over".to_string())
+        Some("what was lent to be read, or a guard of out or of a list, was written over".to_string())
     } else {
         None
     }

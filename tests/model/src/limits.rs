@@ -12,13 +12,15 @@ pub const ADDRESSES: usize = 4;
 
 /// What opens every record key; 1 to 122 bytes follow.
 pub const WIND: &[u8] = b"/wind/";
+/// The least value in form, in which a trailer of format 1 fits.
 pub const VALUE_LEAST: usize = 16;
 pub const VALUE: usize = 3_072;
 
+/// In each list.
 pub const SETPOINTS: usize = 400;
 pub const TURN: u64 = 1_000_000;
-/// The largest trim in zigzag form: 20,000 millinewtons.
-pub const ZIGZAG: u64 = 40_000;
+/// How many millinewtons a trim has at most, either way.
+pub const TRIM: i64 = 20_000;
 /// By how many millinewtons neighbouring trims may differ.
 pub const LEAP: i64 = 5_000;
 

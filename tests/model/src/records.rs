@@ -99,7 +99,7 @@ fn plan(store: &[u8], key: &[u8], value: &[u8]) -> Result<Option<usize>, Refusal
     if !is_key(key) {
         return Err(Refusal::BreaksRules);
     }
-    recipe::read(value).ok_or(Refusal::BrokenRecipe)?;
+    recipe::read(value).map_err(|_| Refusal::BrokenRecipe)?;
     match slot_of(&all, key) {
         Some(i) if all[i].expect("held").value == value => Ok(None),
         Some(i) if recipe::outranks(all[i].expect("held").value, value) => Err(Refusal::Outranked),

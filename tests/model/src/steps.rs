@@ -7,6 +7,7 @@ use crate::lookup::{self, Lookup};
 use crate::message::{self, Message, PeerView, View};
 use crate::node::{self, Conn, Lent, Received, Side};
 use crate::peer::{Me, Mode};
+use crate::recipe::{self, Broken, Fields};
 use crate::records::{self, Found};
 use crate::wire::Span;
 use crate::writer;
@@ -125,6 +126,20 @@ pub enum Step {
     Write {
         message: Message,
     },
+    RecipeRead {
+        value: Vec<u8>,
+    },
+    /// The setpoints of a recipe's core or wrap, into lent lists that have these numbers before.
+    RecipeSetpoints {
+        value: Vec<u8>,
+        core: bool,
+        turns: Vec<u32>,
+        trims: Vec<i32>,
+    },
+    /// The writer of recipes, into the reply buffer.
+    RecipeWrite {
+        fields: Fields,
+    },
     /// No call: the host writes a byte into lent memory itself. Past the end, nothing happens.
     Poke {
         memory: Memory,
@@ -162,6 +177,15 @@ pub enum Outcome {
     Peer(Option<PeerView>),
     Address(Option<Span>),
     Written(Result<usize, Refusal>),
+    /// A recipe in seven numbers.
+    RecipeRead(Result<[u64; 7], Broken>),
+    /// What the lent lists have then.
+    RecipeSetpoints {
+        broken: Option<Broken>,
+        turns: Vec<u32>,
+        trims: Vec<i32>,
+    },
+    RecipeWritten(Result<usize, Broken>),
     /// The host did something itself.
     Done,
 }
@@ -181,6 +205,7 @@ impl Outcome {
             Outcome::Step(lookup::Step::Refused(r)) | Outcome::Next(lookup::Next::Refused(r)) => Some(*r),
             Outcome::Read(r) => r.err(),
             Outcome::Written(r) => r.err(),
+            Outcome::RecipeRead(Err(_)) | Outcome::RecipeSetpoints { broken: Some(_), .. } | Outcome::RecipeWritten(Err(_)) => Some(Refusal::BrokenRecipe),
             _ => None,
         };
         refusal.map(Refusal::number)
@@ -271,6 +296,13 @@ impl World {
             Step::Peer { body, providers, from } => Outcome::Peer(message::next_peer(body, *providers, *from)),
             Step::Address { body, start, end, from } => Outcome::Address(message::next_address(body, *start, *end, *from)),
             Step::Write { message } => Outcome::Written(writer::write(&mut self.reply, message)),
+            Step::RecipeRead { value } => Outcome::RecipeRead(recipe::numbers(value)),
+            Step::RecipeSetpoints { value, core, turns, trims } => {
+                let (mut turns, mut trims) = (turns.clone(), trims.clone());
+                let broken = recipe::setpoints_to(value, *core, &mut turns, &mut trims).err();
+                Outcome::RecipeSetpoints { broken, turns, trims }
+            }
+            Step::RecipeWrite { fields } => Outcome::RecipeWritten(recipe::write_to(&mut self.reply, fields)),
             Step::Poke { memory, at, byte } => self.poke(*memory, *at, *byte),
             Step::Lend { memory, length } => {
                 self.memory(*memory).resize(*length, 0);

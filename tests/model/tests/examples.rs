@@ -8,7 +8,7 @@ use starterbell_model::message::{self, encode, encode_peer, Message, Peer, Recor
 use starterbell_model::node::{end, open, receive, Answer, Conn, Lent, Received, Side};
 use starterbell_model::peer::{Me, Mode};
 use starterbell_model::place::{bucket, place_of};
-use starterbell_model::recipe::{self, read, trim_of, zigzag, Setpoint};
+use starterbell_model::recipe::{self, read, trim_of, zigzag, Broken, Part, Recipe, Rule, Setpoint};
 use starterbell_model::stream::{self, Event, Framing};
 use starterbell_model::wire::{minimal, put_bytes};
 use starterbell_model::writer::{framed, write};
@@ -80,13 +80,13 @@ fn recipes() {
     let mut value = vec![0x00, 0x01, 0x12, 0, 0, 0, 1, 0, 1, 0, 7, 0, 0, 0, 0, 0, 0, 0];
     assert_eq!(value, one_setpoint(&[0, 1]));
     let good = read(&value).expect("a recipe");
-    assert_eq!((good.note.len(), good.setpoints, good.sequence), (0, vec![Setpoint { turn: 0, trim: -1 }], 7));
+    assert_eq!((good.note.len(), good.wrap, good.sequence), (0, vec![Setpoint { turn: 0, trim: -1 }], 7));
     value[2] = 0x13;
-    assert_eq!(read(&value), None);
+    assert_eq!(read(&value), Err(Broken { rule: Rule::BadDistance, part: Part::Wrap, setpoint: 0 }));
     let empty = [16, 0, 0, 0, 0, 0, 1, 0, 0, 0, 0, 0, 0, 0, 0, 0];
-    assert_eq!(read(&empty).map(|r| r.setpoints.len()), Some(0));
-    assert!(read(&one_setpoint(&[0, 0xc0, 0xb8, 0x02])).is_some());
-    assert!(read(&one_setpoint(&[0, 0xc1, 0xb8, 0x02])).is_none(), "40,001");
+    assert_eq!(read(&empty), Ok(Recipe::default()));
+    assert!(read(&one_setpoint(&[0, 0xc0, 0xb8, 0x02])).is_ok());
+    assert_eq!(read(&one_setpoint(&[0, 0xc1, 0xb8, 0x02])), Err(Broken { rule: Rule::TrimOutOfRange, part: Part::Wrap, setpoint: 0 }), "40,001");
 }
 
 #[test]
@@ -194,7 +194,7 @@ fn the_largest_replies() {
             contacts::slot_bytes(&contacts::Contact { rank: 0, doubtful: false, place, id, addresses: vec![vec![2; 128]; 4] })
         })
         .collect();
-    let (key, value) = ([&b"/wind/"[..], &[b'k'; 122]].concat(), recipe::write(&recipe::Recipe { note: rng.bytes(3_056), ..Default::default() }));
+    let (key, value) = ([&b"/wind/"[..], &[b'k'; 122]].concat(), recipe::write(&Recipe { note: rng.bytes(3_056), ..Default::default() }));
     let record = Some(Record { key: key.clone(), value: value.clone() });
     let mut store = vec![0; limits::RECORD_SLOT];
     let mut ask = |kind: u64, record: Option<Record>, due: usize| {

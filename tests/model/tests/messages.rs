@@ -3,7 +3,7 @@
 use starterbell_model::gen::{self, Rng};
 use starterbell_model::message::{closer_peers, decode, encode, next_address, next_peer, provider_peers, read, Message, Peer};
 use starterbell_model::peer::{address_list, addresses_of};
-use starterbell_model::recipe::{self, outranks};
+use starterbell_model::recipe::{self, outranks, Setpoint};
 use starterbell_model::wire::{fields, minimal, read_varint, Span};
 use starterbell_model::writer::{body_of, framed, peer_list, peers_of, write};
 use starterbell_model::{limits, Refusal};
@@ -156,15 +156,18 @@ fn recipes_read_back() {
     for _ in 0..3_000 {
         let r = gen::recipe(&mut rng);
         let value = recipe::write(&r);
-        assert_eq!(recipe::read(&value), Some(r));
+        assert_eq!(recipe::read(&value), Ok(r));
     }
     let mut taken = 0;
     for _ in 0..10_000 {
         let value = gen::damaged_recipe(&mut rng);
-        if let Some(r) = recipe::read(&value) {
+        if let Ok(r) = recipe::read(&value) {
             assert_eq!(recipe::write(&r), value, "a recipe has one writing");
-            assert!(value.len() <= 3_072 && r.setpoints.len() <= 400 && r.setpoints.iter().all(|s| s.turn <= 1_000_000 && s.trim.abs() <= 20_000));
-            assert!(r.setpoints.windows(2).all(|w| w[0].turn < w[1].turn && (w[0].trim - w[1].trim).abs() <= 5_000));
+            assert!(value.len() <= 3_072);
+            for list in r.lists() {
+                assert!(list.len() <= 400 && list.iter().all(|s| s.turn <= 1_000_000 && s.trim.abs() <= 20_000));
+                assert!(list.windows(2).all(|w| w[0].turn < w[1].turn && (w[0].trim - w[1].trim).abs() <= 5_000));
+            }
             taken += 1;
         }
     }
@@ -178,17 +181,24 @@ fn made_up_recipes_and_leapers() {
     let mut met: BTreeMap<&str, usize> = BTreeMap::new();
     for _ in 0..4_000 {
         let (good, leaper) = (gen::recipe(&mut rng), gen::leaper(&mut rng));
-        let trims: Vec<i64> = leaper.setpoints.iter().map(|s| s.trim).collect();
         assert!(recipe::is_leaper(&recipe::write(&leaper)) && !recipe::is_leaper(&recipe::write(&good)));
-        let by = recipe::differences(&leaper.setpoints);
-        let at = by.iter().position(|by| by.abs() > 5_000).expect("a leap");
+        let leap_of = |list: &[Setpoint]| recipe::differences(list).iter().position(|by| by.abs() > 5_000);
+        let [core, wrap] = leaper.lists().map(leap_of);
+        assert!(core.is_none() || wrap.is_none(), "in one list");
+        let leaps = if core.is_some() { &leaper.core } else { &leaper.wrap };
+        let (trims, by) = (leaps.iter().map(|s| s.trim).collect::<Vec<i64>>(), recipe::differences(leaps));
+        let at = core.or(wrap).expect("a leap");
         assert!(by[at + 1..].iter().all(|by| by.abs() <= 5_000), "one leap");
+        let good = if core.is_some() { &good.core } else { &good.wrap };
         let cases = [
-            ("5,000 up", recipe::differences(&good.setpoints).contains(&5_000)),
-            ("5,000 down", recipe::differences(&good.setpoints).contains(&-5_000)),
-            ("far from the first", good.setpoints.iter().any(|s| (s.trim - good.setpoints[0].trim).abs() > 5_000)),
-            ("20,000 after others", good.setpoints.iter().skip(1).any(|s| s.trim == 20_000)),
-            ("-20,000 after others", good.setpoints.iter().skip(1).any(|s| s.trim == -20_000)),
+            ("in the core", core.is_some()),
+            ("in a wrap with a core before it", wrap.is_some() && !leaper.core.is_empty()),
+            ("in the wrap of format 1", leaper.format == 1),
+            ("5,000 up", recipe::differences(good).contains(&5_000)),
+            ("5,000 down", recipe::differences(good).contains(&-5_000)),
+            ("far from the first", good.iter().any(|s| (s.trim - good[0].trim).abs() > 5_000)),
+            ("20,000 after others", good.iter().skip(1).any(|s| s.trim == 20_000)),
+            ("-20,000 after others", good.iter().skip(1).any(|s| s.trim == -20_000)),
             ("5,001 up", by[at] == 5_001),
             ("5,001 down", by[at] == -5_001),
             ("further up", by[at] > 5_001),
@@ -211,8 +221,8 @@ fn made_up_values_of_all_sizes() {
     let mut met: BTreeMap<&str, usize> = BTreeMap::new();
     for _ in 0..4_000 {
         let (good, leaper, damaged) = (gen::recipe(&mut rng), gen::leaper(&mut rng), gen::damaged_recipe(&mut rng));
-        let (count, length) = (good.setpoints.len(), recipe::write(&good).len());
-        let large = recipe::read_of_any_size(&damaged).filter(|_| recipe::read(&damaged).is_none()).map_or(0, |r| r.setpoints.len());
+        let (count, length) = (good.wrap.len(), recipe::write(&good).len());
+        let large = recipe::read_of_any_size(&damaged).filter(|_| recipe::read(&damaged).is_err()).map_or(0, |r| r.wrap.len());
         let (read, written) = (decode(&gen::body(&mut rng)), gen::message_to_write(&mut rng));
         let value_of = |m: &Message| m.record.as_ref().map_or(0, |r| r.value.len());
         let cases = [
@@ -228,7 +238,7 @@ fn made_up_values_of_all_sizes() {
             ("3,071 bytes", length == 3_071),
             ("3,072 bytes", length == 3_072),
             ("some length between", (2_050..3_071).contains(&length)),
-            ("a leaper with 400", leaper.setpoints.len() == 400),
+            ("a leaper with 400", leaper.wrap.len() == 400),
             ("401 setpoints", large == 401 && damaged.len() <= 2_048),
             ("401 in more", large == 401 && damaged.len() > 2_048),
             ("3,073 bytes", damaged.len() == 3_073 && recipe::read_of_any_size(&damaged).is_some()),

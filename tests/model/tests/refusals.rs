@@ -81,7 +81,7 @@ fn put(key: &[u8], record_key: &[u8], value: &[u8]) -> Vec<u8> {
 }
 
 fn value(sequence: u64, note: &[u8]) -> Vec<u8> {
-    recipe::write(&Recipe { note: note.to_vec(), setpoints: vec![], sequence })
+    recipe::write(&Recipe { note: note.to_vec(), sequence, ..Recipe::default() })
 }
 
 fn held(rank: usize, id: &[u8]) -> Vec<u8> {
@@ -394,7 +394,7 @@ fn trailer(distance: u32, count: u16, format: u16) -> Vec<u8> {
 
 #[test]
 fn refusal_9() {
-    let reads = |list: &[u8], distance: u32, count: u16, format: u16| recipe::read(&[list, &trailer(distance, count, format)].concat()).is_some();
+    let reads = |list: &[u8], distance: u32, count: u16, format: u16| recipe::read(&[list, &trailer(distance, count, format)].concat()).is_ok();
     assert!(reads(&[], 16, 0, 1) && reads(b"note", 16, 0, 1));
     assert!(
         !reads(&[], 15, 0, 1) && !reads(&[], 17, 0, 1) && !reads(&[], 16, 1, 1) && !reads(&[], 16, 0, 0) && !reads(&[], 16, 0, 2) && !reads(&[], 16, 0, 0x101)
@@ -446,7 +446,7 @@ fn refusal_9_of_lengths() {
 #[test]
 fn refusal_9_of_too_many_setpoints() {
     let of = |n: u64, first: u64, apart: u64, trim: i64| {
-        recipe::write(&Recipe { setpoints: (0..n).map(|i| Setpoint { turn: first + apart * i, trim }).collect(), ..Recipe::default() })
+        recipe::write(&Recipe { wrap: (0..n).map(|i| Setpoint { turn: first + apart * i, trim }).collect(), ..Recipe::default() })
     };
     for (n, good) in [(200, true), (201, true), (255, true), (256, true), (257, true), (399, true), (400, true), (401, false), (656, false)] {
         typed_and_sent(&of(n, 0, 1, 0), good);
@@ -484,15 +484,15 @@ fn long_values_are_ranked_to_their_last_byte() {
 /// A value with these trims, the last of them at turn 1,000,000.
 fn with_trims(trims: &[i64], sequence: u64, note: &[u8]) -> Vec<u8> {
     let turn = |i: usize| if i + 1 == trims.len() { limits::TURN } else { i as u64 };
-    let setpoints = trims.iter().enumerate().map(|(i, trim)| Setpoint { turn: turn(i), trim: *trim }).collect();
-    recipe::write(&Recipe { note: note.to_vec(), setpoints, sequence })
+    let wrap = trims.iter().enumerate().map(|(i, trim)| Setpoint { turn: turn(i), trim: *trim }).collect();
+    recipe::write(&Recipe { note: note.to_vec(), wrap, sequence, ..Recipe::default() })
 }
 
 /// Request ix: neighbouring trims differ by 5,000 at most.
 #[test]
 fn refusal_9_of_leaps() {
     let mut worked = vec![0x00, 0x00, 0x01, 0x90, 0x4e, 0x15, 0, 0, 0, 2, 0, 1, 0, 7, 0, 0, 0, 0, 0, 0, 0];
-    let trims = |value: &[u8]| recipe::read(value).map(|r| r.setpoints.iter().map(|s| s.trim).collect::<Vec<_>>());
+    let trims = |value: &[u8]| recipe::read(value).ok().map(|r| r.wrap.iter().map(|s| s.trim).collect::<Vec<_>>());
     assert_eq!((trims(&worked), recipe::is_leaper(&worked)), (Some(vec![0, 5_000]), false));
     worked[3] = 0x92;
     assert_eq!((trims(&worked), recipe::is_leaper(&worked)), (None, true), "5,001");
@@ -524,7 +524,7 @@ fn refusal_9_of_leaps() {
     ];
     for leap in leaps {
         let value = with_trims(leap, 1, b"");
-        assert_eq!((recipe::read(&value), recipe::is_leaper(&value)), (None, true), "{leap:?}");
+        assert_eq!((trims(&value), recipe::is_leaper(&value)), (None, true), "{leap:?}");
         let mut bench = Bench::new(Mode::Server, Side::Serving);
         assert_eq!(records::put(&mut bench.records, b"/wind/e", &value), Err(Refusal::BrokenRecipe));
         let asked = put(b"/wind/e", b"/wind/e", &value);

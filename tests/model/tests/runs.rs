@@ -160,7 +160,7 @@ fn records_stay(seed: u64, leapers: usize) {
         }
         if let Some((key, value)) = put {
             let before = held.insert(key, value.clone());
-            assert!(recipe::read(&value).is_some() && before.is_none_or(|b| b == value || outranks(&value, &b)));
+            assert!(recipe::read(&value).is_ok() && before.is_none_or(|b| b == value || outranks(&value, &b)));
             accepted += 1;
         }
         for (key, value) in &held {

@@ -8,7 +8,7 @@ use crate::message::{self, encode, Message, Record, View};
 use crate::node::Side;
 use crate::peer::{Me, Mode};
 use crate::place::{bucket, Place};
-use crate::recipe;
+use crate::recipe::{self, Recipe};
 use crate::records;
 use crate::steps::{Memory, Step, World};
 use crate::stream::Framing;
@@ -98,7 +98,7 @@ impl Source {
 
     /// A value, mostly with a sequence that rises slowly, so that puts go on being accepted.
     fn value(&mut self) -> Vec<u8> {
-        if self.rng.one_in(6) {
+        if self.rng.one_in(4) {
             return damaged_recipe(&mut self.rng);
         }
         let mut made = recipe(&mut self.rng);
@@ -111,14 +111,15 @@ impl Source {
         recipe::write(&made)
     }
 
-    /// A value close to the one that is held: the same, one that goes on after it or ends before it, one with a byte more, or one with another byte, often one that
-    /// no value had before request iii.
+    /// A value close to the one that is held: the same, one of the other format that goes on as it does, one that goes on after it or ends before it, one with a
+    /// byte more, or one with another byte, often one that no value had before request iii.
     fn near_held(&mut self, mut value: Vec<u8>) -> Vec<u8> {
         let end = value.len();
-        match self.rng.below(9) {
+        match self.rng.below(11) {
             0 => {}
-            1 => value.extend([&16u32.to_le_bytes()[..], &[0, 0, 1, 0], &value[end - 8..]].concat()),
-            2 if end >= 32 => value.truncate(end - 16),
+            1 => value.extend(recipe::write(&Recipe { format: self.rng.between(1, 2) as u16, sequence: recipe::sequence_of(&value), ..Recipe::default() })),
+            2 if end >= 40 => value.truncate(end - *self.rng.pick(&[16, 24])),
+            9..=10 => value = self.in_other_format(value),
             3 => value[end - 8] = value[end - 8].wrapping_add(*self.rng.pick(&[1, 255])),
             4 => value[0] = value[0].wrapping_add(*self.rng.pick(&[1, 255])),
             5 => value.insert(0, self.rng.byte()),
@@ -126,6 +127,17 @@ impl Source {
             _ => value[self.rng.below(end)] ^= 1 << self.rng.below(8),
         }
         value
+    }
+
+    /// The same fields and sequence in the other format, as far as it can have them: rank is decided by bytes then. The note is as it was, or has another last byte.
+    fn in_other_format(&mut self, value: Vec<u8>) -> Vec<u8> {
+        let Ok(held) = recipe::read(&value) else { return value };
+        let core = if held.format == 1 && self.rng.one_in(2) { held.wrap.clone() } else { vec![] };
+        let mut other = Recipe { format: 3 - held.format, core, ..held };
+        if let Some(last) = other.note.last_mut() {
+            *last = last.wrapping_add(*self.rng.pick(&[0, 1, 255]));
+        }
+        recipe::write(&other)
     }
 
     /// A value offered where a leaper is held: the same bytes, or another leaper or a recipe that ranks just below or above, by its sequence or by its bytes.
@@ -151,7 +163,7 @@ impl Source {
 
     /// A request as a peer may send it; the requester's own id is a key now and then.
     pub fn request(&mut self, world: &World, requester: &[u8]) -> Vec<u8> {
-        let kind = *self.rng.pick(&[0, 0, 0, 1, 1, 4, 4, 4, 5]);
+        let kind = *self.rng.pick(&[0, 0, 0, 0, 1, 1, 4, 4, 4, 5]);
         let mut m = Message { kind, key: self.any_key(world), ..Message::default() };
         if kind == message::FIND_NODE && self.rng.one_in(4) {
             m.key = requester.to_vec();
@@ -367,8 +379,38 @@ impl Source {
         Step::Lend { memory, length: if self.rng.one_in(3) { 0 } else { least - 1 } }
     }
 
+    /// A value to be read: one that is held, or a made-up one.
+    fn value_to_read(&mut self, world: &World) -> Vec<u8> {
+        let held = records::entries(&world.records).unwrap_or_default().into_iter().flatten().collect::<Vec<_>>();
+        if held.is_empty() || !self.rng.one_in(4) {
+            value_to_read(&mut self.rng)
+        } else {
+            self.rng.pick(&held).value.to_vec()
+        }
+    }
+
+    /// Lists for a recipe's setpoints, of any lengths: mostly about as long as there are setpoints.
+    fn recipe_setpoints(&mut self, world: &World) -> Step {
+        let (value, core) = (self.value_to_read(world), self.rng.one_in(2));
+        let count = recipe::read(&value).map_or(2, |recipe| recipe.lists()[usize::from(!core)].len());
+        let mut room = || match self.rng.below(5) {
+            0 => self.rng.below(3),
+            1 => self.rng.below(count + 1),
+            2 => count,
+            _ => count + self.rng.below(3),
+        };
+        let (turns, trims) = (room(), room());
+        let noise = |rng: &mut Rng, n: usize| (0..n).map(|_| rng.number()).collect::<Vec<u64>>();
+        let turns = noise(&mut self.rng, turns).into_iter().map(|n| n as u32).collect();
+        let trims = noise(&mut self.rng, trims).into_iter().map(|n| n as i32).collect();
+        Step::RecipeSetpoints { value, core, turns, trims }
+    }
+
     fn call(&mut self, world: &World) -> Step {
-        match self.rng.below(20) {
+        match self.rng.below(22) {
+            20 => Step::RecipeRead { value: self.value_to_read(world) },
+            21 if self.rng.one_in(2) => self.recipe_setpoints(world),
+            21 => Step::RecipeWrite { fields: fields(&mut self.rng) },
             0 => Step::Read { body: body(&mut self.rng) },
             1 => Step::Write { message: message_to_write(&mut self.rng) },
             2 => Step::Find { key: if self.rng.one_in(4) { self.any_key(world) } else { self.record_key(world) } },
