@@ -8,7 +8,7 @@
      All of it is the host's, before, during and after a call. What stands in `const` memory isn't written.
      A slice is a pointer and a length in elements. The pointer is never null, also where the length is 0.
      Memory that a call may write (not `const`) must not overlap any other memory handed to the same call. Memory that is only read may.
-     Bytes need no alignment; `out` and `view` are arrays of uint64_t.
+     Bytes need no alignment; `out` and `view` are arrays of uint64_t, turns of uint32_t and trims of int32_t.
      A box, a connection and a lookup are bytes that only these functions write. The host may copy them; there are no pointers in them.
      Contacts and records are lists of slots, cleared by the host once before their first use (all zeros), and then written by these functions alone.
      Calls that are lent none of the same memory may run at the same time.
@@ -37,15 +37,16 @@
      What is out of form gets 0 from every call that would go on from it, and isn't written. What is in form but wasn't made by calls is dealt with safely, as any
      bytes are; but nothing is promised about its nearest contacts, since places that are stored aren't hashed again, nor about its values, which aren't judged
      again.
-     Bytes are for the version that wrote them (STARTERBELL_VERSION), so save that with them: another may have other limits or another layout.
+     Bytes are for the version that wrote them (STARTERBELL_VERSION), so save that with them: another may have other limits or another layout. Version 0.2 laid
+     everything out as this one does, so what it wrote is lent as it is.
      Version 0.1 laid records out in slots of 2,184 bytes, which this one doesn't read: lent as they are, they are other bytes, and calls give 0, or find some and not
      others. Find each record in the old layout and put it into cleared memory, which starterbell_older.h does: a put judges it, so what is promised of memory that was
      cleared once and changed by calls alone holds of what comes out. What a put refuses, as a record from before a rule on recipes (9), is told, and stands in the old
      memory as before. The box, contacts and lookups of version 0.1 are laid out as they are here.
 
-   Beside this header there are four, with functions in C over these: starterbell_box.h, which takes a box, a connection and a lookup as structs and answers with
-   structs; starterbell_recipe.h, which writes recipes; starterbell_names.h, which has the refusals' texts; and starterbell_older.h, which carries records over from
-   memory of version 0.1. */
+   Beside this header there are three, with functions in C over these: starterbell_box.h, which takes a box, a connection, a lookup and a recipe as structs and answers
+   with structs; starterbell_names.h, which has the texts of refusals and of a recipe's rules; and starterbell_older.h, which carries records over from memory of
+   version 0.1. */
 #ifndef STARTERBELL_H
 #define STARTERBELL_H
 
@@ -59,9 +60,9 @@ extern "C" {
 /* ---- Version */
 
 #define STARTERBELL_VERSION_MAJOR 0
-#define STARTERBELL_VERSION_MINOR 2
+#define STARTERBELL_VERSION_MINOR 3
 #define STARTERBELL_VERSION_PATCH 0
-#define STARTERBELL_VERSION "0.2.0"
+#define STARTERBELL_VERSION "0.3.0"
 
 /* ---- Sizes */
 
@@ -114,6 +115,9 @@ extern "C" {
 #define STARTERBELL_STACK_NEAREST 11008
 #define STARTERBELL_STACK_PUT 768
 #define STARTERBELL_STACK_FIND 768
+#define STARTERBELL_STACK_RECIPE_READ 512
+#define STARTERBELL_STACK_RECIPE_SETPOINTS 512
+#define STARTERBELL_STACK_RECIPE_WRITE 512
 #define STARTERBELL_STACK_READ 768
 #define STARTERBELL_STACK_PEER 768
 #define STARTERBELL_STACK_PEER_ADDRESS 512
@@ -145,16 +149,16 @@ extern "C" {
 #define STARTERBELL_RECORD_KEY_AT 8
 #define STARTERBELL_RECORD_VALUE_AT 136
 
-/* A value is a recipe: a note, setpoints, and a trailer. A setpoint is its turn, at most STARTERBELL_TURN_MOST and higher than the one before, and its trim, at
-   most STARTERBELL_TRIM_MOST millinewtons either way and at most STARTERBELL_LEAP_MOST from the one before; both as varints with no needless byte, the trim in
-   zigzag form (0, -1, 1, -2 .. are 0, 1, 2, 3 ..). In the trailer, the lowest byte first: in four bytes how far the first setpoint is from the value's end, in two
-   the number of setpoints, in two the format, and in eight the sequence. */
-#define STARTERBELL_RECIPE_TRAILER 16
-#define STARTERBELL_RECIPE_DISTANCE_AT 0
-#define STARTERBELL_RECIPE_COUNT_AT 4
-#define STARTERBELL_RECIPE_FORMAT_AT 6
-#define STARTERBELL_RECIPE_SEQUENCE_AT 8
-#define STARTERBELL_RECIPE_FORMAT 1
+/* A value is a recipe, for one spool or for two. Read it by starterbell_recipe_read, which judges it first, and write it by starterbell_recipe_write.
+   Format 1 has a note, the wrap, and a trailer of 16 bytes; format 2 has a note, the core, the wrap, and a trailer of 24. Wrap and core are lists of setpoints, each
+   by itself. A setpoint is its turn, at most STARTERBELL_TURN_MOST and higher than the one before, and its trim, at most STARTERBELL_TRIM_MOST millinewtons either way
+   and at most STARTERBELL_LEAP_MOST from the one before; both as varints with no needless byte, the trim in zigzag form (0, -1, 1, -2 .. are 0, 1, 2, 3 ..). A list has
+   at most STARTERBELL_SETPOINTS_MOST of them.
+   The last 16 bytes are, the lowest byte first: in four bytes how far the wrap's start is from the value's end, in two the number of its setpoints, in two the
+   format, and in eight the sequence. The 8 bytes before them, in format 2: in four bytes how far the core's start is from the value's end, in two the number of its
+   setpoints, and two zeros. */
+#define STARTERBELL_RECIPE_TRAILER_ONE 16
+#define STARTERBELL_RECIPE_TRAILER_TWO 24
 #define STARTERBELL_SETPOINTS_MOST 400
 #define STARTERBELL_TURN_MOST 1000000
 #define STARTERBELL_TRIM_MOST 20000
@@ -225,7 +229,7 @@ enum starterbell_refusal {
 #define STARTERBELL_REFUSED(code) ((code) < 64u)
 
 enum starterbell_answer {
-    /* start, open, end, remove, doubt, nearest, put, read, write */
+    /* start, open, end, remove, doubt, nearest, put, recipe_read, recipe_setpoints, recipe_write, read, write */
     STARTERBELL_DONE = 64,
     /* seen */
     STARTERBELL_SEEN_MOVED = 64,
@@ -286,7 +290,56 @@ enum starterbell_sighting {
     STARTERBELL_SIGHTING_NO_SLOT = 4
 };
 
-/* ---- Places in `out`, and after them how many numbers a call writes there */
+/* The format of a recipe: for one spool, the wrap, or for two, the wrap and the core. */
+enum starterbell_recipe_format {
+    STARTERBELL_RECIPE_FORMAT_ONE = 1,
+    STARTERBELL_RECIPE_FORMAT_TWO = 2
+};
+
+/* What breaks a rule of recipes, where a value or the fields of one are refused with 9. CORE_IN_FORMAT_ONE and UNPAIRED come in writing alone; TOO_SHORT, PAD_NOT_ZERO,
+   BAD_DISTANCE, NO_SETPOINT and BYTES_LEFT in reading alone. */
+enum starterbell_recipe_rule {
+    /* fewer bytes than its trailer has */
+    STARTERBELL_RECIPE_TOO_SHORT = 1,
+    /* over 3,072 bytes */
+    STARTERBELL_RECIPE_TOO_LONG = 2,
+    /* format not 1 or 2 */
+    STARTERBELL_RECIPE_UNKNOWN_FORMAT = 3,
+    /* a core in format 1 */
+    STARTERBELL_RECIPE_CORE_IN_FORMAT_ONE = 4,
+    /* one of the two zero bytes of format 2 isn't zero */
+    STARTERBELL_RECIPE_PAD_NOT_ZERO = 5,
+    /* the list begins before the value, or past its own end */
+    STARTERBELL_RECIPE_BAD_DISTANCE = 6,
+    /* over 400 setpoints in a list */
+    STARTERBELL_RECIPE_TOO_MANY_SETPOINTS = 7,
+    /* not as many trims as turns */
+    STARTERBELL_RECIPE_UNPAIRED = 8,
+    /* its turn or its trim isn't a minimal varint of at most three bytes inside the list */
+    STARTERBELL_RECIPE_NO_SETPOINT = 9,
+    /* turn over 1,000,000 */
+    STARTERBELL_RECIPE_TURN_TOO_HIGH = 10,
+    /* turn not higher than the one before */
+    STARTERBELL_RECIPE_TURN_NOT_RISING = 11,
+    /* trim not from -20,000 to 20,000 */
+    STARTERBELL_RECIPE_TRIM_OUT_OF_RANGE = 12,
+    /* trim more than 5,000 from the one before */
+    STARTERBELL_RECIPE_TRIM_LEAPS = 13,
+    /* bytes between the last setpoint and the list's end */
+    STARTERBELL_RECIPE_BYTES_LEFT = 14
+};
+
+/* The part of a recipe that breaks a rule. */
+enum starterbell_recipe_part {
+    /* the value as a whole */
+    STARTERBELL_RECIPE_WHOLE = 0,
+    /* wrap */
+    STARTERBELL_RECIPE_WRAP = 1,
+    /* core */
+    STARTERBELL_RECIPE_CORE = 2
+};
+
+/* ---- Places in `out`, and after them how many numbers a call writes there at most */
 
 /* The view of a message. A part that is absent starts and ends at 0. */
 enum starterbell_view {
@@ -327,6 +380,37 @@ enum starterbell_find_out {
     STARTERBELL_FIND_OUT_START = 0,
     STARTERBELL_FIND_OUT_END = 1,
     STARTERBELL_FIND_OUT = 2
+};
+
+/* recipe_read, where the value is a recipe */
+enum starterbell_recipe_read_out {
+    STARTERBELL_RECIPE_READ_OUT_FORMAT = 0,
+    /* where the core, the wrap and the trailer start, each of which ends what stands before it: the note, the core and the wrap */
+    STARTERBELL_RECIPE_READ_OUT_CORE_AT = 1,
+    STARTERBELL_RECIPE_READ_OUT_WRAP_AT = 2,
+    STARTERBELL_RECIPE_READ_OUT_TRAILER_AT = 3,
+    /* how many setpoints */
+    STARTERBELL_RECIPE_READ_OUT_CORE_COUNT = 4,
+    STARTERBELL_RECIPE_READ_OUT_WRAP_COUNT = 5,
+    STARTERBELL_RECIPE_READ_OUT_SEQUENCE = 6,
+    STARTERBELL_RECIPE_READ_OUT = 7
+};
+
+/* recipe_write, where the fields are a recipe's; where they aren't it tells more, and there is room for that too */
+enum starterbell_recipe_write_out {
+    STARTERBELL_RECIPE_WRITE_OUT_LENGTH = 0,
+    STARTERBELL_RECIPE_WRITE_OUT = 3
+};
+
+/* recipe_read and recipe_write, where they give 9 */
+enum starterbell_recipe_refused_out {
+    /* enum starterbell_recipe_rule */
+    STARTERBELL_RECIPE_REFUSED_OUT_RULE = 0,
+    /* enum starterbell_recipe_part */
+    STARTERBELL_RECIPE_REFUSED_OUT_PART = 1,
+    /* which of the part's setpoints, from 0, for the rules from NO_SETPOINT to TRIM_LEAPS, else 0 */
+    STARTERBELL_RECIPE_REFUSED_OUT_SETPOINT = 2,
+    STARTERBELL_RECIPE_REFUSED_OUT = 3
 };
 
 enum starterbell_peer_out {
@@ -420,6 +504,32 @@ uint32_t starterbell_put(uint8_t *records, size_t records_length, const uint8_t 
 
 /* Where a key's value stands in `records`. HELD, and where it starts and ends goes to `out`; NOT_HELD; or 0. */
 uint32_t starterbell_find(const uint8_t *records, size_t records_length, const uint8_t *key, size_t key_length, uint64_t *out, size_t out_length);
+
+/* ---- Recipes
+
+   Both ways between a recipe's bytes and its fields: what is written reads back as the same fields, and the fields of a recipe are written as its bytes. Where a value is
+   no recipe, as one may be that is held from before a rule, or no recipe has these fields, each call gives 9. Those that have an `out` then write there which rule is broken
+   (enum starterbell_recipe_rule), by which part (enum starterbell_recipe_part), and at which of its setpoints (enum starterbell_recipe_refused_out), and nothing else of the
+   value is shown. Where several rules are broken the first that is met is told, from the value as a whole to the wrap and then the core, each list from its first setpoint
+   on; in writing, TOO_LONG comes last. */
+
+/* The recipe that a value is. DONE, and seven numbers go to `out` (enum starterbell_recipe_read_out); in format 1 the core is empty. 9 for just those values for which
+   starterbell_put gives 9, and then the rule that is broken goes to `out`. */
+uint32_t starterbell_recipe_read(const uint8_t *value, size_t value_length, uint64_t *out, size_t out_length);
+
+/* The setpoints of a recipe's wrap (`core` is 0) or of its core (any other number), from the first on: their turns go to `turns` and their trims, in millinewtons, to
+   `trims`, as many as fit into each; what is past them stays. STARTERBELL_SETPOINTS_MOST are always enough, and starterbell_recipe_read tells how many there are. DONE;
+   or 9 where the value is no recipe, and then nothing is written. */
+uint32_t starterbell_recipe_setpoints(const uint8_t *value, size_t value_length, uint32_t core, uint32_t *turns, size_t turns_length,
+    int32_t *trims, size_t trims_length);
+
+/* Writes a recipe at the start of `value`: its format (enum starterbell_recipe_format), a note, which the box doesn't read, the turns and trims of its wrap and of its
+   core, and its sequence. DONE, and the value's length goes to `out`; the bytes go as far as `value` does, so compare the two lengths where it has under
+   STARTERBELL_VALUE_MOST. Bytes past the value stay. 9 where no recipe has these fields: then nothing of `value` is written, and the rule goes to `out`. */
+uint32_t starterbell_recipe_write(uint8_t *value, size_t value_length, size_t format, const uint8_t *note, size_t note_length,
+    const uint32_t *wrap_turns, size_t wrap_turns_length, const int32_t *wrap_trims, size_t wrap_trims_length,
+    const uint32_t *core_turns, size_t core_turns_length, const int32_t *core_trims, size_t core_trims_length,
+    uint64_t sequence, uint64_t *out, size_t out_length);
 
 /* ---- Messages */
 

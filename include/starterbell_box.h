@@ -55,6 +55,23 @@ struct starterbell_message {
     struct starterbell_bytes providers;
 };
 
+/* Setpoints of a list: so many turns, and as many trims. The pointers aren't null, also where there are none. */
+struct starterbell_setpoints {
+    const uint32_t *turns;
+    const int32_t *trims;
+    size_t count;
+};
+
+/* A recipe to write. In format 1 its core is empty. */
+struct starterbell_recipe {
+    /* enum starterbell_recipe_format */
+    size_t format;
+    struct starterbell_bytes note;
+    struct starterbell_setpoints wrap;
+    struct starterbell_setpoints core;
+    uint64_t sequence;
+};
+
 static inline struct starterbell_bytes starterbell_bytes_at(const uint8_t *at, size_t length) {
     struct starterbell_bytes bytes;
     bytes.at = at;
@@ -85,6 +102,31 @@ static inline struct starterbell_bytes starterbell_text(const char *text) {
     size_t length = 0;
     while (text[length] != 0) length++;
     return starterbell_bytes_at((const uint8_t *)text, length);
+}
+
+static inline struct starterbell_setpoints starterbell_setpoints_at(const uint32_t *turns, const int32_t *trims, size_t count) {
+    struct starterbell_setpoints setpoints;
+    setpoints.turns = turns;
+    setpoints.trims = trims;
+    setpoints.count = count;
+    return setpoints;
+}
+
+/* No setpoints. */
+static inline struct starterbell_setpoints starterbell_no_setpoints(void) {
+    static const uint32_t turn = 0;
+    static const int32_t trim = 0;
+    return starterbell_setpoints_at(&turn, &trim, 0);
+}
+
+/* A recipe of a format with a sequence, that has no note and no setpoints. */
+static inline struct starterbell_recipe starterbell_recipe_of(size_t format, uint64_t sequence) {
+    struct starterbell_recipe recipe;
+    recipe.format = format;
+    recipe.note = starterbell_nothing();
+    recipe.wrap = recipe.core = starterbell_no_setpoints();
+    recipe.sequence = sequence;
+    return recipe;
 }
 
 /* A message of a type with a key, that has no record and no peers. */
@@ -127,6 +169,34 @@ struct starterbell_near {
 struct starterbell_found {
     uint32_t code;
     struct starterbell_bytes value;
+};
+
+/* The rule that is broken (enum starterbell_recipe_rule), the part that breaks it (enum starterbell_recipe_part), and which of its setpoints, for a rule on these. */
+struct starterbell_broken {
+    uint32_t rule;
+    uint32_t part;
+    size_t setpoint;
+};
+
+/* The length of all of the value, of which a shorter buffer has the start. */
+struct starterbell_recipe_written {
+    uint32_t code;
+    size_t length;
+    /* for 9 */
+    struct starterbell_broken broken;
+};
+
+/* The note is in the value. */
+struct starterbell_recipe_view {
+    uint32_t code;
+    /* enum starterbell_recipe_format */
+    size_t format;
+    struct starterbell_bytes note;
+    /* how many setpoints there are, which starterbell_recipe_setpoints gives */
+    size_t wrap_count, core_count;
+    uint64_t sequence;
+    /* for 9 */
+    struct starterbell_broken broken;
 };
 
 struct starterbell_written {
@@ -247,6 +317,46 @@ static inline struct starterbell_found starterbell_box_find(const struct starter
     if (found.code == STARTERBELL_FIND_HELD)
         found.value = starterbell_bytes_at(box->records + out[STARTERBELL_FIND_OUT_START], (size_t)(out[STARTERBELL_FIND_OUT_END] - out[STARTERBELL_FIND_OUT_START]));
     return found;
+}
+
+/* ---- Recipes */
+
+/* What a call that gave 9 tells. */
+static inline struct starterbell_broken starterbell_broken_of(uint32_t code, const uint64_t *out) {
+    struct starterbell_broken broken = {0, 0, 0};
+    if (code != STARTERBELL_REFUSAL_BROKEN_RECIPE) return broken;
+    broken.rule = (uint32_t)out[STARTERBELL_RECIPE_REFUSED_OUT_RULE];
+    broken.part = (uint32_t)out[STARTERBELL_RECIPE_REFUSED_OUT_PART];
+    broken.setpoint = (size_t)out[STARTERBELL_RECIPE_REFUSED_OUT_SETPOINT];
+    return broken;
+}
+
+/* starterbell_recipe_write: at the start of a buffer, of which STARTERBELL_VALUE_MOST bytes are always enough. */
+static inline struct starterbell_recipe_written starterbell_value_write(uint8_t *value, size_t value_length, const struct starterbell_recipe *recipe) {
+    struct starterbell_recipe_written written;
+    uint64_t out[STARTERBELL_RECIPE_WRITE_OUT] = {0};
+    written.code = starterbell_recipe_write(value, value_length, recipe->format, recipe->note.at, recipe->note.length, recipe->wrap.turns, recipe->wrap.count,
+        recipe->wrap.trims, recipe->wrap.count, recipe->core.turns, recipe->core.count, recipe->core.trims, recipe->core.count, recipe->sequence, out,
+        STARTERBELL_RECIPE_WRITE_OUT);
+    written.length = written.code == STARTERBELL_DONE ? (size_t)out[STARTERBELL_RECIPE_WRITE_OUT_LENGTH] : 0;
+    written.broken = starterbell_broken_of(written.code, out);
+    return written;
+}
+
+/* starterbell_recipe_read. Of a value that is no recipe nothing is shown. */
+static inline struct starterbell_recipe_view starterbell_value_read(struct starterbell_bytes value) {
+    struct starterbell_recipe_view view;
+    uint64_t out[STARTERBELL_RECIPE_READ_OUT] = {0}, none[STARTERBELL_RECIPE_READ_OUT] = {0};
+    const uint64_t *told;
+    view.code = starterbell_recipe_read(value.at, value.length, out, STARTERBELL_RECIPE_READ_OUT);
+    told = view.code == STARTERBELL_DONE ? out : none;
+    view.format = (size_t)told[STARTERBELL_RECIPE_READ_OUT_FORMAT];
+    view.note = starterbell_bytes_at(value.at, (size_t)told[STARTERBELL_RECIPE_READ_OUT_CORE_AT]);
+    view.wrap_count = (size_t)told[STARTERBELL_RECIPE_READ_OUT_WRAP_COUNT];
+    view.core_count = (size_t)told[STARTERBELL_RECIPE_READ_OUT_CORE_COUNT];
+    view.sequence = told[STARTERBELL_RECIPE_READ_OUT_SEQUENCE];
+    view.broken = starterbell_broken_of(view.code, out);
+    return view;
 }
 
 /* ---- Messages */

@@ -1,4 +1,4 @@
-/* The refusals of starterbell.h as texts, for a screen or a log. C99 and C++11; it needs no library. */
+/* The refusals of starterbell.h, and the rules that recipes break, as texts for a screen or a log. C99 and C++11; it needs no library. */
 #ifndef STARTERBELL_NAMES_H
 #define STARTERBELL_NAMES_H
 
@@ -31,6 +31,34 @@ static inline const char *starterbell_refusal_text(uint32_t code) {
         "message can't be written: a part or the whole is over its limit, or type or connection out of range",
     };
     return code < sizeof texts / sizeof *texts ? texts[code] : "no refusal";
+}
+
+/* What breaks a rule of recipes, in the words of enum starterbell_recipe_rule. A number that is no rule gives "no rule", never null. */
+static inline const char *starterbell_recipe_rule_text(uint32_t rule) {
+    static const char *const texts[] = {
+        "no rule",
+        "fewer bytes than its trailer has",
+        "over 3,072 bytes",
+        "format not 1 or 2",
+        "a core in format 1",
+        "one of the two zero bytes of format 2 isn't zero",
+        "the list begins before the value, or past its own end",
+        "over 400 setpoints in a list",
+        "not as many trims as turns",
+        "its turn or its trim isn't a minimal varint of at most three bytes inside the list",
+        "turn over 1,000,000",
+        "turn not higher than the one before",
+        "trim not from -20,000 to 20,000",
+        "trim more than 5,000 from the one before",
+        "bytes between the last setpoint and the list's end",
+    };
+    return rule < sizeof texts / sizeof *texts ? texts[rule] : "no rule";
+}
+
+/* The part of a recipe that breaks it, in the words of enum starterbell_recipe_part. Another number gives "no part". */
+static inline const char *starterbell_recipe_part_text(uint32_t part) {
+    static const char *const texts[] = {"the value as a whole", "wrap", "core"};
+    return part < sizeof texts / sizeof *texts ? texts[part] : "no part";
 }
 
 /* What came of a sender's sighting, as enum starterbell_sighting names it. Another number gives "no sighting". */

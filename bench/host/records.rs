@@ -110,10 +110,18 @@ fn is_recipe(value: &[u8]) -> bool {
     if !(16..=MOST_VALUE).contains(&n) {
         return false;
     }
-    let distance = u32::from_le_bytes(value[n - 16..n - 12].try_into().unwrap()) as usize;
-    let count = u16::from_le_bytes(value[n - 12..n - 10].try_into().unwrap()) as usize;
-    let format = u16::from_le_bytes(value[n - 10..n - 8].try_into().unwrap());
-    (16..=n).contains(&distance) && count <= MOST_SETPOINTS && format == 1 && is_list(&value[n - distance..n - 16], count)
+    // how far from the end a list begins, and how many setpoints it has
+    let place = |at: usize| {
+        let distance = u32::from_le_bytes(value[at..at + 4].try_into().unwrap()) as usize;
+        (distance, u16::from_le_bytes(value[at + 4..at + 6].try_into().unwrap()) as usize)
+    };
+    let fills = |(from, count): (usize, usize), to: usize| (to..=n).contains(&from) && count <= MOST_SETPOINTS && is_list(&value[n - from..n - to], count);
+    let wrap = place(n - 16);
+    match u16::from_le_bytes(value[n - 10..n - 8].try_into().unwrap()) {
+        1 => fills(wrap, 16),
+        2 => n >= 24 && value[n - 18..n - 16] == [0, 0] && fills(wrap, 24) && fills(place(n - 24), wrap.0),
+        _ => false,
+    }
 }
 
 fn sequence(value: &[u8]) -> u64 {

@@ -31,7 +31,7 @@ pub const BUFFER: usize = 16_384;
 pub const REPLY: usize = 16_387;
 
 /// Says a function once: declares it as C has it, where a slice is a pointer and a length, and defines the safe function over it. The words for parameters are
-/// `bytes`, `bytes_mut`, `numbers`, `numbers_mut`, and a number's type.
+/// `bytes`, `bytes_mut`, `numbers`, `numbers_mut`, `turns`, `turns_mut`, `trims`, `trims_mut`, and a number's type.
 ///
 /// Safe, because the functions are proved to take any slices and to stay inside them, Rust's rules on `&mut` are what they ask of memory that is written, and
 /// the pointer of an empty slice isn't null either.
@@ -50,6 +50,18 @@ macro_rules! exported {
     };
     (@next $about:tt $name:ident $symbol:ident [$p:ident: numbers_mut, $($rest:tt)*] [$($safe:tt)*] [$($c:tt)*] [$($pass:tt)*]) => {
         exported!(@next $about $name $symbol [$($rest)*] [$($safe)* $p: &mut [u64],] [$($c)* _: *mut u64, _: usize,] [$($pass)* $p.as_mut_ptr(), $p.len(),]);
+    };
+    (@next $about:tt $name:ident $symbol:ident [$p:ident: turns, $($rest:tt)*] [$($safe:tt)*] [$($c:tt)*] [$($pass:tt)*]) => {
+        exported!(@next $about $name $symbol [$($rest)*] [$($safe)* $p: &[u32],] [$($c)* _: *const u32, _: usize,] [$($pass)* $p.as_ptr(), $p.len(),]);
+    };
+    (@next $about:tt $name:ident $symbol:ident [$p:ident: turns_mut, $($rest:tt)*] [$($safe:tt)*] [$($c:tt)*] [$($pass:tt)*]) => {
+        exported!(@next $about $name $symbol [$($rest)*] [$($safe)* $p: &mut [u32],] [$($c)* _: *mut u32, _: usize,] [$($pass)* $p.as_mut_ptr(), $p.len(),]);
+    };
+    (@next $about:tt $name:ident $symbol:ident [$p:ident: trims, $($rest:tt)*] [$($safe:tt)*] [$($c:tt)*] [$($pass:tt)*]) => {
+        exported!(@next $about $name $symbol [$($rest)*] [$($safe)* $p: &[i32],] [$($c)* _: *const i32, _: usize,] [$($pass)* $p.as_ptr(), $p.len(),]);
+    };
+    (@next $about:tt $name:ident $symbol:ident [$p:ident: trims_mut, $($rest:tt)*] [$($safe:tt)*] [$($c:tt)*] [$($pass:tt)*]) => {
+        exported!(@next $about $name $symbol [$($rest)*] [$($safe)* $p: &mut [i32],] [$($c)* _: *mut i32, _: usize,] [$($pass)* $p.as_mut_ptr(), $p.len(),]);
     };
     (@next $about:tt $name:ident $symbol:ident [$p:ident: $number:ident, $($rest:tt)*] [$($safe:tt)*] [$($c:tt)*] [$($pass:tt)*]) => {
         exported!(@next $about $name $symbol [$($rest)*] [$($safe)* $p: $number,] [$($c)* _: $number,] [$($pass)* $p,]);
@@ -104,6 +116,19 @@ exported! {
 
     /// Where a key's value stands in the store. 64 held, 65 not held. `out`: where it starts and ends.
     fn find = starterbell_find(records: bytes, key: bytes, out: numbers_mut);
+
+    /// The recipe that a value is. 64. `out`: its format, 1 or 2; where its core starts, at which its note ends; where its wrap starts, at which its core ends; where
+    /// its trailer starts, at which its wrap ends; how many setpoints its core has; how many its wrap; its sequence. Or 9, and `out`: the number of the
+    /// [rule](crate::recipe::Rule) that is broken; by which [part](crate::recipe::Part); which setpoint, from 0, where it is a rule on setpoints, else 0.
+    fn recipe_read = starterbell_recipe_read(value: bytes, out: numbers_mut);
+
+    /// The setpoints of a recipe's wrap where `core` is 0, else of its core, from the first on, as many as fit. 64; or 9, and nothing is written.
+    fn recipe_setpoints = starterbell_recipe_setpoints(value: bytes, core: u32, turns: turns_mut, trims: trims_mut);
+
+    /// Writes a recipe at the start of `value`, as far as that goes. 64. `out`: the length of the whole. Or 9, and `out` as for [`recipe_read`].
+    fn recipe_write = starterbell_recipe_write(
+        value: bytes_mut, format: usize, note: bytes, wrap_turns: turns, wrap_trims: trims, core_turns: turns, core_trims: trims, sequence: u64, out: numbers_mut
+    );
 
     /// The message that a body is. 64. `out`: its type; where its key starts and ends; 1 if it has a record, else 0; where the record's key starts and ends;
     /// where its value starts and ends.

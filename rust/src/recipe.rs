@@ -1,29 +1,35 @@
-//! Winding recipes as values: written and read here in plain Rust, which names the rule that is broken, and judged by the proved check too.
+//! Winding recipes, and both ways between their fields and the values that are stored. What is shown of a value here is the proved reading of it, and of a value that is
+//! refused nothing is shown but the rule that it breaks.
 //!
 //! ```
-//! use starterbell::recipe::{self, Recipe, Setpoint};
+//! use starterbell::recipe::{self, Format, Recipe, Setpoint};
 //!
-//! let recipe = Recipe { note: b"G string".to_vec(), setpoints: vec![Setpoint { turn: 0, trim: -1 }], sequence: 7 };
+//! // for one spool
+//! let wrap = vec![Setpoint { turn: 0, trim: -1 }];
+//! let recipe = Recipe { note: b"G string".to_vec(), wrap, sequence: 7, ..Recipe::default() };
 //! let value = recipe.to_value()?;
 //! assert_eq!(value[8..], [0, 1, 18, 0, 0, 0, 1, 0, 1, 0, 7, 0, 0, 0, 0, 0, 0, 0]);
 //! assert_eq!(Recipe::from_value(&value)?, recipe);
 //!
-//! let newer = Recipe { sequence: 8, ..recipe }.to_value()?;
+//! // the same for two, and newer
+//! let core = vec![Setpoint { turn: 0, trim: 250 }, Setpoint { turn: 900, trim: -40 }];
+//! let newer = Recipe { format: Format::Two, core, sequence: 8, ..recipe }.to_value()?;
+//! assert_eq!(Recipe::from_value(&newer)?.core[1], Setpoint { turn: 900, trim: -40 });
 //! assert!(recipe::outranks(&newer, &value));
 //! # Ok::<(), starterbell::recipe::Broken>(())
 //! ```
 //!
-//! A recipe that is refused says why, and at which setpoint:
+//! A recipe that is refused says why, and at which setpoint of which list:
 //!
 //! ```
-//! use starterbell::recipe::{Broken, Recipe, Rule, Setpoint};
+//! use starterbell::recipe::{Broken, Format, Part, Recipe, Rule, Setpoint};
 //! use starterbell::Refusal;
 //!
 //! let trims = [0, 2_000, 11_000, 9_000];
-//! let setpoints = trims.iter().zip(0..).map(|(&trim, turn)| Setpoint { turn, trim }).collect();
-//! let broken = Recipe { note: b"silver wrap".to_vec(), setpoints, sequence: 1 }.to_value().unwrap_err();
-//! assert_eq!(broken, Broken { rule: Rule::TrimLeaps, setpoint: Some(2) });
-//! assert_eq!(broken.to_string(), "setpoints[2]: its trim differs from the one before it by more than 5,000 millinewtons");
+//! let core = trims.iter().zip(0..).map(|(&trim, turn)| Setpoint { turn, trim }).collect();
+//! let broken = Recipe { format: Format::Two, note: b"silver wrap".to_vec(), core, ..Recipe::default() }.to_value().unwrap_err();
+//! assert_eq!(broken, Broken { rule: Rule::TrimLeaps, part: Part::Core, setpoint: Some(2) });
+//! assert_eq!(broken.to_string(), "core[2]: its trim differs from the one before it by more than 5,000 millinewtons");
 //! assert_eq!(Refusal::from(broken), Refusal::BrokenRecipe);
 //! ```
 
@@ -34,12 +40,9 @@ use alloc::vec;
 use alloc::vec::Vec;
 use core::fmt;
 
-/// The bytes of a trailer.
-const TRAILER: usize = 16;
-
 /// The most bytes of a value.
 pub const VALUE_MAX: usize = raw::MOST_VALUE;
-/// The most setpoints of a recipe.
+/// The most setpoints of a wrap or of a core.
 pub const SETPOINTS_MAX: usize = 400;
 /// The highest turn.
 pub const TURN_MAX: u32 = 1_000_000;
@@ -47,6 +50,21 @@ pub const TURN_MAX: u32 = 1_000_000;
 pub const TRIM_MAX: u32 = 20_000;
 /// By how much the trims of neighbouring setpoints may differ, in millinewtons.
 pub const LEAP_MAX: u32 = 5_000;
+
+/// How many spools a recipe is for, with its number in the value.
+#[derive(Clone, Copy, Debug, Default, PartialEq, Eq, Hash)]
+pub enum Format {
+    /// One spool, the wrap.
+    #[default]
+    One = 1,
+    /// Two spools, the wrap and the core.
+    Two = 2,
+}
+
+impl Format {
+    /// All of them, by number.
+    pub const ALL: [Format; 2] = [Format::One, Format::Two];
+}
 
 /// At this turn, pull so much more or less.
 #[derive(Clone, Copy, Debug, PartialEq, Eq)]
@@ -60,18 +78,23 @@ pub struct Setpoint {
 /// A winding recipe.
 #[derive(Clone, Default, PartialEq, Eq)]
 pub struct Recipe {
+    /// For one spool or for two.
+    pub format: Format,
     /// Bytes that the box doesn't read.
     pub note: Vec<u8>,
     /// At most [`SETPOINTS_MAX`], with rising turns, and trims of which neighbours differ by at most [`LEAP_MAX`].
-    pub setpoints: Vec<Setpoint>,
+    pub wrap: Vec<Setpoint>,
+    /// The same for the second spool; empty where there is one alone.
+    pub core: Vec<Setpoint>,
     /// Its version: of two recipes under one key the higher one is kept.
     pub sequence: u64,
 }
 
 impl fmt::Debug for Recipe {
     fn fmt(&self, f: &mut fmt::Formatter<'_>) -> fmt::Result {
-        let setpoints = Setpoints(&self.setpoints);
-        f.debug_struct("Recipe").field("note", &Bytes(&self.note)).field("setpoints", &setpoints).field("sequence", &self.sequence).finish()
+        let mut shown = f.debug_struct("Recipe");
+        shown.field("format", &self.format).field("note", &Bytes(&self.note));
+        shown.field("wrap", &Setpoints(&self.wrap)).field("core", &Setpoints(&self.core)).field("sequence", &self.sequence).finish()
     }
 }
 
@@ -84,18 +107,20 @@ impl fmt::Debug for Setpoints<'_> {
     }
 }
 
-/// Says the rules once: name, plain words.
+// ---- what is broken
+
+/// Says the rules once: name, number, plain words.
 macro_rules! rules {
-    ($($name:ident, $words:literal;)*) => {
-        /// A rule of recipes (docs/RULES.md, Recipes), by what breaks it.
+    ($($name:ident = $number:literal, $words:literal;)*) => {
+        /// A rule of recipes (docs/RULES.md, Recipes), by what breaks it, with the number that the exported functions have for it.
         #[derive(Clone, Copy, Debug, PartialEq, Eq, Hash)]
         #[non_exhaustive]
         pub enum Rule {
-            $(#[doc = concat!($words, ".")] $name,)*
+            $(#[doc = concat!($words, ".")] $name = $number,)*
         }
 
         impl Rule {
-            /// All of them.
+            /// All of them, by number.
             pub const ALL: &'static [Rule] = &[$(Rule::$name,)*];
 
             /// What is wrong, in plain words.
@@ -109,36 +134,95 @@ macro_rules! rules {
 }
 
 rules! {
-    TooShort, "the value has fewer than the 16 bytes of a trailer";
-    TooLong, "the value has more than 3,072 bytes";
-    Distance, "the trailer's distance to the first setpoint isn't from 16 to the value's length";
-    TooManySetpoints, "there are more than 400 setpoints";
-    Format, "the format isn't 1";
-    RoomTooSmall, "the room before the trailer ends inside it";
-    RoomTooLarge, "there are bytes between the last setpoint and the trailer";
-    VarintNotMinimal, "its turn or its trim is written with a needless last byte";
-    TurnTooHigh, "its turn is over 1,000,000";
-    TurnNotRising, "its turn isn't higher than the one before it";
-    TrimOutOfRange, "its trim isn't from -20,000 to 20,000 millinewtons";
-    TrimLeaps, "its trim differs from the one before it by more than 5,000 millinewtons";
-    Unnamed, "the linked library refuses it by a rule that this crate has no name for";
+    Unnamed = 0, "the linked library refuses it by a rule that this crate has no name for";
+    TooShort = 1, "the value has fewer bytes than its trailer, which has 16, or 24 in format 2";
+    TooLong = 2, "the value has more than 3,072 bytes";
+    UnknownFormat = 3, "the format isn't 1 or 2";
+    CoreInFormatOne = 4, "format 1 has no core";
+    PadNotZero = 5, "one of the two zero bytes of format 2 isn't zero";
+    BadDistance = 6, "by its distance it begins before the value, or past its own end";
+    TooManySetpoints = 7, "there are more than 400 setpoints";
+    Unpaired = 8, "there aren't as many trims as turns";
+    NoSetpoint = 9, "its turn or its trim isn't a varint of at most three bytes, none of them needless, inside the list";
+    TurnTooHigh = 10, "its turn is over 1,000,000";
+    TurnNotRising = 11, "its turn isn't higher than the one before it";
+    TrimOutOfRange = 12, "its trim isn't from -20,000 to 20,000 millinewtons";
+    TrimLeaps = 13, "its trim differs from the one before it by more than 5,000 millinewtons";
+    BytesLeft = 14, "there are bytes between its last setpoint and its end";
 }
 
-/// Why a recipe is refused: where several rules are broken, the first that is met, from the value as a whole to its setpoints from the first on.
+impl Rule {
+    /// Its number, from 1 up; 0 for the unnamed one.
+    pub const fn number(self) -> u32 {
+        self as u32
+    }
+
+    /// The rule with this number, as it stands in `out`; the unnamed one where this crate has no name for it.
+    pub fn from_number(number: u64) -> Rule {
+        Rule::ALL.iter().copied().find(|rule| u64::from(rule.number()) == number).unwrap_or(Rule::Unnamed)
+    }
+
+    /// Whether it is a rule on single setpoints.
+    const fn is_on_setpoints(self) -> bool {
+        matches!(self, Rule::NoSetpoint | Rule::TurnTooHigh | Rule::TurnNotRising | Rule::TrimOutOfRange | Rule::TrimLeaps)
+    }
+}
+
+/// A part of a recipe, with the number that the exported functions have for it.
+#[derive(Clone, Copy, Debug, PartialEq, Eq, Hash)]
+pub enum Part {
+    /// The value as a whole.
+    Whole = 0,
+    /// The wrap.
+    Wrap = 1,
+    /// The core.
+    Core = 2,
+}
+
+impl Part {
+    /// All of them, by number.
+    pub const ALL: [Part; 3] = [Part::Whole, Part::Wrap, Part::Core];
+
+    /// The part with this number, as it stands in `out`.
+    pub fn from_number(number: u64) -> Option<Part> {
+        Part::ALL.into_iter().find(|part| *part as u64 == number)
+    }
+}
+
+/// Why a recipe is refused: where several rules are broken, the first that is met, from the value as a whole to the wrap and then the core, each from its first setpoint
+/// on. Of fields that are [to be a value](Recipe::to_value) the length is looked at last.
 #[derive(Clone, Copy, Debug, PartialEq, Eq, Hash)]
 pub struct Broken {
     /// The rule.
     pub rule: Rule,
-    /// Which setpoint breaks it, from 0, where it is a rule on setpoints.
+    /// What breaks it.
+    pub part: Part,
+    /// Which setpoint of that part, from 0, where it is a rule on setpoints.
     pub setpoint: Option<usize>,
+}
+
+impl Broken {
+    /// What an exported function that gave 9 tells.
+    fn told(out: &[u64]) -> Broken {
+        let (rule, part) = (Rule::from_number(out[0]), Part::from_number(out[1]));
+        Broken { rule, part: part.unwrap_or(Part::Whole), setpoint: rule.is_on_setpoints().then_some(out[2] as usize) }
+    }
+
+    /// The linked library isn't the one that this crate was written for.
+    const UNNAMED: Broken = Broken { rule: Rule::Unnamed, part: Part::Whole, setpoint: None };
 }
 
 impl fmt::Display for Broken {
     fn fmt(&self, f: &mut fmt::Formatter<'_>) -> fmt::Result {
-        if let Some(setpoint) = self.setpoint {
-            write!(f, "setpoints[{setpoint}]: ")?;
+        match self.part {
+            Part::Whole => return f.write_str(self.rule.words()),
+            Part::Wrap => f.write_str("wrap")?,
+            Part::Core => f.write_str("core")?,
         }
-        f.write_str(self.rule.words())
+        if let Some(setpoint) = self.setpoint {
+            write!(f, "[{setpoint}]")?;
+        }
+        write!(f, ": {}", self.rule.words())
     }
 }
 
@@ -151,52 +235,44 @@ impl From<Broken> for Refusal {
     }
 }
 
-impl From<Rule> for Broken {
-    fn from(rule: Rule) -> Broken {
-        Broken { rule, setpoint: None }
-    }
-}
+// ---- both ways
 
 impl Recipe {
-    /// Which setpoint leaps: the first whose trim differs from that of the one before it by more than [`LEAP_MAX`], whatever else is wrong.
-    pub fn leap(&self) -> Option<usize> {
-        let before = self.setpoints.windows(2).position(|two| two[0].trim.abs_diff(two[1].trim) > LEAP_MAX)?;
-        Some(before + 1)
-    }
-
-    /// The value to put under its key. Refused where it is no recipe that the box takes; too many setpoints are named before all else.
+    /// The value to put under its key. Refused where it is no recipe that the box takes.
+    ///
+    /// Stack: under 512 bytes.
     pub fn to_value(&self) -> Result<Vec<u8>, Broken> {
-        if self.setpoints.len() > SETPOINTS_MAX {
-            return Err(Rule::TooManySetpoints.into());
-        }
-        let mut value = self.note.clone();
-        for setpoint in &self.setpoints {
-            put_varint(&mut value, setpoint.turn);
-            put_varint(&mut value, (setpoint.trim << 1 ^ setpoint.trim >> 31) as u32);
-        }
-        let back = value.len() - self.note.len() + TRAILER;
-        value.extend_from_slice(&(back as u32).to_le_bytes());
-        value.extend_from_slice(&(self.setpoints.len() as u16).to_le_bytes());
-        value.extend_from_slice(&1u16.to_le_bytes());
-        value.extend_from_slice(&self.sequence.to_le_bytes());
-        Recipe::from_value(&value)?;
+        let (wrap_turns, wrap_trims) = apart(&self.wrap);
+        let (core_turns, core_trims) = apart(&self.core);
+        let mut value = vec![0; VALUE_MAX];
+        let mut out = [0; 3];
+        let format = self.format as usize;
+        let told = raw::recipe_write(&mut value, format, &self.note, &wrap_turns, &wrap_trims, &core_turns, &core_trims, self.sequence, &mut out);
+        answer(told).map_err(|_| Broken::told(&out))?;
+        value.truncate(out[0] as usize);
         Ok(value)
     }
 
     /// The recipe that a value is. Refused where it is none, as one may be that is held from before a rule; its bytes are still what a box finds and serves.
+    ///
+    /// Stack: under 512 bytes.
     pub fn from_value(value: &[u8]) -> Result<Recipe, Broken> {
-        let recipe = read(value)?;
-        // the two agree (tests/recipe.rs); a library that was built from other sources may know more rules
-        check(value).map_err(|_| Rule::Unnamed)?;
-        Ok(recipe)
+        let [format, core_at, _, _, core_count, wrap_count, sequence] = read(value)?;
+        Ok(Recipe {
+            format: Format::ALL.into_iter().find(|known| *known as u64 == format).ok_or(Broken::UNNAMED)?,
+            note: value[..core_at as usize].to_vec(),
+            wrap: setpoints(value, Part::Wrap, wrap_count)?,
+            core: setpoints(value, Part::Core, core_count)?,
+            sequence,
+        })
     }
 }
 
-/// The proved check: refuses a value that is no recipe. [`Recipe::from_value`] says why.
-pub fn check(value: &[u8]) -> Result<(), Refusal> {
-    // a put tests the value before anything else that could go wrong in an empty store of one slot
-    let mut store = vec![0; raw::RECORD];
-    answer(raw::put(&mut store, b"/wind/-", value)).map(|_| ())
+/// Refuses a value that is no recipe, as a put does; without copying anything of it.
+///
+/// Stack: under 512 bytes.
+pub fn check(value: &[u8]) -> Result<(), Broken> {
+    read(value).map(|_| ())
 }
 
 /// Whether a recipe's value ranks higher than another's: by its sequence, then by its bytes.
@@ -204,87 +280,28 @@ pub fn outranks(value: &[u8], other: &[u8]) -> bool {
     (sequence(value), value) > (sequence(other), other)
 }
 
-/// A value's sequence, from its last eight bytes; 0 where it has fewer.
+/// The sequence by which a value ranks, from its last eight bytes; 0 where it has fewer. A value that is no recipe has such bytes too: [`check`] it first.
 pub fn sequence(value: &[u8]) -> u64 {
     value.last_chunk().map_or(0, |last| u64::from_le_bytes(*last))
 }
 
-// ---- reading
-
-/// Reads a value, rule by rule.
-fn read(value: &[u8]) -> Result<Recipe, Broken> {
-    let (body, trailer) = value.split_last_chunk::<TRAILER>().ok_or(Rule::TooShort)?;
-    if value.len() > VALUE_MAX {
-        return Err(Rule::TooLong.into());
-    }
-    let [a, b, c, d, low, high, format @ ..] = trailer;
-    let back = u32::from_le_bytes([*a, *b, *c, *d]) as usize;
-    if !(TRAILER..=value.len()).contains(&back) {
-        return Err(Rule::Distance.into());
-    }
-    let count = usize::from(u16::from_le_bytes([*low, *high]));
-    if count > SETPOINTS_MAX {
-        return Err(Rule::TooManySetpoints.into());
-    }
-    if !format.starts_with(&[1, 0]) {
-        return Err(Rule::Format.into());
-    }
-    let (note, room) = body.split_at(value.len() - back);
-    Ok(Recipe { note: note.to_vec(), setpoints: read_setpoints(room, count)?, sequence: sequence(value) })
+/// What is read of a value that is a recipe: its format; where its core, its wrap and its trailer start; how many setpoints its core has, and its wrap; its sequence.
+fn read(value: &[u8]) -> Result<[u64; 7], Broken> {
+    let mut out = [0; 7];
+    answer(raw::recipe_read(value, &mut out)).map_err(|_| Broken::told(&out))?;
+    Ok(out)
 }
 
-/// So many setpoints, which fill the room.
-fn read_setpoints(mut room: &[u8], count: usize) -> Result<Vec<Setpoint>, Broken> {
-    let mut setpoints = Vec::new();
-    for n in 0..count {
-        let setpoint = take_setpoint(&mut room, setpoints.last()).map_err(|rule| Broken { rule, setpoint: Some(n) })?;
-        setpoints.push(setpoint);
-    }
-    if room.is_empty() {
-        return Ok(setpoints);
-    }
-    Err(Rule::RoomTooLarge.into())
+/// The setpoints, so many, of a part of a recipe's value.
+fn setpoints(value: &[u8], part: Part, count: u64) -> Result<Vec<Setpoint>, Broken> {
+    let mut turns = vec![0; count as usize];
+    let mut trims = vec![0; count as usize];
+    let told = raw::recipe_setpoints(value, u32::from(part == Part::Core), &mut turns, &mut trims);
+    answer(told).map_err(|_| Broken::UNNAMED)?;
+    Ok(turns.into_iter().zip(trims).map(|(turn, trim)| Setpoint { turn, trim }).collect())
 }
 
-/// A setpoint at the start of the room, after the one before it.
-fn take_setpoint(room: &mut &[u8], before: Option<&Setpoint>) -> Result<Setpoint, Rule> {
-    let turn = take_varint(room)?;
-    let zigzag = take_varint(room)?;
-    let trim = (zigzag >> 1) as i32 ^ -((zigzag & 1) as i32);
-    if turn > TURN_MAX {
-        return Err(Rule::TurnTooHigh);
-    }
-    if before.is_some_and(|before| turn <= before.turn) {
-        return Err(Rule::TurnNotRising);
-    }
-    if trim.unsigned_abs() > TRIM_MAX {
-        return Err(Rule::TrimOutOfRange);
-    }
-    if before.is_some_and(|before| trim.abs_diff(before.trim) > LEAP_MAX) {
-        return Err(Rule::TrimLeaps);
-    }
-    Ok(Setpoint { turn, trim })
-}
-
-/// A varint at the start of the room. One that doesn't fit reads as the highest number, which is over every limit.
-fn take_varint(room: &mut &[u8]) -> Result<u32, Rule> {
-    let length = room.iter().position(|byte| *byte < 0x80).ok_or(Rule::RoomTooSmall)? + 1;
-    let (varint, after) = room.split_at(length);
-    *room = after;
-    if length > 1 && varint[length - 1] == 0 {
-        return Err(Rule::VarintNotMinimal);
-    }
-    let number = |so_far: u64, byte: &u8| so_far << 7 | u64::from(byte & 0x7f);
-    let number = if length > 5 { u64::MAX } else { varint.iter().rev().fold(0, number) };
-    Ok(u32::try_from(number).unwrap_or(u32::MAX))
-}
-
-// ---- writing
-
-fn put_varint(out: &mut Vec<u8>, mut number: u32) {
-    while number >= 0x80 {
-        out.push(number as u8 | 0x80);
-        number >>= 7;
-    }
-    out.push(number as u8);
+/// Setpoints as the library takes them.
+fn apart(setpoints: &[Setpoint]) -> (Vec<u32>, Vec<i32>) {
+    setpoints.iter().map(|setpoint| (setpoint.turn, setpoint.trim)).unzip()
 }

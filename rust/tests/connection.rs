@@ -1,7 +1,7 @@
 //! Connections: requests and their replies, cut anywhere.
 
 use starterbell::message::{Draft, Kind, Message};
-use starterbell::recipe::{Broken, Recipe, Rule, Setpoint};
+use starterbell::recipe::{Broken, Format, Part, Recipe, Rule, Setpoint};
 use starterbell::{Event, Mode, Node, Peer, Refusal, Room, Seen, Side};
 
 fn bench() -> Node {
@@ -269,15 +269,15 @@ fn a_record_in_two_fields_is_judged_by_the_last_of_each() {
 #[test]
 fn a_leap_is_refused_typed_and_sent() {
     let trims = [0, 2_000, 4_000];
-    let setpoints = trims.iter().zip(0..).map(|(&trim, turn)| Setpoint { turn, trim }).collect();
-    let held = Recipe { note: b"silver".to_vec(), setpoints, sequence: 4 };
+    let wrap = trims.iter().zip(0..).map(|(&trim, turn)| Setpoint { turn, trim }).collect();
+    let held = Recipe { note: b"silver".to_vec(), wrap, sequence: 4, ..Recipe::default() };
     let value = held.to_value().expect("a recipe");
     let mut node = bench();
     assert_eq!(node.put(KEY, &value), Ok(()));
     // the newer version on the screen
     let mut newer = Recipe { sequence: 5, ..held };
-    newer.setpoints[2].trim = 11_000;
-    assert_eq!(newer.to_value().err(), Some(Broken { rule: Rule::TrimLeaps, setpoint: Some(2) }));
+    newer.wrap[2].trim = 11_000;
+    assert_eq!(newer.to_value().err(), Some(Broken { rule: Rule::TrimLeaps, part: Part::Wrap, setpoint: Some(2) }));
     // a host that has no `Recipe` puts its bytes: zigzag 4,000 (A0 1F) and 22,000 (F0 AB 01)
     let leaper = [b"silver\x00\x00\x01\xa0\x1f\x02\xf0\xab\x01".as_slice(), &[25, 0, 0, 0, 3, 0, 1, 0, 5, 0, 0, 0, 0, 0, 0, 0]].concat();
     assert_eq!(node.put(KEY, &leaper), Err(Refusal::BrokenRecipe));
@@ -399,6 +399,69 @@ fn what_is_past_a_limit_is_refused_typed_and_sent() {
         for size in [1, 1_000, 20_000] {
             assert_eq!(reply(&mut node, &request, size), Err(Refusal::BrokenRecipe), "{count} setpoints, {bytes} bytes, pieces of {size}");
             assert_eq!(node.find(&key), Ok(Some(&held[..])));
+        }
+    }
+}
+
+// ---- two spools
+
+/// A recipe for two spools, with so many setpoints of six bytes in each list, and a value of so many bytes.
+fn for_two(core: u32, wrap: u32, bytes: usize) -> Vec<u8> {
+    let list = |count, trim| (0..count).map(|n| Setpoint { turn: 900_000 + n, trim }).collect();
+    let note = (0..bytes - 24 - 6 * (core + wrap) as usize).map(|n| (n % 251) as u8).collect();
+    let recipe = Recipe { format: Format::Two, note, core: list(core, -20_000), wrap: list(wrap, 20_000), sequence: 9 };
+    recipe.to_value().expect("within the limits")
+}
+
+/// Typed or sent, however its bytes are cut, it is echoed, found, served and read by who asked for it as it was put.
+#[test]
+fn recipes_for_two_spools_are_read_whole() {
+    let key = long_key();
+    let ask = Draft::get_value(&key).to_vec().expect("short");
+    for (core, wrap, bytes) in [(0, 0, 24), (1, 1, 36), (400, 0, 2_424), (0, 400, 2_424), (254, 254, 3_072), (108, 400, 3_072), (0, 0, 3_072)] {
+        let value = for_two(core, wrap, bytes);
+        assert_eq!(value.len(), bytes);
+        let put = Draft::put_value(&key, &value).to_vec().expect("within the limits");
+        for size in [1, 7, 1_000, 20_000] {
+            let [mut typed, mut sent] = [crowded(), crowded()];
+            assert_eq!(typed.put(&key, &value), Ok(()));
+            assert_eq!(reply(&mut sent, &put, size).as_ref(), Ok(&put), "the echo");
+            for node in [&mut typed, &mut sent] {
+                assert_eq!(node.find(&key), Ok(Some(&value[..])), "{core} and {wrap} setpoints, {bytes} bytes");
+                let read = read(&reply(node, &ask, size).expect("a reply"), size).0;
+                assert_eq!(read, value, "{core} and {wrap} setpoints, {bytes} bytes, pieces of {size}");
+                let read = Recipe::from_value(&read).expect("a recipe");
+                assert_eq!((read.core.len(), read.wrap.len()), (core as usize, wrap as usize));
+            }
+        }
+    }
+}
+
+/// Broken spools are refused, typed and sent, and what is held stays, of either format.
+#[test]
+fn broken_spools_are_refused_typed_and_sent() {
+    let good = for_two(2, 3, 60);
+    let changes: [(usize, u8, Broken); 5] = [
+        (18, 1, Broken { rule: Rule::PadNotZero, part: Part::Whole, setpoint: None }),
+        (17, 0x80, Broken { rule: Rule::PadNotZero, part: Part::Whole, setpoint: None }),
+        (16, 23, Broken { rule: Rule::BadDistance, part: Part::Wrap, setpoint: None }),
+        (24, 61, Broken { rule: Rule::BadDistance, part: Part::Core, setpoint: None }),
+        (10, 3, Broken { rule: Rule::UnknownFormat, part: Part::Whole, setpoint: None }),
+    ];
+    for held in [for_two(1, 1, 36), cello(1, 22)] {
+        let mut node = bench();
+        assert_eq!(node.put(KEY, &held), Ok(()));
+        for (from_end, byte, broken) in &changes {
+            let mut value = good.clone();
+            value[60 - from_end] = *byte;
+            value[59] = 1; // it would outrank what is held
+            assert_eq!(Recipe::from_value(&value), Err(*broken));
+            assert_eq!(node.put(KEY, &value), Err(Refusal::BrokenRecipe));
+            let request = Draft::put_value(KEY, &value).to_vec().expect("within the limits");
+            for size in 1..=request.len() {
+                assert_eq!(reply(&mut node, &request, size), Err(Refusal::BrokenRecipe), "{broken} in pieces of {size}");
+                assert_eq!(node.find(KEY), Ok(Some(&held[..])));
+            }
         }
     }
 }

@@ -19,7 +19,7 @@ fn slot(key: &[u8], value: &[u8]) -> Vec<u8> {
 
 /// A value of so many bytes.
 fn value(length: usize, sequence: u64) -> Vec<u8> {
-    let recipe = Recipe { note: vec![b'0' + (sequence % 10) as u8; length - 16], setpoints: vec![], sequence };
+    let recipe = Recipe { note: vec![b'0' + (sequence % 10) as u8; length - 16], sequence, ..Recipe::default() };
     recipe.to_value().expect("a recipe")
 }
 
@@ -185,8 +185,8 @@ fn workshop() -> Node {
 
 /// The records that it had.
 fn workshops_records() -> Vec<(Vec<u8>, Vec<u8>)> {
-    let short = Recipe { note: b"silver".to_vec(), setpoints: vec![Setpoint { turn: 0, trim: -1 }], sequence: 7 };
-    let long = Recipe { note: vec![7; 2_032], setpoints: vec![], sequence: 8 };
+    let short = Recipe { note: b"silver".to_vec(), wrap: vec![Setpoint { turn: 0, trim: -1 }], sequence: 7, ..Recipe::default() };
+    let long = Recipe { note: vec![7; 2_032], sequence: 8, ..Recipe::default() };
     let long_key = [&b"/wind/"[..], &[b'k'; 122]].concat();
     vec![(b"/wind/g".to_vec(), short.to_value().expect("a recipe")), (long_key, long.to_value().expect("a recipe"))]
 }

@@ -1,7 +1,8 @@
 //! The declarations in `raw` are those of the C header, which tests/header holds to the proved source: names, parameters in order with their types, sizes and
 //! refusals. And the functions take slices of any length.
 
-use starterbell::{raw, recipe, Refusal};
+use starterbell::recipe::{self, Format, Part, Rule};
+use starterbell::{raw, Refusal};
 use std::collections::BTreeMap;
 
 const HEADER: &str = include_str!("../../include/starterbell.h");
@@ -29,6 +30,10 @@ fn types_of(word: &str) -> &'static [&'static str] {
         "bytes_mut" => &["uint8_t *", "size_t"],
         "numbers" => &["const uint64_t *", "size_t"],
         "numbers_mut" => &["uint64_t *", "size_t"],
+        "turns" => &["const uint32_t *", "size_t"],
+        "turns_mut" => &["uint32_t *", "size_t"],
+        "trims" => &["const int32_t *", "size_t"],
+        "trims_mut" => &["int32_t *", "size_t"],
         "u32" => &["uint32_t"],
         "u64" => &["uint64_t"],
         "usize" => &["size_t"],
@@ -50,7 +55,7 @@ fn declares_what_the_header_declares() {
         })
         .collect();
     assert_eq!(source, header);
-    assert_eq!(source.len(), 19);
+    assert_eq!(source.len(), 22);
 }
 
 /// A number that the header defines.
@@ -85,14 +90,32 @@ fn recipes_have_the_headers_limits() {
     assert_eq!(recipe::LEAP_MAX as usize, defined("LEAP_MOST"));
 }
 
+/// The cases of an enum of the header, with what stands before each name left out.
+fn cases(name: &str, before: &str) -> Vec<(String, u32)> {
+    let body = between(HEADER, &format!("\nenum {name} {{"), "};").next().unwrap_or_else(|| panic!("the header has no enum {name}")).to_string();
+    let case = |line: &str| {
+        let (name, number) = line.trim().strip_prefix(before)?.split_once(" = ")?;
+        Some((name.replace('_', "").to_lowercase(), number.trim_end_matches(',').parse().expect("a number")))
+    };
+    body.lines().filter_map(case).collect()
+}
+
+/// The same of ours.
+fn named<T: std::fmt::Debug>(all: &[T], number: impl Fn(&T) -> u32) -> Vec<(String, u32)> {
+    all.iter().map(|case| (format!("{case:?}").to_lowercase(), number(case))).collect()
+}
+
 #[test]
 fn has_the_headers_refusals() {
-    let listed: Vec<(String, u32)> = between(HEADER, "    STARTERBELL_REFUSAL_", "\n")
-        .filter_map(|line| line.split_once(" = "))
-        .map(|(name, number)| (name.replace('_', "").to_lowercase(), number.trim_end_matches(',').parse().expect("a number")))
-        .collect();
-    let ours: Vec<_> = Refusal::ALL.iter().map(|refusal| (format!("{refusal:?}").to_lowercase(), refusal.number())).collect();
-    assert_eq!(listed, ours);
+    assert_eq!(cases("starterbell_refusal", "STARTERBELL_REFUSAL_"), named(&Refusal::ALL, |refusal| refusal.number()));
+}
+
+#[test]
+fn has_the_headers_rules_parts_and_formats() {
+    assert_eq!(Rule::ALL[0], Rule::Unnamed, "which the header hasn't got");
+    assert_eq!(cases("starterbell_recipe_rule", "STARTERBELL_RECIPE_"), named(&Rule::ALL[1..], |rule| rule.number()));
+    assert_eq!(cases("starterbell_recipe_part", "STARTERBELL_RECIPE_"), named(&Part::ALL, |part| *part as u32));
+    assert_eq!(cases("starterbell_recipe_format", "STARTERBELL_RECIPE_FORMAT_"), named(&Format::ALL, |format| *format as u32));
 }
 
 #[test]
@@ -106,4 +129,7 @@ fn takes_slices_of_any_length() {
     assert_eq!(raw::lookup_next(&mut [0; raw::LOOKUP - 1], &mut []), 0);
     assert_eq!(raw::read(&[8, 5], &mut []), 64, "numbers that don't fit are left out");
     assert_eq!(raw::find(&[], b"key", &mut []), 65);
+    assert_eq!(raw::recipe_read(&[], &mut []), 9);
+    assert_eq!(raw::recipe_setpoints(&[], 0, &mut [], &mut []), 9);
+    assert_eq!(raw::recipe_write(&mut [], 1, &[], &[], &[], &[], &[], 0, &mut []), 64);
 }

@@ -2,7 +2,7 @@
 
 use starterbell::lookup::{Lookup, Step};
 use starterbell::message::{Draft, Kind, Message, Named};
-use starterbell::recipe::Recipe;
+use starterbell::recipe::{Format, Recipe};
 use starterbell::{raw, Event, Node, Peer, Probed, Refusal, Room};
 use std::path::{Path, PathBuf};
 use std::process::Command;
@@ -48,9 +48,10 @@ fn asked(node: &mut Node, sender: &[u8], draft: Draft) -> String {
 fn step(node: &mut Node, number: u64) -> String {
     let mut rng = Rng(number);
     let (peer, other, key) = (id(rng.below(90)), id(rng.below(90)), [&b"/wind/"[..], &[b'a' + rng.below(7) as u8]].concat());
-    // one in eight is as long as a value can be
-    let note = vec![7; Some(rng.below(40)).filter(|length| length % 8 > 0).unwrap_or(3_056)];
-    let value = Recipe { note, sequence: rng.below(9) as u64, ..Recipe::default() }.to_value().expect("a recipe");
+    // every second one is for two spools, and one in eight is as long as a value can be
+    let (format, longest) = [(Format::One, 3_056), (Format::Two, 3_048)][number as usize % 2];
+    let note = vec![7; Some(rng.below(40)).filter(|length| length % 8 > 0).unwrap_or(longest)];
+    let value = Recipe { format, note, sequence: rng.below(9) as u64, ..Recipe::default() }.to_value().expect("a recipe");
     match rng.below(10) {
         0..=2 => format!("{:?}", node.seen(Peer::server(&peer, &[&other]))),
         3 => {
@@ -160,7 +161,8 @@ fn round(lookup: &mut Lookup, node: &Node, n: usize) -> Option<String> {
     while let Step::Ask(id) = lookup.next().expect("in form") {
         said += &format!("{:?} ", String::from_utf8_lossy(id));
     }
-    let sender = lookup.in_flight().next()?.to_vec();
+    // it may be over before all have answered
+    let sender = lookup.in_flight().next().filter(|_| !lookup.is_over())?.to_vec();
     let body = naming(n);
     let told = if n % 4 == 0 { lookup.failure(node, &sender) } else { lookup.reply(node, &sender, &Message::read(&body).expect("a reply")) };
     Some(format!("{said}{told:?}"))

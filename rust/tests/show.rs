@@ -2,7 +2,7 @@
 
 use starterbell::lookup::{Lookup, Step};
 use starterbell::message::{Draft, Kind, Message, Named, Record};
-use starterbell::recipe::{Recipe, Setpoint};
+use starterbell::recipe::{Format, Recipe, Setpoint};
 use starterbell::{Event, Node, Peer, Room};
 
 fn bench() -> Node {
@@ -88,9 +88,11 @@ fn lookups() {
 
 #[test]
 fn recipes() {
-    let setpoints = vec![Setpoint { turn: 0, trim: 250 }, Setpoint { turn: 900, trim: -40 }];
-    let recipe = Recipe { note: b"silver".to_vec(), setpoints, sequence: 7 };
-    assert_eq!(format!("{recipe:?}"), r#"Recipe { note: "silver", setpoints: {0: 250, 900: -40}, sequence: 7 }"#);
+    let wrap = vec![Setpoint { turn: 0, trim: 250 }, Setpoint { turn: 900, trim: -40 }];
+    let recipe = Recipe { note: b"silver".to_vec(), wrap, sequence: 7, ..Recipe::default() };
+    assert_eq!(format!("{recipe:?}"), r#"Recipe { format: One, note: "silver", wrap: {0: 250, 900: -40}, core: {}, sequence: 7 }"#);
+    let recipe = Recipe { format: Format::Two, core: vec![Setpoint { turn: 3, trim: -1 }], ..recipe };
+    assert_eq!(format!("{recipe:?}"), r#"Recipe { format: Two, note: "silver", wrap: {0: 250, 900: -40}, core: {3: -1}, sequence: 7 }"#);
 }
 
 /// Whoever sends a message chooses what stands in it, and its length.

@@ -1,4 +1,4 @@
-/* bench: the examples of docs/RULES.md, Examples, and a recipe that leaps (RULES, Recipes), played through include/starterbell.h and the structs of starterbell_box.h,
+/* bench: the examples of docs/RULES.md, Examples, a recipe that leaps and recipes for two spools (RULES, Recipes), played through include/starterbell.h and the structs of starterbell_box.h,
    as the host of a box would call them. It ends with status 0 and a line of what was played, or at the first difference with status 1 and a line that says it.
 
    It is example code too, in C99 that C++11 takes. A host lends a box all of its memory, so everything here is static: nothing is allocated, and the functions
@@ -6,7 +6,6 @@
 
    Not played here: the examples of prefixes of places (a place is the hash of an id, so a host can't choose one) and the SHA-256 vectors. */
 #include "starterbell_box.h"
-#include "starterbell_recipe.h"
 
 #include <stdio.h>
 #include <stdlib.h>
@@ -170,16 +169,30 @@ static uint32_t put(const uint8_t *value, size_t length) {
     return starterbell_box_put(&box.core, KEY, starterbell_bytes_at(value, length));
 }
 
-/* The writer of recipes gives these bytes, and says what it can't write. */
+/* Writing a recipe gives these bytes, or says which rule would be broken; reading them gives the recipe. */
 static void play_writer(void) {
-    static const struct starterbell_setpoint turn_0 = {0, -1}, leap[] = {{0, 0}, {1, 9000}};
+    static const uint32_t turns[] = {0, 1};
+    static const int32_t trims[] = {-1}, leap[] = {0, 9000};
     uint8_t value[STARTERBELL_VALUE_MOST];
-    struct starterbell_recipe_written written = starterbell_write_recipe(value, sizeof value, NULL, 0, &turn_0, 1, 7);
-    expect("writing a recipe", written.rule, STARTERBELL_RECIPE_WRITTEN);
+    struct starterbell_recipe fields = starterbell_recipe_of(STARTERBELL_RECIPE_FORMAT_ONE, 7);
+    struct starterbell_recipe_written written;
+    struct starterbell_recipe_view view = starterbell_value_read(starterbell_bytes_at(recipe, sizeof recipe));
+    fields.wrap = starterbell_setpoints_at(turns, trims, 1);
+    written = starterbell_value_write(value, sizeof value, &fields);
+    expect("writing a recipe", written.code, STARTERBELL_DONE);
     expect_bytes("the recipe that was written", value, written.length, recipe, sizeof recipe);
-    written = starterbell_write_recipe(value, sizeof value, NULL, 0, leap, 2, 7);
-    expect("writing a recipe that leaps", written.rule, STARTERBELL_RECIPE_TRIM_LEAPS);
-    expect("the setpoint that leaps", written.setpoint, 1);
+    fields.wrap = starterbell_setpoints_at(turns, leap, 2);
+    written = starterbell_value_write(value, sizeof value, &fields);
+    expect("writing a recipe that leaps", written.code, STARTERBELL_REFUSAL_BROKEN_RECIPE);
+    expect("its rule", written.broken.rule, STARTERBELL_RECIPE_TRIM_LEAPS);
+    expect("its part", written.broken.part, STARTERBELL_RECIPE_WRAP);
+    expect("the setpoint that leaps", written.broken.setpoint, 1);
+    expect("reading a recipe", view.code, STARTERBELL_DONE);
+    expect("its format", view.format, STARTERBELL_RECIPE_FORMAT_ONE);
+    expect("its note", view.note.length, 0);
+    expect("its wrap", view.wrap_count, 1);
+    expect("its core", view.core_count, 0);
+    expect("its sequence", view.sequence, 7);
 }
 
 static void play_recipes(void) {
@@ -298,6 +311,94 @@ static void play_held_leap(void) {
     expect_held("a leaper that was offered others", leaper, sizeof leaper);
     expect("a recipe that ranks higher", send_put(higher, sizeof higher, 7), STARTERBELL_RECEIVE_MORE);
     expect_held("after a recipe that ranks higher", higher, sizeof higher);
+}
+
+/* ---- A recipe for two spools */
+
+/* Core: turn 0, trim 0; wrap: turn 0, trim -1; sequence 7. */
+static const uint8_t two_spools[] = {0x00, 0x00, 0x00, 0x01, 0x1c, 0x00, 0x00, 0x00, 0x01, 0x00, 0x00, 0x00, 0x1a, 0x00, 0x00, 0x00, 0x01, 0x00, 0x02, 0x00, 0x07, 0x00, 0x00,
+    0x00, 0x00, 0x00, 0x00, 0x00};
+
+/* A value's core or its wrap is this one setpoint. */
+static void expect_setpoint(const uint8_t *value, size_t length, uint32_t core, uint32_t turn, int32_t trim) {
+    uint32_t turns[STARTERBELL_SETPOINTS_MOST];
+    int32_t trims[STARTERBELL_SETPOINTS_MOST];
+    expect("setpoints", starterbell_recipe_setpoints(value, length, core, turns, STARTERBELL_SETPOINTS_MOST, trims, STARTERBELL_SETPOINTS_MOST), STARTERBELL_DONE);
+    expect("a turn", turns[0], turn);
+    expect("a trim", (uint64_t)(int64_t)trims[0], (uint64_t)(int64_t)trim);
+}
+
+/* Written and read back; typed, sent in pieces of every size, found and served. */
+static void play_two_spools(void) {
+    static const uint32_t turn = 0;
+    static const int32_t wrap = -1, core = 0;
+    uint8_t value[STARTERBELL_VALUE_MOST];
+    struct starterbell_recipe fields = starterbell_recipe_of(STARTERBELL_RECIPE_FORMAT_TWO, 7);
+    struct starterbell_recipe_written written;
+    struct starterbell_recipe_view view = starterbell_value_read(starterbell_bytes_at(two_spools, sizeof two_spools));
+    size_t cut;
+    fields.wrap = starterbell_setpoints_at(&turn, &wrap, 1);
+    fields.core = starterbell_setpoints_at(&turn, &core, 1);
+    written = starterbell_value_write(value, sizeof value, &fields);
+    expect("writing a recipe for two spools", written.code, STARTERBELL_DONE);
+    expect_bytes("the recipe for two spools", value, written.length, two_spools, sizeof two_spools);
+    fields.format = STARTERBELL_RECIPE_FORMAT_ONE;
+    written = starterbell_value_write(value, sizeof value, &fields);
+    expect("the same in format 1", written.broken.rule, STARTERBELL_RECIPE_CORE_IN_FORMAT_ONE);
+    expect("its part", written.broken.part, STARTERBELL_RECIPE_CORE);
+    expect("reading a recipe for two spools", view.code, STARTERBELL_DONE);
+    expect("its format", view.format, STARTERBELL_RECIPE_FORMAT_TWO);
+    expect("its core", view.core_count, 1);
+    expect("its wrap", view.wrap_count, 1);
+    expect_setpoint(two_spools, sizeof two_spools, 0, 0, -1);
+    expect_setpoint(two_spools, sizeof two_spools, 1, 0, 0);
+    start(&box, "our box", "here");
+    expect("a recipe for two spools", put(two_spools, sizeof two_spools), STARTERBELL_DONE);
+    expect_held("a recipe for two spools", two_spools, sizeof two_spools);
+    for (cut = 1; cut < 64; cut++) {
+        start(&box, "our box", "here");
+        expect("a recipe for two spools from a peer", send_put(two_spools, sizeof two_spools, cut), STARTERBELL_RECEIVE_MORE);
+        expect_held("a recipe for two spools from a peer", two_spools, sizeof two_spools);
+    }
+}
+
+/* The recipe for two spools with two of its bytes changed: refused on the screen, from a peer and by whoever reads it, and the rule is told. */
+static void play_broken_spools(void) {
+    static const struct { size_t at; uint8_t byte; size_t also; uint8_t other; uint32_t rule, part; } broken[] = {
+        {10, 1, 20, 8, STARTERBELL_RECIPE_PAD_NOT_ZERO, STARTERBELL_RECIPE_WHOLE}, {11, 1, 20, 8, STARTERBELL_RECIPE_PAD_NOT_ZERO, STARTERBELL_RECIPE_WHOLE},
+        {12, 0x17, 20, 8, STARTERBELL_RECIPE_BAD_DISTANCE, STARTERBELL_RECIPE_WRAP}, {4, 0x1d, 20, 8, STARTERBELL_RECIPE_BAD_DISTANCE, STARTERBELL_RECIPE_CORE},
+        {4, 0x19, 20, 8, STARTERBELL_RECIPE_BAD_DISTANCE, STARTERBELL_RECIPE_CORE}, {4, 0x19, 8, 0, STARTERBELL_RECIPE_BAD_DISTANCE, STARTERBELL_RECIPE_CORE},
+        {18, 3, 20, 8, STARTERBELL_RECIPE_UNKNOWN_FORMAT, STARTERBELL_RECIPE_WHOLE}};
+    size_t i;
+    start(&box, "our box", "here");
+    expect("a recipe for two spools", put(two_spools, sizeof two_spools), STARTERBELL_DONE);
+    for (i = 0; i < sizeof broken / sizeof *broken; i++) {
+        uint8_t value[sizeof two_spools];
+        struct starterbell_recipe_view view;
+        memcpy(value, two_spools, sizeof value);
+        value[broken[i].at] = broken[i].byte;
+        value[broken[i].also] = broken[i].other;
+        view = starterbell_value_read(starterbell_bytes_at(value, sizeof value));
+        expect("reading broken spools", view.code, STARTERBELL_REFUSAL_BROKEN_RECIPE);
+        expect("their rule", view.broken.rule, broken[i].rule);
+        expect("their part", view.broken.part, broken[i].part);
+        expect("broken spools on the screen", put(value, sizeof value), STARTERBELL_REFUSAL_BROKEN_RECIPE);
+        expect("broken spools from a peer", send_put(value, sizeof value, 7), STARTERBELL_REFUSAL_BROKEN_RECIPE);
+        expect_held("after broken spools", two_spools, sizeof two_spools);
+    }
+}
+
+/* Sequence, then bytes, whatever the format: of the least values with sequence 5 the one of format 2 starts with 18, and that of format 1 with 10. */
+static void play_rank_of_formats(void) {
+    static const uint8_t one[16] = {0x10, 0, 0, 0, 0, 0, 1, 0, 5}, two[24] = {0x18, 0, 0, 0, 0, 0, 0, 0, 0x18, 0, 0, 0, 0, 0, 2, 0, 5}, newer[16] = {0x10, 0, 0, 0, 0, 0, 1, 0, 6};
+    start(&box, "our box", "here");
+    expect("the least recipe for one spool", put(one, sizeof one), STARTERBELL_DONE);
+    expect("the least recipe for two", put(two, sizeof two), STARTERBELL_DONE);
+    expect("the one for one spool again", put(one, sizeof one), STARTERBELL_REFUSAL_OUTRANKED);
+    expect_held("the higher-ranking format", two, sizeof two);
+    expect("a higher sequence", put(newer, sizeof newer), STARTERBELL_DONE);
+    expect("two spools of a lower one", put(two, sizeof two), STARTERBELL_REFUSAL_OUTRANKED);
+    expect_held("the higher sequence", newer, sizeof newer);
 }
 
 /* ---- Contacts */
@@ -614,6 +715,9 @@ int main(void) {
     play_values();
     play_leap();
     play_held_leap();
+    play_two_spools();
+    play_broken_spools();
+    play_rank_of_formats();
     play_bucket();
     play_doubt();
     play_sighting();

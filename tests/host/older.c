@@ -3,7 +3,6 @@
    Status 0 and a line, or 1 at the first difference. */
 #include "starterbell_box.h"
 #include "starterbell_older.h"
-#include "starterbell_recipe.h"
 
 #include <stdio.h>
 #include <stdlib.h>
@@ -45,8 +44,10 @@ static struct starterbell_bytes key_of(unsigned n) {
 /* Its value, of so many bytes. */
 static struct starterbell_bytes value_of(unsigned n, size_t length) {
     static uint8_t value[STARTERBELL_VALUE_MOST], note[STARTERBELL_VALUE_MOST];
+    struct starterbell_recipe recipe = starterbell_recipe_of(STARTERBELL_RECIPE_FORMAT_ONE, n);
     memset(note, (int)(n % 200 + 1), sizeof note);
-    expect("a value", starterbell_write_recipe(value, sizeof value, note, length - 16, NULL, 0, n).rule, STARTERBELL_RECIPE_WRITTEN);
+    recipe.note = starterbell_bytes_at(note, length - STARTERBELL_RECIPE_TRAILER_ONE);
+    expect("a value", starterbell_value_write(value, sizeof value, &recipe).code, STARTERBELL_DONE);
     return starterbell_bytes_at(value, length);
 }
 

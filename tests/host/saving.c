@@ -8,7 +8,6 @@
    Each step writes a line of what calls returned. tests/saving compares lines and files. Status 0; 1 where something differs; 3 where a file can't be used. */
 #define _POSIX_C_SOURCE 200809L
 #include "starterbell_box.h"
-#include "starterbell_recipe.h"
 
 #include <stdio.h>
 #include <stdlib.h>
@@ -72,14 +71,18 @@ static struct starterbell_bytes text_of(char room[64], const char *what, unsigne
     return starterbell_text(room);
 }
 
-/* Some are as long as a value can be: the setpoints and the trailer have up to 21 bytes. */
+/* Every second one is for two spools. Some are as long as a value can be: two lists and a trailer have up to 34 bytes. */
 static struct starterbell_bytes recipe_of(uint8_t value[STARTERBELL_VALUE_MOST], unsigned k) {
-    static uint8_t note[STARTERBELL_VALUE_MOST - 21];
-    struct starterbell_setpoint setpoints[2] = {{0, 0}, {1, 0}};
-    setpoints[1].trim = (int32_t)(k * 37 % 5000);
+    static const uint32_t turns[2] = {0, 1};
+    static uint8_t note[STARTERBELL_VALUE_MOST - 34];
+    int32_t trims[2] = {0, 0};
+    struct starterbell_recipe recipe = starterbell_recipe_of(1 + k / 6 % 2, k * 7 % 50);
+    trims[1] = (int32_t)(k * 37 % 5000);
     memset(note, (int)(k % 256), sizeof note);
-    return starterbell_bytes_at(value,
-        starterbell_write_recipe(value, STARTERBELL_VALUE_MOST, note, k % 5 == 0 ? sizeof note : 0, setpoints, 2, k * 7 % 50).length);
+    recipe.note = starterbell_bytes_at(note, k % 5 == 0 ? sizeof note : 0);
+    recipe.wrap = starterbell_setpoints_at(turns, trims, 2);
+    if (recipe.format == STARTERBELL_RECIPE_FORMAT_TWO) recipe.core = recipe.wrap;
+    return starterbell_bytes_at(value, starterbell_value_write(value, STARTERBELL_VALUE_MOST, &recipe).length);
 }
 
 static const uint8_t addresses[] = {4, 0, 'h', 'e', 'r', 'e'};

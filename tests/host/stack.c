@@ -3,7 +3,6 @@
    through for the deepest byte that changed. Where a call needs more than the header says, or than there is, a line says so and the status is 1. */
 #define _DEFAULT_SOURCE
 #include "starterbell.h"
-#include "starterbell_recipe.h"
 
 #include <limits.h>
 #include <pthread.h>
@@ -55,19 +54,25 @@ static void make_addresses(void) {
     }
 }
 
-/* A value that is as long as it can be, with as many setpoints: the note is what they leave room for. */
+/* Setpoints of six bytes, which is the most: all that a wrap can have, and in the core as many as a value then has room for. */
+enum { IN_WRAP = STARTERBELL_SETPOINTS_MOST, IN_CORE = (STARTERBELL_VALUE_MOST - STARTERBELL_RECIPE_TRAILER_TWO) / 6 - IN_WRAP };
+static uint32_t turns[IN_WRAP];
+static int32_t trims[IN_WRAP];
+
+/* A value that is as long as it can be, with as many setpoints. */
+static uint32_t write_recipe(uint8_t value[STARTERBELL_VALUE_MOST], uint64_t sequence) {
+    return starterbell_recipe_write(value, STARTERBELL_VALUE_MOST, STARTERBELL_RECIPE_FORMAT_TWO, none, 0, turns, IN_WRAP, trims, IN_WRAP, turns, IN_CORE, trims, IN_CORE, sequence,
+        OUT);
+}
+
 static void make_recipe(uint8_t value[STARTERBELL_VALUE_MOST], uint64_t sequence) {
-    static const uint8_t note[STARTERBELL_VALUE_MOST];
-    static struct starterbell_setpoint setpoints[STARTERBELL_SETPOINTS_MOST];
-    struct starterbell_recipe_written bare;
     unsigned i;
-    for (i = 0; i < STARTERBELL_SETPOINTS_MOST; i++) {
-        setpoints[i].turn = STARTERBELL_TURN_MOST - STARTERBELL_SETPOINTS_MOST + i;
-        setpoints[i].trim = STARTERBELL_TRIM_MOST;
+    for (i = 0; i < IN_WRAP; i++) {
+        turns[i] = STARTERBELL_TURN_MOST - IN_WRAP + i;
+        trims[i] = STARTERBELL_TRIM_MOST;
     }
-    bare = starterbell_write_recipe(value, STARTERBELL_VALUE_MOST, note, 0, setpoints, STARTERBELL_SETPOINTS_MOST, sequence);
-    must("a recipe", starterbell_write_recipe(value, STARTERBELL_VALUE_MOST, note, STARTERBELL_VALUE_MOST - bare.length, setpoints, STARTERBELL_SETPOINTS_MOST,
-        sequence).rule, STARTERBELL_RECIPE_WRITTEN);
+    must("a recipe", write_recipe(value, sequence), STARTERBELL_DONE);
+    must("the length of a recipe", (uint32_t)out[STARTERBELL_RECIPE_WRITE_OUT_LENGTH], STARTERBELL_VALUE_MOST);
 }
 
 /* Twenty contacts in each bucket, as long as a bucket has as many places: the first differing bit from our place says the bucket, the last bits say who. */
@@ -215,6 +220,11 @@ static void for_joining(void) {
 
 static void put(void) { code = starterbell_put(LENT(records), KEY, LENT(higher)); }
 static void find(void) { code = starterbell_find(LENT(records), KEY, OUT); }
+static uint8_t fresh_value[STARTERBELL_VALUE_MOST];
+static void recipe_read(void) { code = starterbell_recipe_read(LENT(recipe), OUT); }
+static void recipe_wrap(void) { code = starterbell_recipe_setpoints(LENT(recipe), 0, turns, IN_WRAP, trims, IN_WRAP); }
+static void recipe_core(void) { code = starterbell_recipe_setpoints(LENT(recipe), 1, turns, IN_WRAP, trims, IN_WRAP); }
+static void recipe_write(void) { code = write_recipe(fresh_value, 7); }
 static void for_reading(void) {
     /* a peer with addresses */
     uint8_t list[5 + 4 + sizeof addresses] = {4, 0, 'p', 'e', 'e', 'r', 0, (uint8_t)sizeof addresses, sizeof addresses / 256};
@@ -260,6 +270,10 @@ static const struct {
     {"starterbell_nearest", nothing, nearest, STARTERBELL_DONE, STARTERBELL_STACK_NEAREST},
     {"starterbell_put", nothing, put, STARTERBELL_DONE, STARTERBELL_STACK_PUT},
     {"starterbell_find", nothing, find, STARTERBELL_FIND_HELD, STARTERBELL_STACK_FIND},
+    {"starterbell_recipe_read", nothing, recipe_read, STARTERBELL_DONE, STARTERBELL_STACK_RECIPE_READ},
+    {"starterbell_recipe_setpoints, the wrap", nothing, recipe_wrap, STARTERBELL_DONE, STARTERBELL_STACK_RECIPE_SETPOINTS},
+    {"starterbell_recipe_setpoints, the core", nothing, recipe_core, STARTERBELL_DONE, STARTERBELL_STACK_RECIPE_SETPOINTS},
+    {"starterbell_recipe_write", nothing, recipe_write, STARTERBELL_DONE, STARTERBELL_STACK_RECIPE_WRITE},
     {"starterbell_read", for_reading, read_, STARTERBELL_DONE, STARTERBELL_STACK_READ},
     {"starterbell_peer", for_reading, peer, STARTERBELL_PEER_AT, STARTERBELL_STACK_PEER},
     {"starterbell_peer_address", for_address, peer_address, STARTERBELL_PEER_AT, STARTERBELL_STACK_PEER_ADDRESS},

@@ -79,7 +79,7 @@ impl Liar {
             5 => written(Draft::put_value(b"/elsewhere/rubbish", &rng.bytes::<40>())),
             6 => written(Draft::find_node(b"half of a message"))[..9].to_vec(),
             7 => written(Draft::find_node(b"")),
-            8 => written(Draft::put_value(told.map_or(b"/wind/rubbish", |(key, _)| key), &LEAPER)),
+            8 => written(Draft::put_value(told.map_or(b"/wind/rubbish", |(key, _)| key), HIGHEST[rng.below(HIGHEST.len())])),
             _ => told.map_or(vec![0x80], |(key, value)| written(Draft::put_value(key, value))),
         }
     }
@@ -110,14 +110,23 @@ fn broken(rng: &mut Rng) -> Vec<u8> {
     }
 }
 
-/// It would outrank every other recipe, but its trims leap from 0 to 9,000.
-const LEAPER: [u8; 22] = [0, 0, 1, 0xd0, 0x8c, 1, 22, 0, 0, 0, 2, 0, 1, 0, 255, 255, 255, 255, 255, 255, 255, 255];
+/// Each would outrank every other recipe, but none is one: in the first the trims leap from 0 to 9,000; the others are for two spools, and in one a byte isn't zero that
+/// has to be, in the other the wrap would start inside the trailer, 23 bytes from the end.
+const HIGHEST: [&[u8]; 3] = [
+    &[0, 0, 1, 0xd0, 0x8c, 1, 22, 0, 0, 0, 2, 0, 1, 0, 255, 255, 255, 255, 255, 255, 255, 255],
+    &[0, 0, 0, 1, 28, 0, 0, 0, 1, 0, 1, 0, 26, 0, 0, 0, 1, 0, 2, 0, 255, 255, 255, 255, 255, 255, 255, 255],
+    &[0, 0, 0, 1, 28, 0, 0, 0, 1, 0, 0, 0, 23, 0, 0, 0, 1, 0, 2, 0, 255, 255, 255, 255, 255, 255, 255, 255],
+];
 
 /// A record whose value doesn't check, of which the start alone is sent, or whose key isn't the one that was asked for.
 fn bad_recipe(honest: &Message, rng: &mut Rng) -> Vec<u8> {
     let noise = rng.bytes::<64>();
     let start = honest.record().map_or(&noise[..], |record| &record.value[..record.value.len() * 2 / 3]);
-    let value = [&LEAPER[..], &noise, start][rng.below(3)];
+    let value = match rng.below(HIGHEST.len() + 2) {
+        0 => &noise,
+        1 => start,
+        n => HIGHEST[n - 2],
+    };
     let key = honest.record().map_or(&b"/wind/another"[..], |record| record.key);
     written(Draft { record: Some(Record { key, value }), ..Draft::new(Kind::GetValue) })
 }

@@ -27,7 +27,7 @@ const HELP: &str = "\
 usage: forty [--tcp] [--seed N] [--benches N] [--svg FILE]
 
 Forty boxes join over time, put winding recipes at the boxes nearest to their keys, put newer versions, and then every honest one finds every recipe.
-One in five honest ones makes cello strings, whose recipes have over 200 setpoints and over 2,048 bytes.
+One in five honest ones makes cello strings, whose recipes have over 200 setpoints and over 2,048 bytes; one in five winds with two spools, wrap and core.
 One in eight never answers; one in eight lies: it makes up peers, sends broken bytes, recipes that don't check or are old, or more than it was asked for.
 A box marks as doubtful who left a request unanswered, and sends nobody there until it is seen again. All of it then runs once more with boxes that mark
 nobody, so that the summary can say how many requests to silent boxes the marks save.
@@ -181,6 +181,7 @@ fn summary(wanted: &Wanted, world: &World, trusting: &World, took: Duration) -> 
         format!("{}; {carried}, seed {}", kinds(world), wanted.seed),
         format!("recipes    {} in two versions, {} puts accepted; {} finds by {} benches", world.recipes(), tally.stored, world.found(), world.honest()),
         format!("longest    {}", longest(&world.long_recipes())),
+        format!("spools     {}", spools(world.for_two_spools())),
         format!("lookups    {} begun, {} complete, {} cut short", tally.lookups, tally.complete, tally.cut_short),
         format!("requests   {each:.1} for each lookup, at most {}; {} of all requests unanswered", tally.most_requests, tally.failures),
         format!("dead       {}", dead(tally.dead, trusting.tally.dead)),
@@ -213,6 +214,11 @@ fn longest(long: &[(usize, usize)]) -> String {
     let most = |size: fn(&(usize, usize)) -> usize| long.iter().map(size).max().unwrap_or_default();
     let (setpoints, bytes) = (most(|size| size.0), most(|size| size.1));
     format!("{} recipes of cello strings with over {} setpoints and {} bytes, up to {setpoints} and {bytes}", long.len(), LONG.0, LONG.1)
+}
+
+/// The recipes for two spools.
+fn spools((two, one_before): (usize, usize)) -> String {
+    format!("{two} recipes for two spools, wrap and core; {one_before} of these were for one in their first version")
 }
 
 fn agreement(world: &World) -> String {

@@ -8,15 +8,15 @@ use crate::net::Net;
 use crate::rng::Rng;
 use crate::tally::{Around, Tally};
 use starterbell::message::Record;
-use starterbell::recipe::{Recipe, Setpoint, SETPOINTS_MAX, VALUE_MAX};
+use starterbell::recipe::{Broken, Format, Recipe, Setpoint, SETPOINTS_MAX, VALUE_MAX};
 use starterbell::{Node, Peer, Refusal, Room};
 use std::collections::BTreeSet;
 use std::time::{Duration, Instant};
 
 /// Each honest bench owns so many recipes.
 const RECIPES_EACH: usize = 2;
-/// One in so many honest benches makes cello strings, the first of them too.
-const CELLO_MAKERS: usize = 5;
+/// One in so many honest benches makes cello strings, the first of them too, and one in so many winds with two spools.
+const MAKERS: usize = 5;
 /// A cello string's recipe has more setpoints and more bytes than these, the most that version 0.1 took.
 pub const LONG: (usize, usize) = (200, 2_048);
 /// A run that takes longer has failed.
@@ -101,8 +101,15 @@ impl World {
     /// The setpoints and bytes of each long recipe, as it is to be found.
     pub fn long_recipes(&self) -> Vec<(usize, usize)> {
         let newer = self.recipes.iter().map(|recipe| &recipe.versions[1]);
-        let sizes = newer.filter_map(|value| Some((Recipe::from_value(value).ok()?.setpoints.len(), value.len())));
+        let sizes = newer.filter_map(|value| Some((Recipe::from_value(value).ok()?.wrap.len(), value.len())));
         sizes.filter(|(setpoints, bytes)| *setpoints > LONG.0 && *bytes > LONG.1).collect()
+    }
+
+    /// How many recipes are for two spools, and how many of these were for one spool in their first version.
+    pub fn for_two_spools(&self) -> (usize, usize) {
+        let is_for = |value: &[u8], format| Recipe::from_value(value).is_ok_and(|recipe| recipe.format == format);
+        let two: Vec<_> = self.recipes.iter().filter(|recipe| is_for(&recipe.versions[1], Format::Two)).collect();
+        (two.len(), two.iter().filter(|recipe| is_for(&recipe.versions[0], Format::One)).count())
     }
 
     pub fn silent(&self) -> usize {
@@ -260,24 +267,53 @@ fn roles(count: usize, rng: &mut Rng) -> Vec<Role> {
     roles
 }
 
-/// The recipe of a violin string or of a cello string. The first of all is as long as a recipe can be.
+/// The recipe of a violin string, of a cello string, or of a viola string, which takes two spools.
 fn make_recipe(n: usize, owner: usize, rng: &mut Rng) -> Result<Owned, Refusal> {
-    let cello = n / RECIPES_EACH % CELLO_MAKERS == 0;
-    let string = if cello { ["cello-c", "cello-g", "cello-d", "cello-a"] } else { ["e", "a", "d", "g"] }[n % 4];
+    let maker = n / RECIPES_EACH % MAKERS;
+    let string = match maker {
+        0 => ["cello-c", "cello-g", "cello-d", "cello-a"],
+        2 => ["viola-c", "viola-g", "viola-d", "viola-a"],
+        _ => ["e", "a", "d", "g"],
+    }[n % 4];
     let key = format!("/wind/bench-{owner}/{string}-string").into_bytes();
     let mut version = |sequence| {
-        let (count, bytes) = match (n, cello) {
-            (0, _) => (SETPOINTS_MAX, VALUE_MAX),
-            (_, true) => (LONG.0 + 1 + rng.below(SETPOINTS_MAX - LONG.0), LONG.1 + 1 + rng.below(VALUE_MAX - LONG.1)),
-            (_, false) => (1 + rng.below(60), 0),
-        };
-        let mut recipe = Recipe { note: format!("bench {owner}, version {sequence}").into_bytes(), setpoints: some_setpoints(count, rng), sequence };
-        // the note is what brings it to as many bytes
-        let missing = bytes.saturating_sub(recipe.to_value()?.len());
-        recipe.note.resize(recipe.note.len() + missing, b'.');
-        recipe.to_value()
+        let note = format!("bench {owner}, version {sequence}").into_bytes();
+        let bare = Recipe { note, sequence, ..Recipe::default() };
+        match maker {
+            0 => make_cello(n, bare, rng),
+            2 => make_viola(n, bare, rng),
+            _ => wind(1 + rng.below(60), bare, rng).to_value(),
+        }
     };
     Ok(Owned { owner, key, versions: [version(1)?, version(2)?] })
+}
+
+/// The first of all is as long as a recipe can be.
+fn make_cello(n: usize, bare: Recipe, rng: &mut Rng) -> Result<Vec<u8>, Broken> {
+    let (count, bytes) = match n {
+        0 => (SETPOINTS_MAX, VALUE_MAX),
+        _ => (LONG.0 + 1 + rng.below(SETPOINTS_MAX - LONG.0), LONG.1 + 1 + rng.below(VALUE_MAX - LONG.1)),
+    };
+    let mut recipe = wind(count, bare, rng);
+    // the note is what brings it to as many bytes
+    let missing = bytes.saturating_sub(recipe.to_value()?.len());
+    recipe.note.resize(recipe.note.len() + missing, b'.');
+    recipe.to_value()
+}
+
+/// Every second one is older than its bench's second spool: its first version is for one.
+fn make_viola(n: usize, bare: Recipe, rng: &mut Rng) -> Result<Vec<u8>, Broken> {
+    let recipe = wind(1 + rng.below(60), bare, rng);
+    if n % 2 == 0 && recipe.sequence == 1 {
+        return recipe.to_value();
+    }
+    let count = 1 + rng.below(60);
+    Recipe { format: Format::Two, core: some_setpoints(count, rng), ..recipe }.to_value()
+}
+
+/// With so many setpoints for its wrap.
+fn wind(count: usize, bare: Recipe, rng: &mut Rng) -> Recipe {
+    Recipe { wrap: some_setpoints(count, rng), ..bare }
 }
 
 fn some_setpoints(count: usize, rng: &mut Rng) -> Vec<Setpoint> {
