@@ -210,6 +210,10 @@ fn formats() {
     );
     say(b"the same with count 0", with_spools(25, 0, 0, 26, 2));
     say(b"an empty core", with_spools(26, 0, 0, 26, 2));
+}
+
+// The shortest values of format 2, and one that is too short for its trailer.
+fn shortest() {
     say(
         b"24 bytes of format 2",
         recipe::check(
@@ -364,6 +368,7 @@ fn main() {
     leaps();
     trailers();
     formats();
+    shortest();
     writing();
     reading();
     sizes();
