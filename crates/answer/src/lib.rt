@@ -1,3 +1,4 @@
+#![tactic(auto)]
 // Which reply a request gets, by its type. Every function takes any bytes: callers test form and sizes first.
 ghost use Rattle.std.specs.Prelude.{◌≡◌, List, ℕ, ◌≤◌, length};
 ghost use Rattle.octets.specs.Octets.{part};

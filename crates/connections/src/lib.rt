@@ -1,3 +1,4 @@
+#![tactic(auto)]
 // The box and its connections: start, open and end. Nothing is kept inside: the box's own identity and connections are values that go in and come back.
 // Every public function takes any numbers, and refuses by number.
 ghost use Rattle.std.specs.Prelude.{◌≡◌, true, false};
@@ -9,7 +10,7 @@ use refusal::Refusal;
 use stream::{Ending, Framing};
 
 // A connection: its peer, where its framing stands, whether the peer is a server, and whether we are the side that asks.
-#[derive(Drop)]
+#[derive(Clone, Copy)]
 pub struct Conn {
     pub peer: Peer,
     pub framing: Framing,

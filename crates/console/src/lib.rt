@@ -1,3 +1,4 @@
+#![tactic(auto)]
 // The workshop's program: standard input is one client's connection, read in pieces of a size that an argument gives; the replies go to
 // standard output, and nothing else does but the usage, where it is asked for. What ends the run early is said on standard error.
 ghost use Rattle.std.specs.Prelude.{◌≡◌, false, ◌+◌, ◌≤◌, min, length, []};
@@ -19,7 +20,7 @@ pub const CONTACTS: usize = 20 * contacts::SLOT;
 pub const RECORDS: usize = 64 * record_slots::SLOT;
 
 // How a part of the run ended.
-#[derive(Drop)]
+#[derive(Clone, Copy)]
 pub enum After {
     // The run goes on: the rest of the piece is handed over, or the next piece is read.
     On,

@@ -1,3 +1,4 @@
+#![tactic(auto)]
 // Seen, settle, remove and doubt as a host calls them: the table's form is tested, ids are judged, and what isn't taken is refused by number and
 // changes nothing. Every public function takes any bytes.
 ghost use Rattle.std.specs.Prelude.{◌≡◌};

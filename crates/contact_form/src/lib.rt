@@ -1,3 +1,4 @@
+#![tactic(auto)]
 // The form test of the contact table, for a table of any bytes.
 ghost use Rattle.std.specs.Prelude.{◌≡◌, true, false, ℕ, ◌+◌, ◌*◌, ◌-◌, ◌<◌, ◌≤◌, length, get_or};
 ghost use Rattle.octets.specs.Octets.{same};
@@ -126,7 +127,7 @@ fn collect(table: &[u8], ours: &[u8], n: usize, at: &mut [u16]) -> bool
 }
 
 // The four words of a place.
-#[derive(Drop)]
+#[derive(Clone, Copy)]
 struct Words {
     a: u64,
     b: u64,

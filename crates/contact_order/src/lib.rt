@@ -1,3 +1,4 @@
+#![tactic(auto)]
 // Who stands where in the contact table: the contact at a place, the lowest free slot, a bucket's head and tail; and the order closing up. Every public
 // function takes any bytes.
 ghost use Rattle.std.specs.Prelude.{◌≡◌, ◌+◌, ◌*◌, ◌<◌, max, length};
@@ -35,7 +36,7 @@ pub fn bucket_at(table: &[u8], ours: &[u8], i: usize) -> usize
 
 // By which most places are seen not to be of a bucket: ours' first word, and how many of its leading bits such a place shares; 65 where that
 // tells nothing.
-#[derive(Drop)]
+#[derive(Clone, Copy)]
 struct Sieve {
     word: u64,
     bits: usize,

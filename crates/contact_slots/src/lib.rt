@@ -1,3 +1,4 @@
+#![tactic(auto)]
 // A contact as a struct, in the slot of a table of flat bytes, and the contact calls on a table that lies at the start of the room that a host
 // lends. Every function takes any numbers and any bytes; what lies past their end reads as zeros, and what would be written there is left out.
 ghost use Rattle.std.specs.Prelude.{◌≡◌, cond, length, get_or};
@@ -11,7 +12,7 @@ use peer::Peer;
 use refusal::Refusal;
 
 // A contact: mark 0 where its slot is free, else its rank in its bucket plus 1; doubt 1 where it is doubtful, else 0.
-#[derive(Drop)]
+#[derive(Clone, Copy)]
 pub struct Contact {
     pub peer: Peer,
     pub mark: u8,

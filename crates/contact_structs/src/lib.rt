@@ -1,3 +1,4 @@
+#![tactic(auto)]
 // Seen, settle, remove and doubt on contacts that sit in a list of structs lent by the host, above the core on flat bytes. The host lends room for the
 // contacts' bytes too: 616 for each, else refusal 0. Every function takes any contacts and any bytes.
 ghost use Rattle.std.specs.Prelude.{◌*◌, ◌≡◌, length};

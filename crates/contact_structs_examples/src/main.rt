@@ -1,3 +1,4 @@
+#![tactic(auto)]
 // A box with room for two contacts, held as structs: two peers of one bucket are seen, then the first again, and at last the second with too
 // little room lent. It writes both contacts after each call: the id's first byte and the mark, or - for a free slot.
 ghost use Rattle.std.specs.Prelude.{◌≡◌, false};

@@ -1,3 +1,4 @@
+#![tactic(auto)]
 // The slots of the contact table, on flat bytes: how many there are, and the parts of a contact. Every public function takes any bytes.
 ghost use Rattle.std.specs.Prelude.{◌≡◌, ◌+◌, ◌*◌, ◌<◌, ◌≤◌, min, length, get_or, take, drop};
 ghost use Rattle.contact_table.specs.Table.{slot_size, slots_of, slot, mark, doubtful, place};

@@ -1,3 +1,4 @@
+#![tactic(auto)]
 // The contact table on flat bytes, read: the twenty nearest; its form and the parts of a contact are passed on. Every public function takes any bytes.
 ghost use Rattle.std.specs.Prelude.{◌≡◌, true, false, ◌&&◌, cond, List, [], ◌∷◌, ◌++◌, ◌+◌, ◌*◌, ◌<◌, ◌≤◌, ltb, leb, eqb, length, get_or, take, drop};
 ghost use Rattle.limits.specs.Limits.{most_near};

@@ -1,3 +1,4 @@
+#![tactic(auto)]
 // The contact table's form test, its twenty nearest and its sightings, for C and Rust.
 ghost use Rattle.std.specs.Prelude.{◌≡◌, [], ◌∷◌};
 ghost use Rattle.place.specs.Place.{place_of};

@@ -1,3 +1,4 @@
+#![tactic(auto)]
 // Runs the example of a full bucket (RULES, Examples), and 3,000 calls of seen, settle and remove by numbers drawn in turn, on a table of 64 slots.
 // Then 6,000 calls with 5,000 peers on a table of 192 slots. Of so many peers only about twelve buckets have any, so that some 140 contacts are
 // held at a time, and most newcomers are turned away.

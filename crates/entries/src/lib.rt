@@ -1,3 +1,4 @@
+#![tactic(auto)]
 // Entries of closerPeers: a contact in its slot, or a peer by value, as the bytes of an entry. Every function takes any bytes.
 ghost use Rattle.std.specs.Prelude.{◌≡◌, true, ◌+◌, ◌*◌, ◌<◌, ◌≤◌, min, length};
 ghost use Rattle.octets.specs.Octets.{part};

@@ -1,3 +1,4 @@
+#![tactic(auto)]
 // The box and a connection as plain bytes that a host lends, and back. Every function takes any bytes; what lies past the end of a byte string reads as zeros,
 // and what would be written past the end of a buffer is left out.
 ghost use Rattle.std.specs.Prelude.{◌≡◌, ◌<◌, ◌%◌, ◌/◌, get_or, drop};

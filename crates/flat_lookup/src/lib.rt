@@ -1,3 +1,4 @@
+#![tactic(auto)]
 // A lookup as plain bytes, which the steps change in place (lookup_in_place). specs/FlatLookup.antt has the layout.
 ghost use Rattle.std.specs.Prelude.{◌≡◌, ◌<◌, get_or, drop};
 ghost use Rattle.limits.specs.Limits.{place_size};

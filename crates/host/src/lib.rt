@@ -1,3 +1,4 @@
+#![tactic(auto)]
 // What C and Rust programs link: every call of a host, on numbers and slices. A slice crosses as pointer and length; the pointer isn't null, and slices that
 // are written don't overlap others. The box (616 bytes), a connection (640) and a lookup (25,256) are bytes that the host lends, as are contacts and records.
 // Each call returns a refusal's number, 0 to 21, or an answer from 64 up. Further results go to `out`, as many as fit.

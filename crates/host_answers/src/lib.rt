@@ -1,3 +1,4 @@
+#![tactic(auto)]
 // What a call on contacts, records, recipes or messages answers, as a number and the numbers that go to `out`, for the functions that C and Rust programs link (crates/host).
 ghost use Rattle.std.specs.Prelude.{◌≡◌};
 ghost use Rattle.host_numbers.specs.Numbers.{told_code};

@@ -1,3 +1,4 @@
+#![tactic(auto)]
 // The host's other calls, for a box: contacts, lookups, records and messages. All but `nearest` stand in the crates that they are passed on from.
 // Every function takes any numbers and any buffers, and refuses by number.
 ghost use Rattle.std.specs.Prelude.{◌≡◌};

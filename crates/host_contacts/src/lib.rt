@@ -1,3 +1,4 @@
+#![tactic(auto)]
 // The host's calls on contacts, for a box: as in contact_calls, and refused where no start gives such a box. Every function takes any numbers and any
 // buffers, and refuses by number.
 ghost use Rattle.std.specs.Prelude.{◌≡◌};

@@ -1,3 +1,4 @@
+#![tactic(auto)]
 // The host's calls on lookups, for a box: a lookup stands in lent bytes, and each call changes it there. Every function takes any numbers and any
 // buffers, and refuses by number.
 ghost use Rattle.std.specs.Prelude.{◌≡◌, ◌≤◌};

@@ -1,3 +1,4 @@
+#![tactic(auto)]
 // Numbers in and out, for the functions that C and Rust programs link (crates/host): a refusal's number, yes and no, the numbers that go to `out`, and a
 // message's view in eight of them.
 ghost use Rattle.std.specs.Prelude.{◌≡◌, [], ◌∷◌, cond, ◌+◌, ◌≤◌, ◌<◌, get_or};

@@ -1,3 +1,4 @@
+#![tactic(auto)]
 // What start, end and receive gave, kept in the memory that the host lends, for the functions that C and Rust programs link (crates/host).
 ghost use Rattle.std.specs.Prelude.{◌≡◌};
 ghost use Rattle.std.proofs.lemmas.List.Edits.{sets};

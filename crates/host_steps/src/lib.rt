@@ -1,3 +1,4 @@
+#![tactic(auto)]
 // What a step of a lookup answered, as numbers, for the functions that C and Rust programs link (crates/host).
 ghost use Rattle.std.specs.Prelude.{◌≡◌};
 ghost use Rattle.host_steps.specs.Steps.{step_number, step_first, outcome_numbers};

@@ -1,3 +1,4 @@
+#![tactic(auto)]
 // Slots with keys, on flat bytes that the host lends: whether a key stands twice, the slot of a key and the lowest free one. The size of a slot is
 // given; byte 0 of a slot is the length of its key (0: the slot is free), and the key stands from byte 8 on. Every public function takes any bytes.
 ghost use Rattle.std.specs.Prelude.{◌≡◌, ◌+◌, ◌*◌, ◌<◌, ◌≤◌, length};

@@ -1,3 +1,4 @@
+#![tactic(auto)]
 // The limits of docs/RULES.md, each under one name; specs/Limits.antt has the same for definitions. Sizes and layouts are worked out from these, each in its own
 // crate.
 

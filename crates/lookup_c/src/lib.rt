@@ -1,3 +1,4 @@
+#![tactic(auto)]
 // Lookups by value run inside, for programs that measure them: a step gives a value of 25 KB with an enum beside it, which doesn't cross to C.
 // Nothing is claimed of what is answered but that each run is safe and ends; `lookup_value` has the contracts.
 use lookup::{Answer, Candidate};

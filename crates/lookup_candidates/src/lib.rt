@@ -1,3 +1,4 @@
+#![tactic(auto)]
 // Candidates of a lookup, by value: how one comes in. Every public function takes any numbers and any bytes.
 ghost use Rattle.std.specs.Prelude.{◌≡◌, ◌≤◌, length};
 ghost use Rattle.limits.specs.Limits.{most_id};

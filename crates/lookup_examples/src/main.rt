@@ -1,3 +1,4 @@
+#![tactic(auto)]
 // Runs lookups against simulated networks of 40 to 1,000 peers and writes what came of each. An honest peer names the 20 nearest of those that it
 // knows: of each of its buckets 20 peers. Some networks have peers that are silent, that answer with another type, or that name 20 peers which
 // nobody has. The last example is that of RULES, Examples: 256 candidates, and a 257th marks.

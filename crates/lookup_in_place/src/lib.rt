@@ -1,3 +1,4 @@
+#![tactic(auto)]
 // The steps of a lookup on the bytes that a host lends, changed in place: nothing of a lookup's size is copied. flat_lookup has the layout, lookup what
 // each step gives. Every public function takes any bytes.
 ghost use Rattle.std.specs.Prelude.{◌≡◌, cond, ◌&&◌, map, [], ◌+◌, ◌<◌, ◌≤◌, length, get_or, take};

@@ -1,3 +1,4 @@
+#![tactic(auto)]
 // The marks of a lookup's candidates, a byte each, nearest first: what is over, and whom to ask. Every function takes any bytes.
 ghost use Rattle.std.specs.Prelude.{◌≡◌, length};
 ghost use Rattle.octets.specs.Search.{count};
@@ -12,7 +13,7 @@ pub const ANSWERED: u8 = 2;
 pub const FAILED: u8 = 3;
 
 // Up to twenty ranks, in order, zeros after them.
-#[derive(Drop)]
+#[derive(Clone, Copy)]
 pub struct Ranks {
     pub at: [usize; limits::MOST_NEAR],
     pub n: usize,

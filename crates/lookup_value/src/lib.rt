@@ -1,3 +1,4 @@
+#![tactic(auto)]
 // A lookup by value: each step takes it in and hands the next one back. The value is the bytes that a lookup is kept as, and a step is that of
 // lookup_in_place on a copy of them. Every function takes any numbers and any bytes.
 ghost use Rattle.lookup.specs.Lookup.{start_of, next_of, reply_of, failure_of};
@@ -7,7 +8,7 @@ use lookup::Answer;
 use lookup_marks::Ranks;
 use message::Fields;
 
-#[derive(Drop)]
+#[derive(Clone, Copy)]
 pub struct Lookup {
     pub bytes: [u8; 25256],
 }

@@ -1,3 +1,4 @@
+#![tactic(auto)]
 // A reply handed to a lookup as a view.
 ghost use Rattle.lookup.specs.Lookup.{reply_of};
 ghost use Rattle.lookup_value.specs.Value.{lookup_of, Gives};

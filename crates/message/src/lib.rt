@@ -1,3 +1,4 @@
+#![tactic(auto)]
 // Messages, read from a body as positions in it.
 ghost use Rattle.std.specs.Prelude.{◌≡◌, take};
 ghost use Rattle.wire.specs.Wire.{first_of, fields_at, spans};
@@ -39,7 +40,7 @@ const PEER_ADDRESS: u64 = 2;
 const PEER_CONNECTION: u64 = 3;
 
 // A record of a message: whether there is one, and where its key and value are in the body.
-#[derive(Drop)]
+#[derive(Clone, Copy)]
 pub struct Held {
     pub there: bool,
     pub key: Span,
@@ -47,7 +48,7 @@ pub struct Held {
 }
 
 // A message: its type, and where its key and its record are in the body. Its peers are walked.
-#[derive(Drop)]
+#[derive(Clone, Copy)]
 pub struct Fields {
     pub kind: u64,
     pub key: Span,

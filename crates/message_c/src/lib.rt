@@ -1,3 +1,4 @@
+#![tactic(auto)]
 // Messages for C and Rust: read from a body as positions in it, peers and addresses one by one, and written into a lent buffer.
 // Only numbers and byte strings cross. A position is counted from the body's start; a part is told by its start and its end.
 ghost use Rattle.std.specs.Prelude.{◌≡◌, cond, take};

@@ -1,3 +1,4 @@
+#![tactic(auto)]
 // Reads and writes messages that were worked out by RULES, Messages, and writes a line for each: what was read, or by which number it was refused.
 use message::{Fields, Held, Reading};
 use refusal::Refusal;

@@ -1,3 +1,4 @@
+#![tactic(auto)]
 // Receiving on a connection: the gate, the framing, a message dealt with. Nothing is kept inside: contacts and records lie in memory that the host lends.
 // Start, open and end are passed on. Every function takes any numbers and any buffers, and refuses by number.
 ghost use Rattle.std.specs.Prelude.{◌≡◌, length};
@@ -15,7 +16,7 @@ use replies::Answered;
 use sightings::Sighting;
 use stream::Framing;
 
-#[derive(Drop)]
+#[derive(Clone, Copy)]
 pub enum Answer {
     // A request was answered: so many bytes stand at the reply buffer's start.
     Reply(usize),
@@ -26,13 +27,13 @@ pub enum Answer {
 }
 
 // What came of the sender's sighting, beside a reply.
-#[derive(Drop)]
+#[derive(Clone, Copy)]
 pub enum Sight {
     NotSeen,
     Seen(Sighting),
 }
 
-#[derive(Drop)]
+#[derive(Clone, Copy)]
 pub struct Received {
     pub conn: Conn,
     pub taken: usize,

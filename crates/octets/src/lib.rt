@@ -1,3 +1,4 @@
+#![tactic(auto)]
 // Byte strings: comparing, ordering, copying, and big-endian words. Every function takes any slices.
 ghost use Rattle.std.specs.Prelude.{◌≡◌, ℕ, ◌+◌, ◌*◌, ◌≤◌, ◌<◌, min, length, get_or, take, drop, [], ◌∷◌};
 ghost use Rattle.std.proofs.lemmas.List.Edits.{sets};

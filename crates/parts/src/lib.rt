@@ -1,3 +1,4 @@
+#![tactic(auto)]
 // The parts of a view, from its body and its positions. Where the positions aren't what the reader gives for the body, every part is refused with 0.
 ghost use Rattle.std.specs.Prelude.{◌≡◌, ◌≤◌, length};
 ghost use Rattle.wire.specs.Items.{cut};

@@ -1,10 +1,11 @@
+#![tactic(auto)]
 // A peer by value: its id, its place and the addresses that are kept of those handed in. Every function takes any bytes.
 ghost use Rattle.std.specs.Prelude.{◌≡◌, ℕ, ◌+◌, ◌<◌, ◌≤◌, min, length, drop, replicate};
 ghost use Rattle.peer.specs.Addresses.{two, end_of, usable_size, kept_of, rooms, sizes};
 ghost use Rattle.peer.specs.Peers.{id_fits, peer_of, usable_in, tidied};
 ghost use Rattle.limits.specs.Limits.{most_id, most_addresses, addresses_size};
 
-#[derive(Drop)]
+#[derive(Clone, Copy)]
 pub struct Peer {
     // four addresses of 128 bytes, zeros after each
     pub addrs: [u8; limits::ADDRESSES_SIZE],

@@ -1,3 +1,4 @@
+#![tactic(auto)]
 // A peer of a message, read in one pass: where its id is, its connection, how many addresses it has, and where the first of them are.
 ghost use Rattle.std.specs.Prelude.{◌≡◌, take};
 ghost use Rattle.peer_walk.specs.PeerWalk.{walked_of};

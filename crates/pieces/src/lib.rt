@@ -1,3 +1,4 @@
+#![tactic(auto)]
 // The pieces of a message, written into a buffer that is lent: a record, and a peer with the first n of four addresses.
 ghost use Rattle.std.specs.Prelude.{◌≡◌, true, false, ◌+◌, ◌*◌, ◌≤◌, ◌<◌, length};
 ghost use Rattle.limits.specs.Limits.{most_value, most_body};

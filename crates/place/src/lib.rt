@@ -1,3 +1,4 @@
+#![tactic(auto)]
 // Places, which of two is nearer, and the bucket of one. Every function takes any slices.
 ghost use Rattle.std.specs.Prelude.{◌≡◌, length, ltb};
 ghost use Rattle.place.specs.Place.{place_of, distance, nearer_to, common, bits, bucket_of};

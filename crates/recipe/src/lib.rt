@@ -1,3 +1,4 @@
+#![tactic(auto)]
 // A recipe: a note, one or two lists of setpoints and a trailer, read from its end.
 ghost use Rattle.std.specs.Prelude.{◌≡◌, ◌+◌, ◌*◌, ◌-◌, ◌<◌, ◌≤◌, ◌^◌, length, drop};
 ghost use Rattle.octets.specs.Octets.{little_number};
@@ -128,7 +129,7 @@ pub fn point_at(s: &[u8], at: usize) -> Point
 // ---- the rules, and which of them is broken
 
 // The rules, by what breaks them, each with its number.
-#[derive(Drop)]
+#[derive(Clone, Copy)]
 pub enum Rule {
     // fewer bytes than its trailer has
     TooShort,
@@ -182,7 +183,7 @@ pub fn rule_number(rule: Rule) -> usize
 }
 
 // What a rule is broken in: the value as a whole, or one of its lists.
-#[derive(Drop)]
+#[derive(Clone, Copy)]
 pub enum Part {
     Whole,
     Wrap,
@@ -200,7 +201,7 @@ pub fn part_number(part: Part) -> usize
 }
 
 // All rules are kept, or the first that is broken: where, and at which setpoint, from 0, if it is a rule on one.
-#[derive(Drop)]
+#[derive(Clone, Copy)]
 pub enum Verdict {
     Good,
     Broken {
@@ -226,7 +227,7 @@ pub fn is_good(w: Verdict) -> bool
 // ---- a list of setpoints
 
 // What a setpoint comes after.
-#[derive(Drop)]
+#[derive(Clone, Copy)]
 pub enum Prev {
     First,
     After { turn: u32, trim: i32 },

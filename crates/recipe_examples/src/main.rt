@@ -1,3 +1,4 @@
+#![tactic(auto)]
 // The examples on recipes that aren't starred (RULES, Examples), the edges of each limit and of format 2 (RULES, Recipes), and recipes written and read: one line for each.
 ghost use Rattle.std.specs.Prelude.{◌+◌, ◌*◌, ◌<◌, ◌≤◌, length};
 

@@ -1,3 +1,4 @@
+#![tactic(auto)]
 // The fields of a recipe: where they stand in its bytes, its setpoints as numbers, and its bytes from its fields.
 ghost use Rattle.std.specs.Prelude.{◌≡◌, true, ◌*◌, ◌≤◌, length, set};
 ghost use Rattle.std.proofs.lemmas.List.Edits.{sets};

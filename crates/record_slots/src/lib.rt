@@ -1,3 +1,4 @@
+#![tactic(auto)]
 // The slots of the record store, on flat bytes that the host lends: its form, the slot of a key and the lowest free one. A slot has 3,208 bytes: byte 0
 // is the length of the key (0: the slot is free), 2 and 3 that of the value (low byte first), 8..136 the key, 136..3,208 the value, zeros everywhere else.
 ghost use Rattle.std.specs.Prelude.{◌≡◌, ◌+◌, ◌*◌, ◌<◌, length};

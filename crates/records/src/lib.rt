@@ -1,3 +1,4 @@
+#![tactic(auto)]
 // The record store, on flat bytes that the host lends: finding a record, and putting one. Its slots and its form are passed on.
 ghost use Rattle.std.specs.Prelude.{◌≡◌, ◌+◌, ◌*◌, ◌<◌, ◌≤◌, min, length, replicate};
 ghost use Rattle.std.proofs.lemmas.List.Edits.{sets};

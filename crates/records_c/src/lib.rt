@@ -1,3 +1,4 @@
+#![tactic(auto)]
 // The record store for C and Rust to link: form, find and put on a lent slice.
 ghost use Rattle.std.specs.Prelude.{◌≡◌};
 ghost use Rattle.records.specs.Store.{in_form, find_of, put_answer, put_after};

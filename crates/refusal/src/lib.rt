@@ -1,8 +1,9 @@
+#![tactic(auto)]
 // The refusals, a named case for each row of the table in RULES, Refusals, with its words.
 ghost use Rattle.std.specs.Prelude.{◌≡◌};
 ghost use Rattle.refusal.specs.Refusal.{number_of};
 
-#[derive(Drop)]
+#[derive(Clone, Copy)]
 pub enum Refusal {
     // lent contact or record memory, a lookup, a view or a connection is out of form
     OutOfForm,

@@ -1,3 +1,4 @@
+#![tactic(auto)]
 // The replies to requests, written straight from contact and record memory into a reply buffer: FIND_NODE, GET_VALUE, PUT_VALUE and PING. Every public
 // function takes any bytes: callers test form and sizes first.
 ghost use Rattle.std.specs.Prelude.{◌≡◌, List, [], ◌∷◌, ◌++◌, true, ℕ, ◌+◌, ◌<◌, ◌≤◌, length};

@@ -1,3 +1,4 @@
+#![tactic(auto)]
 // SHA-256, FIPS 180-4. Each function's contract cites its part of the standard in specs/Sha256.antt.
 ghost use Rattle.std.specs.Prelude.{◌≡◌, ℕ, ◌+◌, ◌-◌, ◌*◌, ◌/◌, ◌%◌, ◌<◌, ◌≤◌, List, ◌++◌, length, take, drop, replicate};
 ghost use Rattle.std.proofs.lemmas.List.Edits.{sets};
@@ -74,7 +75,7 @@ const K: [u32; 64] = [
 ];
 
 // The hash value between two blocks, or the eight working variables.
-#[derive(Drop)]
+#[derive(Clone, Copy)]
 struct State {
     a: u32,
     b: u32,

@@ -1,3 +1,4 @@
+#![tactic(auto)]
 // SHA-256 for C and Rust.
 ghost use Rattle.std.specs.Prelude.{◌≡◌};
 ghost use Rattle.sha256.specs.Sha256.{sha256};

@@ -58,7 +58,7 @@ fn begins(s: &[u8], name: &[u8]) -> bool
 
 // A line whose value stands from `from` up to `to`, and after which the next one starts at `next`. Where `found` is false the line has
 // another name, and no value.
-#[derive(Drop)]
+#[derive(Clone, Copy)]
 pub struct Line {
     pub found: bool,
     pub from: usize,

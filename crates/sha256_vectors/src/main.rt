@@ -1,3 +1,4 @@
+#![tactic(auto)]
 // Holds sha256::hash against published vectors, and writes how many there were and how many agreed: NIST's CAVP files of short and long
 // messages for byte-oriented implementations of SHA-256, and the million 'a' of the standard's examples.
 //

@@ -1,3 +1,4 @@
+#![tactic(auto)]
 // Seen, settle, remove and doubt on the contact table. Every public function takes any bytes.
 ghost use Rattle.std.specs.Prelude.{◌≡◌, ◌+◌, ◌*◌, ◌<◌};
 ghost use Rattle.place.specs.Place.{bucket_of};
@@ -15,7 +16,7 @@ use refusal::Refusal;
 pub const BUCKET: u8 = limits::BUCKET as u8;
 
 // The answers of the calls, here and in contact_calls, which alone gives refusals 0, 12 and 18: it tests the form, judges ids and is told of clients.
-#[derive(Drop)]
+#[derive(Clone, Copy)]
 pub enum Sighting {
     // the peer was held in this slot, and moved to its bucket's tail
     Moved(usize),

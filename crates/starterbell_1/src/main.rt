@@ -1,3 +1,4 @@
+#![tactic(auto)]
 // The same program, run in pieces of 1.
 fn main() {
     console::start();

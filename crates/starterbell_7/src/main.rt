@@ -1,3 +1,4 @@
+#![tactic(auto)]
 // The same program, run in pieces of 7.
 fn main() {
     console::start();

@@ -1,3 +1,4 @@
+#![tactic(auto)]
 // A connection's framing: length-prefixed messages out of bytes that come in pieces cut anywhere.
 ghost use Rattle.std.specs.Prelude.{◌≡◌, ◌<◌, ◌≤◌, length, drop};
 ghost use Rattle.stream.specs.Stream.{fresh, held_form, in_form, is_shut, limited, minimal, prefix_step, prefix_of, stayed, shift, run_of, Gives, receive_of, end_in, end_of, ended};
@@ -6,7 +7,7 @@ ghost use Rattle.stream.specs.Inner.{goes_on, held_of, begun_of};
 use refusal::Refusal;
 
 // The bytes of a prefix that are there, each with its top bit set.
-#[derive(Drop)]
+#[derive(Clone, Copy)]
 pub enum Held {
     Nothing,
     One(u8),
@@ -14,7 +15,7 @@ pub enum Held {
 }
 
 // Where a connection stands: within a prefix, or within a body of which the first `have` bytes are there, or shut.
-#[derive(Drop)]
+#[derive(Clone, Copy)]
 pub enum Framing {
     Shut,
     Prefix(Held),
@@ -49,7 +50,7 @@ pub struct Ended {
 }
 
 // What the bytes of a prefix lead to.
-#[derive(Drop)]
+#[derive(Clone, Copy)]
 pub enum Lead {
     On(Held),
     Length(usize),

@@ -1,3 +1,4 @@
+#![tactic(auto)]
 // A host's loop over a stream, for C and Rust: bench/stream measures it.
 ghost use Rattle.std.specs.Prelude.{◌≡◌, ◌<◌, ◌≤◌};
 ghost use Rattle.stream_c.specs.Count.{Counts, messages_in};

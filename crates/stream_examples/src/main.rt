@@ -1,3 +1,4 @@
+#![tactic(auto)]
 // Runs the prefixes of RULES, Examples, and others, in one piece and cut, and writes what each call answers.
 use stream::{Answer, Ending, Framing, Held};
 

@@ -1,3 +1,4 @@
+#![tactic(auto)]
 // A read message as a view: it points into the receive buffer. Each function takes it apart, and `parts` has what is right. Where the positions of a
 // view aren't what the reader gives for its body, every function refuses with 0, or gives no bytes.
 ghost use Rattle.std.specs.Prelude.{◌≡◌};

@@ -1,3 +1,4 @@
+#![tactic(auto)]
 // Reads messages that were worked out by RULES, Messages, through their views, and writes a line for each: type, key and record's value. Then a view with other
 // positions, and records in several fields.
 use message::Fields;

@@ -1,3 +1,4 @@
+#![tactic(auto)]
 // Protocol Buffers: varints and fields, read from a slice by position.
 ghost use Rattle.std.specs.Prelude.{◌≡◌, [], ◌∷◌, ◌^◌, ◌<◌};
 ghost use Rattle.octets.specs.Search.{last_of};
@@ -5,7 +6,7 @@ ghost use Rattle.wire.specs.Wire.{varint_at, end_at, fixed_at, number_at, bytes_
 ghost use Rattle.wire.specs.Inner.{tenth_at};
 
 // A part of a slice: where it starts, and where it ends.
-#[derive(Drop)]
+#[derive(Clone, Copy)]
 pub struct Span {
     pub at: usize,
     pub end: usize,
@@ -26,7 +27,7 @@ pub enum Ending {
 }
 
 // A field: a number with its value and the position after it; bytes; or one of a fixed width, which is only passed over.
-#[derive(Drop)]
+#[derive(Clone, Copy)]
 pub enum Field {
     End,
     Bad,

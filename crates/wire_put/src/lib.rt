@@ -1,3 +1,4 @@
+#![tactic(auto)]
 // Protocol Buffers: varints and fields, written into a slice that is lent.
 ghost use Rattle.std.specs.Prelude.{◌≡◌, ◌+◌, ◌*◌, ◌<◌, length};
 ghost use Rattle.wire.specs.Items.{minimal, num, bytes, tagged, written1, written, single, past, Put};

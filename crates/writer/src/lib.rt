@@ -1,3 +1,4 @@
+#![tactic(auto)]
 // Writes a whole message with its length prefix into a buffer that is lent.
 ghost use Rattle.std.specs.Prelude.{◌≡◌, true, false, [], ◌+◌, ◌-◌, ◌*◌, ◌≤◌, ◌<◌, length, get_or, leb, ◌++◌, cond};
 ghost use Rattle.limits.specs.Limits.{most_key, most_body};

@@ -1,0 +1,13 @@
+use mathlib.Core.Path.{◌≡◌, sym, ap, ◌∙◌}
+use lib.ListN.{length}
+use native.Mathlib.Omega.{arith}
+use borrow.Author.Rules.{rules}
+use borrow.Author.Tests.{not-true}
+use Rattle.console.specs.Console.{goes_on}
+use Rattle.console.proofs.pump.Goals as goal
+
+pub returns-then-not-goes_on : goal.returns-then-not-goes_on
+returns-then-not-goes_on c = sym c.goes_on.ensures ∙ not-true _ c.if-not-goes_on.true
+
+pub returns : goal.returns
+returns c = ap goes_on c.stopped.ensures

@@ -1,0 +1,15 @@
+-- `contact_calls::remove` meets its contract. Assumes nothing.
+use mathlib.Core.Path.{sym, ◌∙◌}
+use borrow.Author.Tests.{not-true, not-false}
+use Rattle.contact_calls.proofs.Outcomes.{remove-form, remove-bad, remove-taken}
+use borrow.Author.Rules.{rules}
+use Rattle.contact_calls.proofs.remove.Goals as goal
+
+pub returns-then-not-in_form : goal.returns-then-not-in_form
+returns-then-not-in_form c = remove-form c.args.table.now c.args.ours.now c.args.id.now (sym c.in_form.ensures ∙ not-true _ c.if-not-in_form.true)
+
+pub returns-then-judged : goal.returns-then-judged
+returns-then-judged c = remove-bad c.args.table.now c.args.ours.now c.args.id.now (sym c.in_form.ensures ∙ not-false _ c.if-not-in_form.false) _ c.judge-judged.ensures c.if-judged.true
+
+pub returns : goal.returns
+returns c = remove-taken c.args.table.now c.args.ours.now c.args.id.now (sym c.in_form.ensures ∙ not-false _ c.if-not-in_form.false) _ c.judge-judged.ensures c.if-judged.false _ _ c.remove.ensures

@@ -1,0 +1,23 @@
+-- `lay` meets its contract. Assumes nothing.
+use mathlib.Core.Path.{refl}
+use lib.ListN.{length-map}
+use Rattle.flat.specs.Promises.{Whole}
+use Rattle.contact_slots.proofs.Laws.{if-enough, if-short}
+use Rattle.contact_slots.proofs.Back.{length-slot}
+use borrow.Author.Rules.{rules}
+use Rattle.contact_slots.proofs.lay.Goals as goal
+
+whole : (c : tie.Start) → Whole c.args.c.peer
+whole c =
+    record {
+      addrs = simp length-map at c.well-formed.1.1.1.0.1.1.0.1.1.0.1.0.1;
+      id = simp length-map at c.well-formed.1.1.1.0.1.1.0.1.1.1.0.1.0.1;
+      place = simp length-map at c.well-formed.1.1.1.0.1.1.0.1.1.1.1.0.1.0.1;
+      lens = simp length-map at c.well-formed.1.1.1.0.1.1.0.1.1.1.1.1.0.1.0.1;
+    }
+
+pub returns-then-has_slots : goal.returns-then-has_slots
+returns-then-has_slots c = (if-enough c.args.n c.args.room.now _ c.has_slots.ensures _ _ _ c.if-has_slots.true c.put_contact.ensures, length-slot c.args.c (whole c.before.before.before.before.before.before.before.before))
+
+pub returns-else-has_slots : goal.returns-else-has_slots
+returns-else-has_slots c = (if-short c.args.n c.args.room.now _ c.has_slots.ensures _ _ _ c.if-has_slots.false refl, length-slot c.args.c (whole c.before.before.before.before))

@@ -1,0 +1,9 @@
+use borrow.Author.Rules.{rules}
+use mathlib.Core.Path.{◌≡◌}
+use native.Mathlib.Omega.{arith}
+use lib.ListN.{length}
+use Prim.Native.Nat.{◌-◌, ◌*◌, ◌≤◌, ◌<◌}
+use Rattle.contacts_examples.proofs.put_list.Goals as goal
+
+pub shape_of-buf : goal.shape_of-buf
+shape_of-buf c = c.loop-k.invariant.3

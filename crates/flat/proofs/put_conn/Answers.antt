@@ -1,0 +1,18 @@
+-- `put_conn` meets its contract. Assumes nothing.
+use lib.ListN.{length-map}
+use Rattle.flat.specs.Promises.{Whole}
+use Rattle.flat.proofs.Writing.{conn-written}
+use borrow.Author.Rules.{rules}
+use Rattle.flat.proofs.put_conn.Goals as goal
+
+whole : (c : tie.Start) → Whole c.args.c.peer
+whole c =
+    record {
+      addrs = simp length-map at c.well-formed.1.0.1.1.0.1.1.0.1.0.1;
+      id = simp length-map at c.well-formed.1.0.1.1.0.1.1.1.0.1.0.1;
+      place = simp length-map at c.well-formed.1.0.1.1.0.1.1.1.1.0.1.0.1;
+      lens = simp length-map at c.well-formed.1.0.1.1.0.1.1.1.1.1.0.1.0.1;
+    }
+
+pub returns : goal.returns
+returns c = conn-written c.args.out.now _ _ _ _ c.args.c _ _ (whole c.before.before.before.before.before.before.before.before.before.before.before.before.before.before.before.before.before.before.before.before.before.before) c.bit_of.ensures c.bit_of-2.ensures c.put_peer.ensures c.copy.ensures c.put_framing.ensures c.copy-2.ensures

@@ -1,0 +1,8 @@
+-- `put_answer` meets its contract. Assumes nothing.
+use Rattle.host_answers.specs.Answers.{put_number}
+use Rattle.host_numbers.proofs.Handing.{by-case}
+use borrow.Author.Rules.{rules}
+use Rattle.host_answers.proofs.put_answer.Goals as goal
+
+pub returns-in-Refused : goal.returns-in-Refused
+returns-in-Refused c = by-case put_number _ _ _ c.in-Refused.is c.code_of_lem.ensures

@@ -1,0 +1,8 @@
+-- `remove_answer` meets its contract. Assumes nothing.
+use Rattle.contact_calls.specs.Calls.{remove_number}
+use Rattle.host_numbers.proofs.Handing.{by-case}
+use borrow.Author.Rules.{rules}
+use Rattle.host_answers.proofs.remove_answer.Goals as goal
+
+pub returns-in-Refused : goal.returns-in-Refused
+returns-in-Refused c = by-case remove_number _ _ _ c.in-Refused.is c.code_of_lem.ensures

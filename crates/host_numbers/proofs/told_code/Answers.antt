@@ -1,0 +1,8 @@
+-- `told_code` meets its contract. Assumes nothing.
+use Rattle.host_numbers.specs.Numbers.{told_code}
+use Rattle.host_numbers.proofs.Handing.{by-case}
+use borrow.Author.Rules.{rules}
+use Rattle.host_numbers.proofs.told_code.Goals as goal
+
+pub returns-in-Refused : goal.returns-in-Refused
+returns-in-Refused c = by-case told_code _ _ _ c.in-Refused.is c.code_of_lem.ensures

@@ -1,0 +1,15 @@
+-- `member`: one of the first n, or nobody. Assumes nothing.
+use mathlib.Core.Path.{◌≡◌}
+use lib.ListN.{length}
+use Rattle.lookup_in_place.proofs.Starting.{member-held, member-none}
+use borrow.Author.Rules.{rules}
+use Rattle.lookup_in_place.proofs.member.Goals as goal
+
+at_long : (c : tie.Start) → length c.args.t2 ≡ 20
+at_long c = c.well-formed.1.0.1.0.1
+
+pub returns-then-i-n : goal.returns-then-i-n
+returns-then-i-n c = member-held c.args.table.now c.args.t2 c.args.n (at_long c.before.before.before) c.requires.0 _ _ c.if-i-n.true c.contact.ensures
+
+pub returns : goal.returns
+returns c = member-none c.args.table.now c.args.t2 c.args.n (at_long c.before.before.before) c.requires.0 _ _ c.if-i-n.false c.requires.1 c.no_candidate.ensures

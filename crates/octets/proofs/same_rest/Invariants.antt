@@ -1,0 +1,14 @@
+-- `same_rest` compares byte by byte: the two are the same from `from` on if they are from `i` on.
+use native.Mathlib.Omega.{arith}
+use mathlib.Core.Path.{◌≡◌, refl, sym, ◌∙◌}
+use Prim.Native.Nat.{◌-◌, ◌≤◌}
+use lib.ListN.{length, drop}
+use Rattle.octets.specs.Octets.{same}
+use Rattle.octets.proofs.Strings.{same_stop, same-on, same_end}
+use Rattle.octets.proofs.same_rest.Given as goal
+
+abbrev pub invariant-loop-i : goal.invariant-loop-i
+invariant-loop-i l = (l.i ≤ length l.a) × (same (drop l.from l.a) (drop l.from l.b) ≡ same (drop l.i l.a) (drop l.i l.b))
+
+abbrev pub decreases-loop-i : goal.decreases-loop-i
+decreases-loop-i l = length l.a - l.i

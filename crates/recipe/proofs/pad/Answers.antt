@@ -1,0 +1,14 @@
+-- `pad`: nothing to test in format 1.
+use mathlib.Core.Path.{sym, ◌∙◌}
+use Rattle.recipe.specs.Recipe.{pad_of}
+use Rattle.recipe.proofs.Trailer.{second-two, second-one}
+use borrow.Author.Rules.{rules}
+use Rattle.recipe.proofs.pad.Goals as goal
+
+pub returns-then-format-eq-FORMAT_TWO : goal.returns-then-format-eq-FORMAT_TWO
+unfolding pad_of
+returns-then-format-eq-FORMAT_TWO c = c.number_at.ensures ∙ second-two c.args.value.now _ _ (sym c.format.ensures ∙ c.if-format-eq-FORMAT_TWO.true)
+
+pub returns : goal.returns
+unfolding pad_of
+returns c = second-one c.args.value.now _ 0 (λ q. c.if-format-eq-FORMAT_TWO.false (c.format.ensures ∙ q))

@@ -1,0 +1,40 @@
+-- `sightings::write_slot` meets its contract. Assumes nothing.
+use native.Mathlib.Omega.{arith}
+use mathlib.Core.Path.{◌≡◌, refl}
+use lib.ListN.{length, length-map}
+use Rattle.contacts.specs.Table.{slots_of}
+use Rattle.sightings.proofs.Moves.{write_done}
+use borrow.Author.Rules.{rules}
+use Rattle.sightings.proofs.write_slot.Goals as goal
+
+lens-long : (c : tie.Start) → length c.args.p.lens ≡ 4
+lens-long c = simp length-map at c.well-formed.1.1.1.0.1.1.1.1.1.0.1.0.1
+
+place-long : (c : tie.Start) → length c.args.p.place ≡ 32
+place-long c = simp length-map at c.well-formed.1.1.1.0.1.1.1.1.0.1.0.1
+
+id-long : (c : tie.Start) → length c.args.p.id ≡ 64
+id-long c = simp length-map at c.well-formed.1.1.1.0.1.1.1.0.1.0.1
+
+pub overflow_mul-at : goal.overflow_mul-at
+unfolding slots_of
+overflow_mul-at c = omega arith
+
+pub overflow_add-at : goal.overflow_add-at
+unfolding slots_of
+overflow_add-at c = omega arith
+
+pub overflow_add-at-2 : goal.overflow_add-at-2
+unfolding slots_of
+overflow_add-at-2 c = omega arith
+
+pub overflow_add-at-3 : goal.overflow_add-at-3
+unfolding slots_of
+overflow_add-at-3 c = omega arith
+
+pub overflow_add-at-4 : goal.overflow_add-at-4
+unfolding slots_of
+overflow_add-at-4 c = omega arith
+
+pub returns : goal.returns
+returns c = write_done c.args.table.now _ c.args.i c.args.m c.args.p _ _ _ _ _ refl (lens-long c.before.before.before.before.before.before.before.before.before.before.before.before.before.before.before.before.before.before.before.before.before.before.before.before.before.before.before.before.before.before) (place-long c.before.before.before.before.before.before.before.before.before.before.before.before.before.before.before.before.before.before.before.before.before.before.before.before.before.before.before.before.before.before) (id-long c.before.before.before.before.before.before.before.before.before.before.before.before.before.before.before.before.before.before.before.before.before.before.before.before.before.before.before.before.before.before) c.copy.ensures c.copy-2.ensures c.copy-3.ensures c.copy-4.ensures c.copy-5.ensures

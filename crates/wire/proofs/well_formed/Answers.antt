@@ -1,0 +1,22 @@
+use Prim.Native.Nat.{◌-◌}
+use mathlib.Core.Path.{◌≡◌, refl}
+use lib.ListN.{length}
+use borrow.Author.Rules.{rules}
+use Rattle.wire.specs.Wire.{fields_at, well}
+use Rattle.wire.proofs.Scan.{next-is, nearer, well-done, well-broken, well-on}
+use Rattle.wire.proofs.well_formed.Goals as goal
+
+pub loop-next-init : goal.loop-next-init
+loop-next-init c = refl
+
+pub returns-in-Done : goal.returns-in-Done
+returns-in-Done c = well-done _ _ _ c.loop-next.invariant (next-is c.read_field.ensures c.after.ensures c.in-Done.is)
+
+pub returns-in-Broken : goal.returns-in-Broken
+returns-in-Broken c = well-broken _ _ _ c.loop-next.invariant (next-is c.read_field.ensures c.after.ensures c.in-Broken.is)
+
+pub loop-next-smaller : goal.loop-next-smaller
+loop-next-smaller c = nearer _ _ _ (next-is c.read_field.ensures c.after.ensures c.in-On.is)
+
+pub loop-next-preserved : goal.loop-next-preserved
+loop-next-preserved c = well-on _ _ _ c.loop-next.invariant _ (next-is c.read_field.ensures c.after.ensures c.in-On.is)
