@@ -14,8 +14,8 @@ returns-then-not-collect c = sym (c.collect.ensures.1 (not-true _ c.if-not-colle
 
 pub entries_fit-requires : goal.entries_fit-requires
 entries_fit-requires c = let ix = c.collect.ensures.0 (not-false _ c.if-not-collect.false) in
-    (ix.long, entries-le c.args.table.now c.args.ours.now c.collect.new.1.1.1.0 (index-all c.args.table.now c.args.ours.now c.collect.new.1.1.1.0 c.slots-n.ensures ix))
+    (ix.long, entries-le c.args.table.now c.args.ours.now c.collect.new.at (index-all c.args.table.now c.args.ours.now c.collect.new.at c.slots-n.ensures ix))
 
 pub returns : goal.returns
-returns c = c.entries_fit.ensures ∙ form-is c.args.table.now c.args.ours.now c.collect.new.1.1.1.0
-    (index-all c.args.table.now c.args.ours.now c.collect.new.1.1.1.0 c.slots-n.ensures (c.collect.ensures.0 (not-false _ c.if-not-collect.false)))
+returns c = c.entries_fit.ensures ∙ form-is c.args.table.now c.args.ours.now c.collect.new.at
+    (index-all c.args.table.now c.args.ours.now c.collect.new.at c.slots-n.ensures (c.collect.ensures.0 (not-false _ c.if-not-collect.false)))

@@ -11,4 +11,4 @@ pub returns-then-at-n : goal.returns-then-at-n
 returns-then-at-n c = put-end c.args.bytes.now c.args.i c.args.c c.if-at-n.true
 
 pub returns : goal.returns
-returns c = put-done c.args.bytes.now c.put_peer.new.0 c.args.i c.args.c (omega arith) c.put_peer.ensures _ c.copy.ensures
+returns c = put-done c.args.bytes.now c.put_peer.new.out c.args.i c.args.c (omega arith) c.put_peer.ensures _ c.copy.ensures

@@ -8,10 +8,10 @@ pub returns-then-best-z : goal.returns-then-best-z
 returns-then-best-z c = let s = c.args in better-first s.table.now s.target.now s.best s.z s.k c.if-best-z.true
 
 pub closer_place-requires : goal.closer_place-requires
-closer_place-requires c = let s = c.before.before.before in (
-  s.requires.0,
-  slot_whole s.args.table.now s.args.k (omega arith),
-  slot_whole s.args.table.now s.args.best (omega arith),
+closer_place-requires c = (
+  c.requires.0,
+  slot_whole c.args.table.now c.args.k (omega arith),
+  slot_whole c.args.table.now c.args.best (omega arith),
 )
 
 pub returns-then-closer_place : goal.returns-then-closer_place

@@ -15,7 +15,7 @@ pub first_far-requires : goal.first_far-requires
 first_far-requires c = slot_whole c.args.table.now (get_or c.args.at.now 19 0) (c.requires.2 c.if-n-ge-MOST_NEAR.true)
 
 pub returns-then-n-ge-MOST_NEAR : goal.returns-then-n-ge-MOST_NEAR
-returns-then-n-ge-MOST_NEAR c = inr (c.if-n-ge-MOST_NEAR.true, le_of_lt (first_past c.args.table.now c.args.target.now (get_or c.args.at.now 19 0) k (λ i. (c.type_inv.table i).fits) (λ i. (c.type_inv.target i).fits) c.requires.0 (slot_whole c.args.table.now (get_or c.args.at.now 19 0) (c.requires.2 c.if-n-ge-MOST_NEAR.true)) (slot_whole c.args.table.now k l) c.word-t.ensures c.first_far.ensures h))
+returns-then-n-ge-MOST_NEAR c k l h = inr (c.if-n-ge-MOST_NEAR.true, le_of_lt (first_past c.args.table.now c.args.target.now (get_or c.args.at.now 19 0) k (λ i. (c.type_inv.table i).fits) (λ i. (c.type_inv.target i).fits) c.requires.0 (slot_whole c.args.table.now (get_or c.args.at.now 19 0) (c.requires.2 c.if-n-ge-MOST_NEAR.true)) (slot_whole c.args.table.now k l) c.word-t.ensures c.first_far.ensures h))
 
 limited : (c : tie.Then2) → c.before.before.before.before.before.before.args.e < slots_of c.before.before.before.before.before.before.args.table.now
 limited c = omega (arith, c.before.slots.ensures)
@@ -24,7 +24,7 @@ pub first_far-requires-then-e-slots : goal.first_far-requires-then-e-slots
 first_far-requires-then-e-slots c = slot_whole c.args.table.now c.args.e (limited c)
 
 pub returns-then-e-slots : goal.returns-then-e-slots
-returns-then-e-slots c = inl (within-past c.args.table.now c.args.target.now c.args.e k (limited c.before) (first_past c.args.table.now c.args.target.now c.args.e k (λ i. (c.type_inv.table i).fits) (λ i. (c.type_inv.target i).fits) c.requires.0 (slot_whole c.args.table.now c.args.e (limited c.before)) (slot_whole c.args.table.now k l) c.word-t.ensures c.first_far-then-e-slots.ensures h))
+returns-then-e-slots c k l h = inl (within-past c.args.table.now c.args.target.now c.args.e k (limited c.before) (first_past c.args.table.now c.args.target.now c.args.e k (λ i. (c.type_inv.table i).fits) (λ i. (c.type_inv.target i).fits) c.requires.0 (slot_whole c.args.table.now c.args.e (limited c.before)) (slot_whole c.args.table.now k l) c.word-t.ensures c.first_far-then-e-slots.ensures h))
 
 pub returns : goal.returns
-returns c = absurd (none-past c.args.table.now c.args.target.now k (λ i. (c.type_inv.table i).fits) (λ i. (c.type_inv.target i).fits) c.requires.0 (slot_whole c.args.table.now k l) h)
+returns c k l h = absurd (none-past c.args.table.now c.args.target.now k (λ i. (c.type_inv.table i).fits) (λ i. (c.type_inv.target i).fits) c.requires.0 (slot_whole c.args.table.now k l) h)

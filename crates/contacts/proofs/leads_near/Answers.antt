@@ -7,10 +7,10 @@ use Rattle.contact_table.proofs.Cuts.{slot_whole}
 use Rattle.contacts.proofs.leads_near.Goals as goal
 
 pub returns-then-z-l : goal.returns-then-z-l
-returns-then-z-l c = absurd (not-both false e refl)
+returns-then-z-l c e = absurd (not-both false e refl)
 
 pub first_far-requires : goal.first_far-requires
 first_far-requires c = slot_whole c.args.table.now c.args.l (omega arith)
 
 pub returns : goal.returns
-returns c = c.if-z-l.false
+returns c e = c.if-z-l.false

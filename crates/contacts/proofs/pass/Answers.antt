@@ -13,7 +13,7 @@ keep_all-n-requires c = (c.requires, omega arith, omega (arith, c.slots-end.ensu
 
 pub returns : goal.returns
 returns c = kept-answer c.args.table.now c.args.target.now c.slots-end.result c.requires
-    (subst (λ (k : ℕ). Kept c.args.table.now c.args.target.now c.slots-end.result k c.keep_all-n.new.1.1.0 c.keep_all-n.result) c.slots-end.ensures c.keep_all-n.ensures)
+    (subst (λ (k : ℕ). Kept c.args.table.now c.args.target.now c.slots-end.result k c.keep_all-n.new.at c.keep_all-n.result) c.slots-end.ensures c.keep_all-n.ensures)
     (λ l. absurd (no l))
   where
     no : c.slots-end.result < slots_of c.args.table.now → ⊥

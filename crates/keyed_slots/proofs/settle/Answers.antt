@@ -18,4 +18,4 @@ pub insert-requires : goal.insert-requires
 insert-requires c = (c.place_for-p.ensures.most, omega (arith, c.requires.1.few, c.requires.1.size, c.requires.0, slots-most c.args.size c.args.store.now))
 
 pub returns : goal.returns
-returns c = settle-new c.args.size c.args.store.now c.args.order.now c.args.held c.args.i c.requires.1 c.requires.0 c.slot_at-s.ensures.0 (omega arith) c.key_of-key.ensures c.place_for-p.result c.place_for-p.ensures c.stands_at.ensures c.if-stands_at.false c.insert.new.0 c.insert.ensures
+returns c = settle-new c.args.size c.args.store.now c.args.order.now c.args.held c.args.i c.requires.1 c.requires.0 c.slot_at-s.ensures.0 (omega arith) c.key_of-key.ensures c.place_for-p.result c.place_for-p.ensures c.stands_at.ensures c.if-stands_at.false c.insert.new.order c.insert.ensures

@@ -16,7 +16,7 @@ pub slice_bounds-whole-end-in-Message : goal.slice_bounds-whole-end-in-Message
 slice_bounds-whole-end-in-Message c = let a = c.args in
     let n = c.in-Message.n in
     let w = message-there a.conn.framing a.buffer.now a.piece.now _ n c.receive-got.ensures.got c.in-Message.is in
-    prefix-length n c.receive-got.new.1.0 (omega arith)
+    prefix-length n c.receive-got.new.buffer (omega arith)
 
 pub returns-in-Message : goal.returns-in-Message
 returns-in-Message c = let a = c.args in take-message a.me (linked a.conn a.buffer.now) a.piece.now (lent a.contacts.now a.records.now a.reply.now) _ _ c.receive-got.ensures _ c.with_framing-c.ensures _ _ _ _ _ c.in-Message.is c.whole.ensures

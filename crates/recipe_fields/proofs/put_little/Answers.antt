@@ -16,7 +16,7 @@ pub slice_bounds-put_raw-end : goal.slice_bounds-put_raw-end
 slice_bounds-put_raw-end c = refl
 
 pub loop-left-preserved : goal.loop-left-preserved
-loop-left-preserved c = little-on c.args.buf.now c.args.at _ c.loop-left.buf c.loop-left.next c.loop-left.left c.loop-left.rest c.loop-left.invariant (omega arith) (c.loop-left.rest % 256) refl c.put_raw-next.new.0 c.put_raw-next.result c.put_raw-next.ensures
+loop-left-preserved c = little-on c.args.buf.now c.args.at _ c.loop-left.buf c.loop-left.next c.loop-left.left c.loop-left.rest c.loop-left.invariant (omega arith) (c.loop-left.rest % 256) refl c.put_raw-next.new.buf c.put_raw-next.result c.put_raw-next.ensures
 
 pub shape_of-buf : goal.shape_of-buf
 shape_of-buf c = c.loop-left.invariant.kept

@@ -4,8 +4,7 @@ use Rattle.sha256.proofs.Schedule.{advance-law}
 use Rattle.sha256.proofs.advance.Goals as goal
 
 pub returns : goal.returns
-returns c = let p = c.before.before.before.before.before.before.before.before in
-    let a = p.args in
+returns c b s = let a = c.args in
     let v = c.round-r in
     let x = c.later_word in
-    advance-law b s a.v v.result a.w.now a.k.now a.t a.i x.result p.requires.0 p.requires.1 v.ensures x.ensures
+    advance-law b s a.v v.result a.w.now a.k.now a.t a.i x.result c.requires.0 c.requires.1 v.ensures x.ensures

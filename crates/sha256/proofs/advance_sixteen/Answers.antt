@@ -52,35 +52,20 @@ pub advance-requires : goal.advance-requires
 advance-requires c = (ltb-true 15 16 refl, c.requires)
 
 pub returns : goal.returns
-returns c = let c15 = c.before.before in
-    let c14 = c15.before.before in
-    let c13 = c14.before.before in
-    let c12 = c13.before.before in
-    let c11 = c12.before.before in
-    let c10 = c11.before.before in
-    let c9 = c10.before.before in
-    let c8 = c9.before.before in
-    let c7 = c8.before.before in
-    let c6 = c7.before.before in
-    let c5 = c6.before.before in
-    let c4 = c5.before.before in
-    let c3 = c4.before.before in
-    let c2 = c3.before.before in
-    let c1 = c2.before.before in
-    let t = c1.before.before.args.t in
-    let d1 = c1.advance.ensures b s (done_at (t + 0) d (sym (add-zero t))) in
-    let d2 = c2.advance2.ensures b s d1 in
-    let d3 = c3.advance3.ensures b s d2 in
-    let d4 = c4.advance4.ensures b s d3 in
-    let d5 = c5.advance5.ensures b s d4 in
-    let d6 = c6.advance6.ensures b s d5 in
-    let d7 = c7.advance7.ensures b s d6 in
-    let d8 = c8.advance8.ensures b s d7 in
-    let d9 = c9.advance9.ensures b s d8 in
-    let d10 = c10.advance10.ensures b s d9 in
-    let d11 = c11.advance11.ensures b s d10 in
-    let d12 = c12.advance12.ensures b s d11 in
-    let d13 = c13.advance13.ensures b s d12 in
-    let d14 = c14.advance14.ensures b s d13 in
-    let d15 = c15.advance15.ensures b s d14 in
+returns c b s d = let t = c.args.t in
+    let d1 = c.advance-v.ensures b s (done_at (t + 0) d (sym (add-zero t))) in
+    let d2 = c.advance-v-2.ensures b s d1 in
+    let d3 = c.advance-v-3.ensures b s d2 in
+    let d4 = c.advance-v-4.ensures b s d3 in
+    let d5 = c.advance-v-5.ensures b s d4 in
+    let d6 = c.advance-v-6.ensures b s d5 in
+    let d7 = c.advance-v-7.ensures b s d6 in
+    let d8 = c.advance-v-8.ensures b s d7 in
+    let d9 = c.advance-v-9.ensures b s d8 in
+    let d10 = c.advance-v-10.ensures b s d9 in
+    let d11 = c.advance-v-11.ensures b s d10 in
+    let d12 = c.advance-v-12.ensures b s d11 in
+    let d13 = c.advance-v-13.ensures b s d12 in
+    let d14 = c.advance-v-14.ensures b s d13 in
+    let d15 = c.advance-v-15.ensures b s d14 in
     c.advance.ensures b s d15

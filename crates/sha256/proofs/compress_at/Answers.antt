@@ -10,4 +10,4 @@ returns c = let a = c.args in
     let w = c.load-w in
     let f = c.first_rounds-v in
     let l = c.last_rounds in
-    c.add.ensures ∙ compress-law b a.s l.result f.new.1.1.0 (l.ensures b a.s (f.ensures b (begun b w.result a.s w.ensures)))
+    c.add.ensures ∙ compress-law b a.s l.result f.new.w (l.ensures b a.s (f.ensures b (begun b w.result a.s w.ensures)))

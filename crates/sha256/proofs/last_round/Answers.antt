@@ -4,6 +4,5 @@ use Rattle.sha256.proofs.Schedule.{last-law}
 use Rattle.sha256.proofs.last_round.Goals as goal
 
 pub returns : goal.returns
-returns c = let p = c.before.before.before in
-    let a = p.args in
-    last-law b s a.v c.round.result a.w.now a.k.now a.i p.requires.0 p.requires.1 c.round.ensures
+returns c b s = let a = c.args in
+    last-law b s a.v c.round.result a.w.now a.k.now a.i c.requires.0 c.requires.1 c.round.ensures

@@ -51,34 +51,19 @@ pub last_round-requires : goal.last_round-requires
 last_round-requires c = (ltb-true 15 16 refl, c.requires)
 
 pub returns : goal.returns
-returns c = let c15 = c.before in
-    let c14 = c15.before in
-    let c13 = c14.before in
-    let c12 = c13.before in
-    let c11 = c12.before in
-    let c10 = c11.before in
-    let c9 = c10.before in
-    let c8 = c9.before in
-    let c7 = c8.before in
-    let c6 = c7.before in
-    let c5 = c6.before in
-    let c4 = c5.before in
-    let c3 = c4.before in
-    let c2 = c3.before in
-    let c1 = c2.before in
-    let d1 = c1.last-round.ensures b s d in
-    let d2 = c2.last-round2.ensures b s d1 in
-    let d3 = c3.last-round3.ensures b s d2 in
-    let d4 = c4.last-round4.ensures b s d3 in
-    let d5 = c5.last-round5.ensures b s d4 in
-    let d6 = c6.last-round6.ensures b s d5 in
-    let d7 = c7.last-round7.ensures b s d6 in
-    let d8 = c8.last-round8.ensures b s d7 in
-    let d9 = c9.last-round9.ensures b s d8 in
-    let d10 = c10.last-round10.ensures b s d9 in
-    let d11 = c11.last-round11.ensures b s d10 in
-    let d12 = c12.last-round12.ensures b s d11 in
-    let d13 = c13.last-round13.ensures b s d12 in
-    let d14 = c14.last-round14.ensures b s d13 in
-    let d15 = c15.last-round15.ensures b s d14 in
+returns c b s d = let d1 = c.last_round-v.ensures b s d in
+    let d2 = c.last_round-v-2.ensures b s d1 in
+    let d3 = c.last_round-v-3.ensures b s d2 in
+    let d4 = c.last_round-v-4.ensures b s d3 in
+    let d5 = c.last_round-v-5.ensures b s d4 in
+    let d6 = c.last_round-v-6.ensures b s d5 in
+    let d7 = c.last_round-v-7.ensures b s d6 in
+    let d8 = c.last_round-v-8.ensures b s d7 in
+    let d9 = c.last_round-v-9.ensures b s d8 in
+    let d10 = c.last_round-v-10.ensures b s d9 in
+    let d11 = c.last_round-v-11.ensures b s d10 in
+    let d12 = c.last_round-v-12.ensures b s d11 in
+    let d13 = c.last_round-v-13.ensures b s d12 in
+    let d14 = c.last_round-v-14.ensures b s d13 in
+    let d15 = c.last_round-v-15.ensures b s d14 in
     c.last_round.ensures b s d15

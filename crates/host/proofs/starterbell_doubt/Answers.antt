@@ -1,0 +1,10 @@
+-- `starterbell_doubt` meets its contract. Assumes nothing.
+use Rattle.host.proofs.Handing.{doubt-short, doubt-done}
+use borrow.Author.Rules.{rules}
+use Rattle.host.proofs.starterbell_doubt.Goals as goal
+
+pub returns-then-me-lt-PEER : goal.returns-then-me-lt-PEER
+returns-then-me-lt-PEER c = let a = c.args in doubt-short a.me.now a.contacts.now a.id.now c.if-me-lt-PEER.true
+
+pub returns : goal.returns
+returns c = let a = c.args in doubt-done a.me.now a.contacts.now a.id.now _ _ _ _ c.if-me-lt-PEER.false c.peer_in.ensures c.doubt-o.ensures c.doubt_answer.ensures
