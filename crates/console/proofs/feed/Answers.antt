@@ -18,7 +18,7 @@ pub returns-then-turns-eq0 : goal.returns-then-turns-eq0
 returns-then-turns-eq0 c = stops _ _ _ _ c.stopped.ensures
 
 pub loop-from-preserved : goal.loop-from-preserved
-loop-from-preserved c = (omega arith, omega arith, goes _ _ _ _ _ _ _ _ _ _ _ _ _ _ (omega arith) (omega arith) c.loop-from.invariant.2 c.call-t.ensures c.onward-from.ensures.0, still _ _ _ _ c.loop-from.from c.args.piece.now _ _ _ _ _ _ _ (omega arith) (omega arith) c.loop-from.invariant.2 c.call-t.ensures (sym c.goes_on.ensures ∙ not-false _ c.if-not-goes_on.false) c.loop-from.invariant.3, search rules, search rules, search rules, search rules)
+loop-from-preserved c = (omega arith, omega arith, goes _ _ _ _ _ _ _ _ _ _ _ _ _ _ (omega arith) (omega arith) c.loop-from.invariant.2 c.call-t.ensures c.onward-from.ensures.0, still _ _ _ _ c.loop-from.from c.args.piece.now _ _ _ _ _ _ _ (omega arith) (omega arith) c.loop-from.invariant.2 c.call-t.ensures (sym c.goes_on.ensures ∙ c.if-not-goes_on.false) c.loop-from.invariant.3, search rules, search rules, search rules, search rules)
 
 pub returns : goal.returns
 returns c = (_, over _ _ _ c.loop-from.from c.args.piece.now _ _ (omega arith) c.loop-from.invariant.2, c.loop-from.invariant.3)

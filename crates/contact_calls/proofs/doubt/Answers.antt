@@ -6,10 +6,10 @@ use borrow.Author.Rules.{rules}
 use Rattle.contact_calls.proofs.doubt.Goals as goal
 
 pub returns-then-not-in_form : goal.returns-then-not-in_form
-returns-then-not-in_form c = doubt-form c.args.table.now c.args.ours.now c.args.id.now (sym c.in_form.ensures ∙ not-true _ c.if-not-in_form.true)
+returns-then-not-in_form c = doubt-form c.args.table.now c.args.ours.now c.args.id.now (sym c.in_form.ensures ∙ c.if-not-in_form.true)
 
 pub returns-then-judged : goal.returns-then-judged
-returns-then-judged c = doubt-bad c.args.table.now c.args.ours.now c.args.id.now (sym c.in_form.ensures ∙ not-false _ c.if-not-in_form.false) _ c.judge-judged.ensures c.if-judged.true
+returns-then-judged c = doubt-bad c.args.table.now c.args.ours.now c.args.id.now (sym c.in_form.ensures ∙ c.if-not-in_form.false) _ c.judge-judged.ensures c.if-judged.true
 
 pub returns : goal.returns
-returns c = doubt-taken c.args.table.now c.args.ours.now c.args.id.now (sym c.in_form.ensures ∙ not-false _ c.if-not-in_form.false) _ c.judge-judged.ensures c.if-judged.false _ _ c.doubt.ensures
+returns c = doubt-taken c.args.table.now c.args.ours.now c.args.id.now (sym c.in_form.ensures ∙ c.if-not-in_form.false) _ c.judge-judged.ensures c.if-judged.false _ _ c.doubt.ensures

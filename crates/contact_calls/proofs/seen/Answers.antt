@@ -6,13 +6,13 @@ use borrow.Author.Rules.{rules}
 use Rattle.contact_calls.proofs.seen.Goals as goal
 
 pub returns-then-not-in_form : goal.returns-then-not-in_form
-returns-then-not-in_form c = seen-form c.args.table.now c.args.ours.now c.args.id.now c.args.client c.args.addresses.now (sym c.in_form.ensures ∙ not-true _ c.if-not-in_form.true)
+returns-then-not-in_form c = seen-form c.args.table.now c.args.ours.now c.args.id.now c.args.client c.args.addresses.now (sym c.in_form.ensures ∙ c.if-not-in_form.true)
 
 pub returns-then-judged : goal.returns-then-judged
-returns-then-judged c = seen-bad c.args.table.now c.args.ours.now c.args.id.now c.args.client c.args.addresses.now (sym c.in_form.ensures ∙ not-false _ c.if-not-in_form.false) _ c.judge-judged.ensures c.if-judged.true
+returns-then-judged c = seen-bad c.args.table.now c.args.ours.now c.args.id.now c.args.client c.args.addresses.now (sym c.in_form.ensures ∙ c.if-not-in_form.false) _ c.judge-judged.ensures c.if-judged.true
 
 pub returns-then-client : goal.returns-then-client
-returns-then-client c = seen-client c.args.table.now c.args.ours.now c.args.id.now c.args.client c.args.addresses.now (sym c.in_form.ensures ∙ not-false _ c.if-not-in_form.false) _ c.judge-judged.ensures c.if-judged.false c.if-client.true
+returns-then-client c = seen-client c.args.table.now c.args.ours.now c.args.id.now c.args.client c.args.addresses.now (sym c.in_form.ensures ∙ c.if-not-in_form.false) _ c.judge-judged.ensures c.if-judged.false c.if-client.true
 
 pub returns : goal.returns
-returns c = seen-taken c.args.table.now c.args.ours.now c.args.id.now c.args.client c.args.addresses.now (sym c.in_form.ensures ∙ not-false _ c.if-not-in_form.false) _ c.judge-judged.ensures c.if-judged.false c.if-client.false _ _ _ c.peer_of.ensures c.seen.ensures
+returns c = seen-taken c.args.table.now c.args.ours.now c.args.id.now c.args.client c.args.addresses.now (sym c.in_form.ensures ∙ c.if-not-in_form.false) _ c.judge-judged.ensures c.if-judged.false c.if-client.false _ _ _ c.peer_of.ensures c.seen.ensures

@@ -17,11 +17,11 @@ other_place-requires c = (c.requires.0, c.words_of-w.ensures, c.requires.3 (c.ar
 
 pub returns-then-not-other_place : goal.returns-then-not-other_place
 unfolding other_before
-returns-then-not-other_place c = sym (all-fails (other_before c.args.table.now c.args.mine.now c.args.at.now c.args.k) c.args.m c.loop-d.d c.loop-d-test.true (sym c.other_place.ensures ∙ not-true _ c.if-not-other_place.true))
+returns-then-not-other_place c = sym (all-fails (other_before c.args.table.now c.args.mine.now c.args.at.now c.args.k) c.args.m c.loop-d.d c.loop-d-test.true (sym c.other_place.ensures ∙ c.if-not-other_place.true))
 
 pub loop-d-preserved : goal.loop-d-preserved
 unfolding other_before
-loop-d-preserved c = (omega arith, all_more (other_before c.args.table.now c.args.mine.now c.args.at.now c.args.k) c.loop-d.d c.loop-d.invariant.1 (sym c.other_place.ensures ∙ not-false _ c.if-not-other_place.false))
+loop-d-preserved c = (omega arith, all_more (other_before c.args.table.now c.args.mine.now c.args.at.now c.args.k) c.loop-d.d c.loop-d.invariant.1 (sym c.other_place.ensures ∙ c.if-not-other_place.false))
 
 pub returns : goal.returns
 returns c = let e : c.loop-d.d ≡ c.args.m = omega arith in

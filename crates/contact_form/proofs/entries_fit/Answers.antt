@@ -15,10 +15,10 @@ pub entry_fits-requires : goal.entry_fits-requires
 entry_fits-requires c = (c.requires.0, c.loop-k-test.true, c.requires.1)
 
 pub returns-then-not-entry_fits : goal.returns-then-not-entry_fits
-returns-then-not-entry_fits c = sym (all-fails (entry_fits c.args.table.now c.args.at.now) 5120 c.loop-k.k c.loop-k-test.true (sym c.entry_fits.ensures ∙ not-true _ c.if-not-entry_fits.true))
+returns-then-not-entry_fits c = sym (all-fails (entry_fits c.args.table.now c.args.at.now) 5120 c.loop-k.k c.loop-k-test.true (sym c.entry_fits.ensures ∙ c.if-not-entry_fits.true))
 
 pub loop-k-preserved : goal.loop-k-preserved
-loop-k-preserved c = (omega arith, all_more (entry_fits c.args.table.now c.args.at.now) c.loop-k.k c.loop-k.invariant.1 (sym c.entry_fits.ensures ∙ not-false _ c.if-not-entry_fits.false))
+loop-k-preserved c = (omega arith, all_more (entry_fits c.args.table.now c.args.at.now) c.loop-k.k c.loop-k.invariant.1 (sym c.entry_fits.ensures ∙ c.if-not-entry_fits.false))
 
 pub returns : goal.returns
 returns c = let e : c.loop-k.k ≡ 5120 = omega arith in

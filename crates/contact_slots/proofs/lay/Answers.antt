@@ -6,8 +6,9 @@ use Rattle.contact_slots.proofs.Laws.{if-enough, if-short}
 use Rattle.contact_slots.proofs.Back.{length-slot}
 use borrow.Author.Rules.{rules}
 use Rattle.contact_slots.proofs.lay.Goals as goal
+use Rattle.contact_slots.proofs.lay.Goals.{Start}
 
-whole : (c : tie.Start) → Whole c.args.c.peer
+whole : (c : Start) → Whole c.args.c.peer
 whole c =
     record {
       addrs = simp length-map at c.well-formed.1.1.1.0.1.1.0.1.1.0.1.0.1;
@@ -17,7 +18,7 @@ whole c =
     }
 
 pub returns-then-has_slots : goal.returns-then-has_slots
-returns-then-has_slots c = (if-enough c.args.n c.args.room.now _ c.has_slots.ensures _ _ _ c.if-has_slots.true c.put_contact.ensures, length-slot c.args.c (whole c.before.before.before.before.before.before.before.before))
+returns-then-has_slots c = (if-enough c.args.n c.args.room.now _ c.has_slots.ensures _ _ _ c.if-has_slots.true c.put_contact.ensures, length-slot c.args.c (whole (goal.at.returns-then-has_slots c).Start))
 
 pub returns-else-has_slots : goal.returns-else-has_slots
-returns-else-has_slots c = (if-short c.args.n c.args.room.now _ c.has_slots.ensures _ _ _ c.if-has_slots.false refl, length-slot c.args.c (whole c.before.before.before.before))
+returns-else-has_slots c = (if-short c.args.n c.args.room.now _ c.has_slots.ensures _ _ _ c.if-has_slots.false refl, length-slot c.args.c (whole (goal.at.returns-else-has_slots c).Start))

@@ -13,17 +13,17 @@ use Rattle.contact_slots.proofs.remove_in.Goals as goal
 
 pub returns-then-not-has_slots : goal.returns-then-not-has_slots
 unfolding remove_in with_table
-returns-then-not-has_slots c = (if-short c.args.n c.args.room.now _ c.has_slots.ensures _ _ _ (not-true _ c.if-not-has_slots.true) refl, if-short c.args.n c.args.room.now _ c.has_slots.ensures _ _ _ (not-true _ c.if-not-has_slots.true) refl)
+returns-then-not-has_slots c = (if-short c.args.n c.args.room.now _ c.has_slots.ensures _ _ _ c.if-not-has_slots.true refl, if-short c.args.n c.args.room.now _ c.has_slots.ensures _ _ _ c.if-not-has_slots.true refl)
 
 pub overflow_mul-e : goal.overflow_mul-e
-overflow_mul-e c = record { fits = omega (arith, slots-fit c.args.n c.args.room.now _ c.has_slots.ensures (not-false _ c.if-not-has_slots.false)) }
+overflow_mul-e c = record { fits = omega (arith, slots-fit c.args.n c.args.room.now _ c.has_slots.ensures c.if-not-has_slots.false) }
 
 pub slice_bounds-remove-end : goal.slice_bounds-remove-end
-slice_bounds-remove-end c = slots-fit c.args.n c.args.room.now _ c.has_slots.ensures (not-false _ c.if-not-has_slots.false)
+slice_bounds-remove-end c = slots-fit c.args.n c.args.room.now _ c.has_slots.ensures c.if-not-has_slots.false
 
 pub slice_bounds-remove-end-2 : goal.slice_bounds-remove-end-2
-slice_bounds-remove-end-2 c = cut-long _ _ (slots-fit c.args.n c.args.room.now _ c.has_slots.ensures (not-false _ c.if-not-has_slots.false))
+slice_bounds-remove-end-2 c = cut-long _ _ (slots-fit c.args.n c.args.room.now _ c.has_slots.ensures c.if-not-has_slots.false)
 
 pub returns : goal.returns
 unfolding remove_in with_table
-returns c = (if-enough c.args.n c.args.room.now _ c.has_slots.ensures _ _ _ (not-false _ c.if-not-has_slots.false) c.remove.ensures.0, if-enough c.args.n c.args.room.now _ c.has_slots.ensures _ _ _ (not-false _ c.if-not-has_slots.false) (ap (λ (s : List ℕ). s ++ drop (c.args.n * slot_size) c.args.room.now) c.remove.ensures.1))
+returns c = (if-enough c.args.n c.args.room.now _ c.has_slots.ensures _ _ _ c.if-not-has_slots.false c.remove.ensures.0, if-enough c.args.n c.args.room.now _ c.has_slots.ensures _ _ _ c.if-not-has_slots.false (ap (λ (s : List ℕ). s ++ drop (c.args.n * slot_size) c.args.room.now) c.remove.ensures.1))

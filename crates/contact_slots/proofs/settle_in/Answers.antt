@@ -13,17 +13,17 @@ use Rattle.contact_slots.proofs.settle_in.Goals as goal
 
 pub returns-then-not-has_slots : goal.returns-then-not-has_slots
 unfolding settle_in with_table
-returns-then-not-has_slots c = (if-short c.args.n c.args.room.now _ c.has_slots.ensures _ _ _ (not-true _ c.if-not-has_slots.true) refl, if-short c.args.n c.args.room.now _ c.has_slots.ensures _ _ _ (not-true _ c.if-not-has_slots.true) refl)
+returns-then-not-has_slots c = (if-short c.args.n c.args.room.now _ c.has_slots.ensures _ _ _ c.if-not-has_slots.true refl, if-short c.args.n c.args.room.now _ c.has_slots.ensures _ _ _ c.if-not-has_slots.true refl)
 
 pub overflow_mul-e : goal.overflow_mul-e
-overflow_mul-e c = record { fits = omega (arith, slots-fit c.args.n c.args.room.now _ c.has_slots.ensures (not-false _ c.if-not-has_slots.false)) }
+overflow_mul-e c = record { fits = omega (arith, slots-fit c.args.n c.args.room.now _ c.has_slots.ensures c.if-not-has_slots.false) }
 
 pub slice_bounds-settle-end : goal.slice_bounds-settle-end
-slice_bounds-settle-end c = slots-fit c.args.n c.args.room.now _ c.has_slots.ensures (not-false _ c.if-not-has_slots.false)
+slice_bounds-settle-end c = slots-fit c.args.n c.args.room.now _ c.has_slots.ensures c.if-not-has_slots.false
 
 pub slice_bounds-settle-end-2 : goal.slice_bounds-settle-end-2
-slice_bounds-settle-end-2 c = cut-long _ _ (slots-fit c.args.n c.args.room.now _ c.has_slots.ensures (not-false _ c.if-not-has_slots.false))
+slice_bounds-settle-end-2 c = cut-long _ _ (slots-fit c.args.n c.args.room.now _ c.has_slots.ensures c.if-not-has_slots.false)
 
 pub returns : goal.returns
 unfolding settle_in with_table
-returns c = (if-enough c.args.n c.args.room.now _ c.has_slots.ensures _ _ _ (not-false _ c.if-not-has_slots.false) c.settle.ensures.0, if-enough c.args.n c.args.room.now _ c.has_slots.ensures _ _ _ (not-false _ c.if-not-has_slots.false) (ap (λ (s : List ℕ). s ++ drop (c.args.n * slot_size) c.args.room.now) c.settle.ensures.1))
+returns c = (if-enough c.args.n c.args.room.now _ c.has_slots.ensures _ _ _ c.if-not-has_slots.false c.settle.ensures.0, if-enough c.args.n c.args.room.now _ c.has_slots.ensures _ _ _ c.if-not-has_slots.false (ap (λ (s : List ℕ). s ++ drop (c.args.n * slot_size) c.args.room.now) c.settle.ensures.1))

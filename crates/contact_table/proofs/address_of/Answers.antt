@@ -16,4 +16,4 @@ returns-then-k-ge-MOST_ADDRESSES c = cut-end c.slot_of-s.result.now (length c.sl
 
 pub returns : goal.returns
 unfolding address_size
-returns c = c.up_to_lem.ensures ∙ entry-address c.slot_of-s.result.now c.args.k (104 + c.args.k * 128) c.at_most.result refl (omega arith) ∙ ap (λ (s : List ℕ). entry_address s c.args.k) c.slot_of-s.ensures
+returns c = c.up_to.ensures ∙ entry-address c.slot_of-s.result.now c.args.k (104 + c.args.k * 128) c.at_most.result refl (omega arith) ∙ ap (λ (s : List ℕ). entry_address s c.args.k) c.slot_of-s.ensures

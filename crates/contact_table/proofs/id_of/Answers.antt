@@ -9,4 +9,4 @@ use Rattle.contact_table.proofs.id_of.Goals as goal
 
 pub returns : goal.returns
 unfolding id_size
-returns c = c.up_to_lem.ensures ∙ entry-id c.slot_of-s.result.now c.at_most.result (omega arith) ∙ ap entry_id c.slot_of-s.ensures
+returns c = c.up_to.ensures ∙ entry-id c.slot_of-s.result.now c.at_most.result (omega arith) ∙ ap entry_id c.slot_of-s.ensures

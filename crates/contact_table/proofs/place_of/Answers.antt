@@ -9,4 +9,4 @@ use Rattle.contact_table.proofs.place_of.Goals as goal
 
 pub returns : goal.returns
 unfolding place
-returns c = c.up_to_lem.ensures ∙ ap (λ (s : List ℕ). take 32 (drop 8 s)) c.slot_of.ensures
+returns c = c.up_to.ensures ∙ ap (λ (s : List ℕ). take 32 (drop 8 s)) c.slot_of.ensures

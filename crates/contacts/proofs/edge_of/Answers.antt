@@ -10,6 +10,7 @@ use Rattle.contacts.proofs.Pairs.{first_past, none-past}
 use Rattle.contacts.proofs.Within.{within-past}
 use borrow.Author.Rules.{rules}
 use Rattle.contacts.proofs.edge_of.Goals as goal
+use Rattle.contacts.proofs.edge_of.Goals.{Then-e-slots}
 
 pub first_far-requires : goal.first_far-requires
 first_far-requires c = slot_whole c.args.table.now (get_or c.args.at.now 19 0) (c.requires.2 c.if-n-ge-MOST_NEAR.true)
@@ -17,14 +18,14 @@ first_far-requires c = slot_whole c.args.table.now (get_or c.args.at.now 19 0) (
 pub returns-then-n-ge-MOST_NEAR : goal.returns-then-n-ge-MOST_NEAR
 returns-then-n-ge-MOST_NEAR c k l h = inr (c.if-n-ge-MOST_NEAR.true, le_of_lt (first_past c.args.table.now c.args.target.now (get_or c.args.at.now 19 0) k (λ i. (c.type_inv.table i).fits) (λ i. (c.type_inv.target i).fits) c.requires.0 (slot_whole c.args.table.now (get_or c.args.at.now 19 0) (c.requires.2 c.if-n-ge-MOST_NEAR.true)) (slot_whole c.args.table.now k l) c.word-t.ensures c.first_far.ensures h))
 
-limited : (c : tie.Then2) → c.before.before.before.before.before.before.args.e < slots_of c.before.before.before.before.before.before.args.table.now
-limited c = omega (arith, c.before.slots.ensures)
+limited : (c : Then-e-slots) → c.args.e < slots_of c.args.table.now
+limited c = omega (arith, c.slots.ensures)
 
 pub first_far-requires-then-e-slots : goal.first_far-requires-then-e-slots
 first_far-requires-then-e-slots c = slot_whole c.args.table.now c.args.e (limited c)
 
 pub returns-then-e-slots : goal.returns-then-e-slots
-returns-then-e-slots c k l h = inl (within-past c.args.table.now c.args.target.now c.args.e k (limited c.before) (first_past c.args.table.now c.args.target.now c.args.e k (λ i. (c.type_inv.table i).fits) (λ i. (c.type_inv.target i).fits) c.requires.0 (slot_whole c.args.table.now c.args.e (limited c.before)) (slot_whole c.args.table.now k l) c.word-t.ensures c.first_far-then-e-slots.ensures h))
+returns-then-e-slots c k l h = inl (within-past c.args.table.now c.args.target.now c.args.e k (limited (goal.at.returns-then-e-slots c).Then-e-slots) (first_past c.args.table.now c.args.target.now c.args.e k (λ i. (c.type_inv.table i).fits) (λ i. (c.type_inv.target i).fits) c.requires.0 (slot_whole c.args.table.now c.args.e (limited (goal.at.returns-then-e-slots c).Then-e-slots)) (slot_whole c.args.table.now k l) c.word-t.ensures c.first_far-then-e-slots.ensures h))
 
 pub returns : goal.returns
 returns c k l h = absurd (none-past c.args.table.now c.args.target.now k (λ i. (c.type_inv.table i).fits) (λ i. (c.type_inv.target i).fits) c.requires.0 (slot_whole c.args.table.now k l) h)

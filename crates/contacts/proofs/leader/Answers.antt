@@ -6,6 +6,7 @@ use borrow.Author.Rules.{rules}
 use Rattle.contact_table.proofs.Cuts.{slots-most, slot_whole}
 use Rattle.contacts.proofs.Leading.{Passed, passed_none, passed-hidden, passed-all, Edged, edged-none, turn-same, turn-nearer, turn-farther}
 use Rattle.contacts.proofs.leader.Goals as goal
+use Rattle.contacts.proofs.leader.Goals.{Joined-shown_at}
 
 pub loop-k-init : goal.loop-k-init
 loop-k-init c = let s = c.args in
@@ -23,27 +24,27 @@ better-best-requires c = (c.requires.0, c.requires.2, c.loop-k.invariant.2.to, c
 pub overflow_add-k : goal.overflow_add-k
 overflow_add-k c = omega (arith, slots-most c.args.table.now)
 
-abbrev Turned : tie.Joined1 invariant-loop decreases-loop → ℕ → ℕ → Type 0
-Turned c b e = Passed c.before.before.before.before.before.before.before.args.table.now c.before.before.before.before.before.before.before.args.target.now c.before.before.before.before.before.before.before.args.a c.before.before.before.before.before.before.before.args.z (c.before.before.before.loop.k + 1) b × Edged c.before.before.before.before.before.before.before.args.table.now c.before.before.before.before.before.before.before.args.target.now c.before.before.before.before.before.before.before.args.z b e
+abbrev Turned : Joined-shown_at → ℕ → ℕ → Type 0
+Turned c b e = Passed c.args.table.now c.args.target.now c.args.a c.args.z (c.loop-k.k + 1) b × Edged c.args.table.now c.args.target.now c.args.z b e
 
-as-turned : (c : tie.Joined1 invariant-loop decreases-loop) {b e : ℕ} → c.if1.best ≡ b → c.if1.edge ≡ e → Turned c b e → Turned c c.if1.best c.if1.edge
-as-turned c {b} {e} eb ee h = subst (λ (v : ℕ). Turned c v c.if1.edge) (sym eb) (subst (λ (v : ℕ). Turned c b v) (sym ee) h)
+as-turned : (c : Joined-shown_at) {b e : ℕ} → c.if-shown_at.best ≡ b → c.if-shown_at.edge ≡ e → Turned c b e → Turned c c.if-shown_at.best c.if-shown_at.edge
+as-turned c {b} {e} eb ee h = subst (λ (v : ℕ). Turned c v c.if-shown_at.edge) (sym eb) (subst (λ (v : ℕ). Turned c b v) (sym ee) h)
 
 -- slot k is nearer by its first word, the same by it, farther by it, or isn't shown
-turn : (c : tie.Joined1 invariant-loop decreases-loop) → Turned c c.if1.best c.if1.edge
+turn : (c : Joined-shown_at) → Turned c c.if-shown_at.best c.if-shown_at.edge
 turn c =
     ⊎_elim
-    (λ w. as-turned c w.4 w.5 (turn-nearer c.before.before.before.loop.invariant.2 c.before.before.before.loop.invariant.3 c.before.before.before.loop.invariant.0 c.before.before.loop-test.true (sym c.before.shown-at.ensures ∙ w.0.taken) (λ k. (c.before.before.before.before.before.before.shared-slice-known.given k).fits) (λ k. (c.before.before.before.before.before.shared-slice-known2.given k).fits) c.before.before.before.before.before.before.before.requires.0 c.before.before.before.before.before.before.before.requires.2 c.before.before.before.before.word.ensures w.1.ensures (less w.3.taken) w.3.taken))
+    (λ w. as-turned c w.4 w.5 (turn-nearer c.loop-k.invariant.2 c.loop-k.invariant.3 c.loop-k.invariant.0 c.loop-k-test.true (sym c.shown_at.ensures ∙ w.0.taken) (λ k. (c.type_inv.table k).fits) (λ k. (c.type_inv.target k).fits) c.requires.0 c.requires.2 c.word-t.ensures w.1.ensures (less w.3.taken) w.3.taken))
     (λ v.
     ⊎_elim
     (λ w.
     ⊎_elim
-    (λ u. as-turned c (w.4 ∙ u.2) w.5 (turn-same c.before.before.before.loop.invariant.2 c.before.before.before.loop.invariant.3 c.before.before.before.loop.invariant.0 c.before.before.loop-test.true (sym c.before.shown-at.ensures ∙ w.0.taken) (λ k. (c.before.before.before.before.before.before.shared-slice-known.given k).fits) (λ k. (c.before.before.before.before.before.shared-slice-known2.given k).fits) c.before.before.before.before.before.before.before.requires.0 c.before.before.before.before.before.before.before.requires.2 c.before.before.before.before.word.ensures w.1.ensures u.0.taken u.1.ensures))
-    (λ u. as-turned c (w.4 ∙ u.1) w.5 (turn-farther c.before.before.before.loop.invariant.2 c.before.before.before.loop.invariant.3 c.before.before.before.loop.invariant.0 c.before.before.loop-test.true (sym c.before.shown-at.ensures ∙ w.0.taken) (λ k. (c.before.before.before.before.before.before.shared-slice-known.given k).fits) (λ k. (c.before.before.before.before.before.shared-slice-known2.given k).fits) c.before.before.before.before.before.before.before.requires.0 c.before.before.before.before.before.before.before.requires.2 c.before.before.before.before.word.ensures w.1.ensures u.0.left w.3.left (omega (arith, w.1.ok))))
+    (λ u. as-turned c (w.4 ∙ u.2) w.5 (turn-same c.loop-k.invariant.2 c.loop-k.invariant.3 c.loop-k.invariant.0 c.loop-k-test.true (sym c.shown_at.ensures ∙ w.0.taken) (λ k. (c.type_inv.table k).fits) (λ k. (c.type_inv.target k).fits) c.requires.0 c.requires.2 c.word-t.ensures w.1.ensures u.0.taken u.1.ensures))
+    (λ u. as-turned c (w.4 ∙ u.1) w.5 (turn-farther c.loop-k.invariant.2 c.loop-k.invariant.3 c.loop-k.invariant.0 c.loop-k-test.true (sym c.shown_at.ensures ∙ w.0.taken) (λ k. (c.type_inv.table k).fits) (λ k. (c.type_inv.target k).fits) c.requires.0 c.requires.2 c.word-t.ensures w.1.ensures u.0.left w.3.left (omega (arith, w.1.ok))))
     w.2.came)
-    (λ w. as-turned c w.1 w.2 (passed-hidden c.before.before.before.loop.invariant.2 (sym c.before.shown-at.ensures ∙ w.0.left), c.before.before.before.loop.invariant.3))
+    (λ w. as-turned c w.1 w.2 (passed-hidden c.loop-k.invariant.2 (sym c.shown_at.ensures ∙ w.0.left), c.loop-k.invariant.3))
     v)
-    c.if1.branch
+    c.if-shown_at.branch
   where
     less : {m n : ℕ} → m < n → m ≡ n → ⊥
     less l e = omega arith

@@ -10,6 +10,7 @@ use Rattle.contacts.proofs.Within.{edge-first, kept-none, kept-as, kept-over}
 use Rattle.contacts.proofs.Leading.{Starts, group-none, group-room, group-more, group-next, led-at}
 use borrow.Author.Rules.{rules}
 use Rattle.contacts.proofs.search.Goals as goal
+use Rattle.contacts.proofs.search.Goals.{After-group_end-z, Joined-reaches}
 
 pub edge_of-edge-requires : goal.edge_of-edge-requires
 edge_of-edge-requires c = (c.requires.0.long, refl, λ h. absurd (none h))
@@ -23,8 +24,8 @@ loop-a-init c = (group-none c.args.table.now c.args.size, kept-none c.args.table
 pub group_end-z-requires : goal.group_end-z-requires
 group_end-z-requires c = omega (arith, c.slots-end.ensures)
 
-room : (c : tie.After-group-end invariant-loop decreases-loop) → c.before.before.loop.j < 400
-room c = group-room c.before.before.before.before.before.before.before.before.before.requires.0 c.before.before.loop.j c.before.before.loop.invariant.0 (omega (arith, c.before.before.before.before.before.before.slots.ensures))
+room : (c : After-group_end-z) → c.loop-a.j < 400
+room c = group-room c.requires.0 c.loop-a.j c.loop-a.invariant.0 (omega (arith, c.slots-end.ensures))
 
 pub offset_bounds-first-j : goal.offset_bounds-first-j
 offset_bounds-first-j c = omega (arith, room c)
@@ -32,33 +33,33 @@ offset_bounds-first-j c = omega (arith, room c)
 pub bounds-first-j : goal.bounds-first-j
 bounds-first-j c = room c
 
-leader : (c : tie.After-group-end invariant-loop decreases-loop) → Leads c.before.before.before.before.before.before.before.before.before.args.table.now c.before.before.before.before.before.before.before.before.before.args.target.now c.before.before.loop.a c.group-end.result (get_or c.before.before.before.before.before.before.before.before.before.args.first.now c.before.before.loop.j 0)
-leader c = led-at c.before.before.before.before.before.before.before.before.before.args.table.now c.before.before.before.before.before.before.before.before.before.args.target.now c.before.before.before.before.before.before.before.before.before.args.size c.before.before.before.before.before.before.before.before.before.args.first.now c.before.before.before.before.before.before.before.before.before.requires.1 c.before.before.loop.j (room c) c.before.before.loop.invariant.0 (omega (arith, c.before.before.before.before.before.before.slots.ensures)) c.group-end.ensures
+leader : (c : After-group_end-z) → Leads c.args.table.now c.args.target.now c.loop-a.a c.group_end-z.result (get_or c.args.first.now c.loop-a.j 0)
+leader c = led-at c.args.table.now c.args.target.now c.args.size c.args.first.now c.requires.1 c.loop-a.j (room c) c.loop-a.invariant.0 (omega (arith, c.slots-end.ensures)) c.group_end-z.ensures
 
 pub overflow_cast-first : goal.overflow_cast-first
-overflow_cast-first c = omega (arith, (leader c.before).to, c.group_end-z.ensures, slots-most c.args.table.now)
+overflow_cast-first c = omega (arith, (leader (goal.at.overflow_cast-first c).After-way_told-1).to, c.group_end-z.ensures, slots-most c.args.table.now)
 
 pub reaches-requires : goal.reaches-requires
 reaches-requires c = (c.requires.0.long, omega (arith, c.group_end-z.ensures), c.word-t.ensures, edge-first c.args.table.now c.args.target.now c.args.e (replicate 20 0) c.Edge-of.ensures)
 
-more : (c : tie.After-group-end invariant-loop decreases-loop) → c.before.before.loop.a < c.group-end.result
-more c = group-more c.before.before.before.before.before.before.before.before.before.requires.0 c.before.before.loop.j c.before.before.loop.invariant.0 (omega (arith, c.before.before.before.before.before.before.slots.ensures)) c.group-end.ensures
+more : (c : After-group_end-z) → c.loop-a.a < c.group_end-z.result
+more c = group-more c.requires.0 c.loop-a.j c.loop-a.invariant.0 (omega (arith, c.slots-end.ensures)) c.group_end-z.ensures
 
 pub keep_all-n-requires : goal.keep_all-n-requires
-keep_all-n-requires c = (c.requires.0.long, omega (arith, more c.before.before.before.before), omega (arith, c.group_end-z.ensures), c.loop-a.invariant.1)
+keep_all-n-requires c = (c.requires.0.long, omega (arith, more (goal.at.keep_all-n-requires c).After-way_told-1), omega (arith, c.group_end-z.ensures), c.loop-a.invariant.1)
 
 pub overflow_add-j : goal.overflow_add-j
-overflow_add-j c = omega (arith, room c.before.before.before)
+overflow_add-j c = omega (arith, room (goal.at.overflow_add-j c).After-way_told-1)
 
 pub loop-a-smaller : goal.loop-a-smaller
-loop-a-smaller c = omega (arith, more c.before.before.before, c.group_end-z.ensures)
+loop-a-smaller c = omega (arith, more (goal.at.loop-a-smaller c).After-way_told-1, c.group_end-z.ensures)
 
-turn : (c : tie.Joined1 invariant-loop decreases-loop) → Kept c.before.before.before.before.before.before.before.before.before.before.before.before.args.table.now c.before.before.before.before.before.before.before.before.before.before.before.before.args.target.now c.before.before.before.before.before.before.before.before.before.before.before.before.args.e c.before.before.before.group-end.result c.if1.at c.if1.n
+turn : (c : Joined-reaches) → Kept c.args.table.now c.args.target.now c.args.e c.group_end-z.result c.if-reaches.at c.if-reaches.n
 turn c =
     ⊎_elim
-    (λ w. kept-as c.before.before.before.before.before.before.before.before.before.before.before.before.args.table.now c.before.before.before.before.before.before.before.before.before.before.before.before.args.target.now c.before.before.before.before.before.before.before.before.before.before.before.before.args.e c.before.before.before.group-end.result w.3 w.4 w.2.ensures)
-    (λ w. kept-as c.before.before.before.before.before.before.before.before.before.before.before.before.args.table.now c.before.before.before.before.before.before.before.before.before.before.before.before.args.target.now c.before.before.before.before.before.before.before.before.before.before.before.before.args.e c.before.before.before.group-end.result w.1 w.2 (kept-over c.before.before.before.before.before.before.before.before.before.before.before.before.args.table.now c.before.before.before.before.before.before.before.before.before.before.before.before.args.target.now c.before.before.before.before.before.before.before.before.before.before.before.before.args.e c.before.before.before.before.before.loop.invariant.1 c.before.before.before.group-end.result (get_or c.before.before.before.before.before.before.before.before.before.before.before.before.args.first.now c.before.before.before.before.before.loop.j 0) (omega (arith, more c.before.before.before)) (leader c.before.before.before) (sym c.before.reaches.ensures ∙ w.0.left)))
-    c.if1.branch
+    (λ w. kept-as c.args.table.now c.args.target.now c.args.e c.group_end-z.result w.3 w.4 w.2.ensures)
+    (λ w. kept-as c.args.table.now c.args.target.now c.args.e c.group_end-z.result w.1 w.2 (kept-over c.args.table.now c.args.target.now c.args.e c.loop-a.invariant.1 c.group_end-z.result (get_or c.args.first.now c.loop-a.j 0) (omega (arith, more c.before.before.before)) (leader c.before.before.before) (sym c.reaches.ensures ∙ w.0.left)))
+    c.if-reaches.branch
 
 pub loop-a-preserved : goal.loop-a-preserved
 loop-a-preserved c = (group-next c.requires.0 c.loop-a.j c.loop-a.invariant.0 (omega (arith, c.slots-end.ensures)) c.group_end-z.ensures, turn c)

@@ -4,8 +4,9 @@ use Rattle.flat.specs.Promises.{Whole}
 use Rattle.flat.proofs.Writing.{conn-written}
 use borrow.Author.Rules.{rules}
 use Rattle.flat.proofs.put_conn.Goals as goal
+use Rattle.flat.proofs.put_conn.Goals.{Start}
 
-whole : (c : tie.Start) → Whole c.args.c.peer
+whole : (c : Start) → Whole c.args.c.peer
 whole c =
     record {
       addrs = simp length-map at c.well-formed.1.0.1.1.0.1.1.0.1.0.1;
@@ -15,4 +16,4 @@ whole c =
     }
 
 pub returns : goal.returns
-returns c = conn-written c.args.out.now _ _ _ _ c.args.c _ _ (whole c.before.before.before.before.before.before.before.before.before.before.before.before.before.before.before.before.before.before.before.before.before.before) c.bit_of.ensures c.bit_of-2.ensures c.put_peer.ensures c.copy.ensures c.put_framing.ensures c.copy-2.ensures
+returns c = conn-written c.args.out.now _ _ _ _ c.args.c _ _ (whole (goal.at.returns c).Start) c.bit_of.ensures c.bit_of-2.ensures c.put_peer.ensures c.copy.ensures c.put_framing.ensures c.copy-2.ensures

@@ -10,4 +10,4 @@ pub returns-then-conn-lt-CONN : goal.returns-then-conn-lt-CONN
 returns-then-conn-lt-CONN c = let a = c.args in open-second a.me.now a.conn.now a.id.now a.server a.asking a.addresses.now c.if-me-lt-PEER.false c.if-conn-lt-CONN.true
 
 pub returns : goal.returns
-returns c = let a = c.args in open_done a.me.now a.conn.now a.id.now a.server a.asking a.addresses.now _ _ _ _ _ _ c.if-me-lt-PEER.false c.if-conn-lt-CONN.false c.peer_in.ensures c.says_yes.ensures c.says_yes-2.ensures c.«open».ensures c.told_code.ensures c.put_conn.ensures
+returns c = let a = c.args in open_done a.me.now a.conn.now a.id.now a.server a.asking a.addresses.now _ _ _ _ _ _ c.if-me-lt-PEER.false c.if-conn-lt-CONN.false c.peer_in.ensures c.says_yes.ensures c.says_yes-2.ensures c.open-o.ensures c.told_code.ensures c.put_conn.ensures

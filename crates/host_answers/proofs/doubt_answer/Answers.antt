@@ -5,4 +5,4 @@ use borrow.Author.Rules.{rules}
 use Rattle.host_answers.proofs.doubt_answer.Goals as goal
 
 pub returns-in-Refused : goal.returns-in-Refused
-returns-in-Refused c = by-case doubt_number _ _ _ c.in-Refused.is c.code_of_lem.ensures
+returns-in-Refused c = by-case doubt_number _ _ _ c.in-Refused.is c.code_of.ensures

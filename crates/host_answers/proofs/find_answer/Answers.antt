@@ -9,4 +9,4 @@ pub returns-in-Held : goal.returns-in-Held
 returns-in-Held c = (by-case find_number _ _ _ c.in-Held.is refl, by-case (find_numbers _) _ _ _ c.in-Held.is c.put_numbers.ensures)
 
 pub returns-in-Refused : goal.returns-in-Refused
-returns-in-Refused c = (by-case find_number _ _ _ c.in-Refused.is c.code_of_lem.ensures, by-case (find_numbers _) _ _ _ c.in-Refused.is refl)
+returns-in-Refused c = (by-case find_number _ _ _ c.in-Refused.is c.code_of.ensures, by-case (find_numbers _) _ _ _ c.in-Refused.is refl)

@@ -7,4 +7,4 @@ pub returns-in-Fine : goal.returns-in-Fine
 returns-in-Fine c = near-told c.args.out.now c.args.n _ _ c.in-Fine.is c.put_number.ensures c.put_numbers.ensures
 
 pub returns-in-Refused : goal.returns-in-Refused
-returns-in-Refused c = near-refused _ c.args.n _ _ c.in-Refused.is c.code_of_lem.ensures
+returns-in-Refused c = near-refused _ c.args.n _ _ c.in-Refused.is c.code_of.ensures

@@ -9,4 +9,4 @@ pub returns-in-Whole : goal.returns-in-Whole
 returns-in-Whole c = (by-case read_number _ _ _ c.in-Whole.is refl, by-case (read_numbers _) _ _ _ c.in-Whole.is c.put_view.ensures)
 
 pub returns-in-Refused : goal.returns-in-Refused
-returns-in-Refused c = (by-case read_number _ _ _ c.in-Refused.is c.code_of_lem.ensures, by-case (read_numbers _) _ _ _ c.in-Refused.is refl)
+returns-in-Refused c = (by-case read_number _ _ _ c.in-Refused.is c.code_of.ensures, by-case (read_numbers _) _ _ _ c.in-Refused.is refl)

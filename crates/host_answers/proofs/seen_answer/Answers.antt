@@ -13,7 +13,7 @@ pub returns-in-Joined : goal.returns-in-Joined
 returns-in-Joined c = (by-case seen_number _ _ _ c.in-Joined.is refl, by-case (seen_numbers _) _ _ _ c.in-Joined.is c.put_number-in-Joined.ensures)
 
 pub returns-in-Probe : goal.returns-in-Probe
-returns-in-Probe c = (by-case seen_number _ _ _ c.in-Probe.is c.code_of_lem.ensures, by-case (seen_numbers _) _ _ _ c.in-Probe.is c.put_number-in-Probe.ensures)
+returns-in-Probe c = (by-case seen_number _ _ _ c.in-Probe.is c.code_of.ensures, by-case (seen_numbers _) _ _ _ c.in-Probe.is c.put_number-in-Probe.ensures)
 
 pub returns-in-Refused : goal.returns-in-Refused
 returns-in-Refused c = (by-case seen_number _ _ _ c.in-Refused.is c.code_of-in-Refused.ensures, by-case (seen_numbers _) _ _ _ c.in-Refused.is refl)

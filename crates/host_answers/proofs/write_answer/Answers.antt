@@ -9,4 +9,4 @@ pub returns-in-Done : goal.returns-in-Done
 returns-in-Done c = (by-case write_number _ _ _ c.in-Done.is refl, by-case (write_numbers _) _ _ _ c.in-Done.is c.put_number.ensures)
 
 pub returns-in-Refused : goal.returns-in-Refused
-returns-in-Refused c = (by-case write_number _ _ _ c.in-Refused.is c.code_of_lem.ensures, by-case (write_numbers _) _ _ _ c.in-Refused.is refl)
+returns-in-Refused c = (by-case write_number _ _ _ c.in-Refused.is c.code_of.ensures, by-case (write_numbers _) _ _ _ c.in-Refused.is refl)

@@ -6,7 +6,7 @@ use borrow.Author.Rules.{rules}
 use Rattle.host_contacts.proofs.settle.Goals as goal
 
 pub returns-then-not-own_fits : goal.returns-then-not-own_fits
-returns-then-not-own_fits c = let a = c.args in settle-off a.me a.contacts.now a.head.now a.id.now a.client a.addresses.now a.answered _ (sym c.own_fits.ensures ∙ not-true _ c.if-not-own_fits.true) c.refusal_of_box.ensures
+returns-then-not-own_fits c = let a = c.args in settle-off a.me a.contacts.now a.head.now a.id.now a.client a.addresses.now a.answered _ (sym c.own_fits.ensures ∙ c.if-not-own_fits.true) c.refusal_of_box.ensures
 
 pub returns : goal.returns
-returns c = let a = c.args in settle-on a.me a.contacts.now a.head.now a.id.now a.client a.addresses.now a.answered _ _ (sym c.own_fits.ensures ∙ not-false _ c.if-not-own_fits.false) c.settle.ensures
+returns c = let a = c.args in settle-on a.me a.contacts.now a.head.now a.id.now a.client a.addresses.now a.answered _ _ (sym c.own_fits.ensures ∙ c.if-not-own_fits.false) c.settle.ensures

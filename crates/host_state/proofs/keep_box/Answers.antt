@@ -7,4 +7,4 @@ pub returns-in-Fine : goal.returns-in-Fine
 returns-in-Fine c = box-kept _ c.args.s _ c.in-Fine.is c.put_peer.ensures
 
 pub returns-in-Refused : goal.returns-in-Refused
-returns-in-Refused c = box-left _ c.args.s _ _ c.in-Refused.is c.code_of_lem.ensures
+returns-in-Refused c = box-left _ c.args.s _ _ c.in-Refused.is c.code_of.ensures

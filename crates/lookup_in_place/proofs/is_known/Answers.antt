@@ -18,10 +18,10 @@ pub lies_at-requires : goal.lies_at-requires
 lies_at-requires c = (c.requires.0, omega (arith, c.requires.1, c.loop-i-test.true))
 
 pub returns-then-lies_at : goal.returns-then-lies_at
-returns-then-lies_at c = any-hit _ _ _ _ _ _ _ (omega (arith, c.requires.1, all_there c.args.m.now)) c.loop-i-test.true c.lies_at_lem.ensures c.loop-i.invariant.1 c.if-lies_at.true
+returns-then-lies_at c = any-hit _ _ _ _ _ _ _ (omega (arith, c.requires.1, all_there c.args.m.now)) c.loop-i-test.true c.lies_at.ensures c.loop-i.invariant.1 c.if-lies_at.true
 
 pub loop-i-preserved : goal.loop-i-preserved
-loop-i-preserved c = (omega arith, any-miss _ _ _ _ _ _ _ (omega (arith, c.requires.1, all_there c.args.m.now)) c.loop-i-test.true c.lies_at_lem.ensures c.loop-i.invariant.1 c.if-lies_at.false)
+loop-i-preserved c = (omega arith, any-miss _ _ _ _ _ _ _ (omega (arith, c.requires.1, all_there c.args.m.now)) c.loop-i-test.true c.lies_at.ensures c.loop-i.invariant.1 c.if-lies_at.false)
 
 pub returns : goal.returns
 returns c = any-end _ _ _ _ _ c.loop-i-test.false c.loop-i.invariant.1

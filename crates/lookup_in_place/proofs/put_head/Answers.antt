@@ -6,12 +6,13 @@ use Rattle.flat_lookup.proofs.Writing.{head-put}
 use Rattle.lookup_in_place.specs.Inner.{opened}
 use borrow.Author.Rules.{rules}
 use Rattle.lookup_in_place.proofs.put_head.Goals as goal
+use Rattle.lookup_in_place.proofs.put_head.Goals.{Start}
 
-key-long : (c : tie.Start) → length c.args.t2 ≡ 128
+key-long : (c : Start) → length c.args.key ≡ 128
 key-long c = c.well-formed.1.0.1.0.1
 
-target-long : (c : tie.Start) → length c.args.t3 ≡ 32
+target-long : (c : Start) → length c.args.target ≡ 32
 target-long c = c.well-formed.1.1.0.1.0.1
 
 pub returns : goal.returns
-returns c = head-put _ (opened c.args.t2 c.args.t3 c.args.count c.args.size c.args.limit []) _ refl (key-long c.before.before.before.before.before.before.before.before.before.before.before.before.before.before.before.before) (target-long c.before.before.before.before.before.before.before.before.before.before.before.before.before.before.before.before) _ _ _ c.copy.ensures c.copy-2.ensures c.copy-3.ensures
+returns c = head-put _ (opened c.args.key c.args.target c.args.count c.args.size c.args.limit []) _ refl (key-long (goal.at.returns c).Start) (target-long (goal.at.returns c).Start) _ _ _ c.copy.ensures c.copy-2.ensures c.copy-3.ensures

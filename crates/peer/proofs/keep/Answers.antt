@@ -34,7 +34,7 @@ pub loop-count-smaller-then-not-usable_size : goal.loop-count-smaller-then-not-u
 loop-count-smaller-then-not-usable_size c = omega (arith, (here _ _ _ _ _ c.loop-count.invariant _ c.entry_end-end.ensures c.if-end-eq0.false).ends, (here _ _ _ _ _ c.loop-count.invariant _ c.entry_end-end.ensures c.if-end-eq0.false).inside)
 
 pub loop-count-preserved-then-not-usable_size : goal.loop-count-preserved-then-not-usable_size
-loop-count-preserved-then-not-usable_size c = skip _ _ _ _ _ c.loop-count.invariant _ c.entry_end-end.ensures c.if-end-eq0.false _ refl (sym c.usable_size.ensures ∙ not-true _ c.if-not-usable_size.true)
+loop-count-preserved-then-not-usable_size c = skip _ _ _ _ _ c.loop-count.invariant _ c.entry_end-end.ensures c.if-end-eq0.false _ refl (sym c.usable_size.ensures ∙ c.if-not-usable_size.true)
 
 pub slice_bounds-copy-count : goal.slice_bounds-copy-count
 slice_bounds-copy-count c = omega (arith, (here _ _ _ _ _ c.loop-count.invariant _ c.entry_end-end.ensures c.if-end-eq0.false).ends)
@@ -46,7 +46,7 @@ pub slice_bounds-copy-end : goal.slice_bounds-copy-end
 slice_bounds-copy-end c = (here _ _ _ _ _ c.loop-count.invariant _ c.entry_end-end.ensures c.if-end-eq0.false).inside
 
 pub overflow_cast-lens : goal.overflow_cast-lens
-overflow_cast-lens c = omega (arith, size-most _ (sym c.usable_size.ensures ∙ not-false _ c.if-not-usable_size.false))
+overflow_cast-lens c = omega (arith, size-most _ (sym c.usable_size.ensures ∙ c.if-not-usable_size.false))
 
 pub bounds-lens-count : goal.bounds-lens-count
 bounds-lens-count c = omega (arith, lens-four _ _ _ _ _ c.loop-count.invariant)
@@ -55,7 +55,7 @@ pub loop-count-smaller : goal.loop-count-smaller
 loop-count-smaller c = omega (arith, (here _ _ _ _ _ c.loop-count.invariant _ c.entry_end-end.ensures c.if-end-eq0.false).ends, (here _ _ _ _ _ c.loop-count.invariant _ c.entry_end-end.ensures c.if-end-eq0.false).inside)
 
 pub loop-count-preserved : goal.loop-count-preserved
-loop-count-preserved c = take-one _ _ _ _ _ c.loop-count.invariant _ c.entry_end-end.ensures c.if-end-eq0.false _ _ refl (sym c.usable_size.ensures ∙ not-false _ c.if-not-usable_size.false) c.loop-count-test.true c.copy.ensures
+loop-count-preserved c = take-one _ _ _ _ _ c.loop-count.invariant _ c.entry_end-end.ensures c.if-end-eq0.false _ _ refl (sym c.usable_size.ensures ∙ c.if-not-usable_size.false) c.loop-count-test.true c.copy.ensures
 
 pub overflow_cast-result-2 : goal.overflow_cast-result-2
 overflow_cast-result-2 c = omega (arith, c.loop-count.invariant.few)

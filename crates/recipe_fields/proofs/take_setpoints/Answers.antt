@@ -13,7 +13,7 @@ pub overflow_add-at : goal.overflow_add-at
 overflow_add-at c = record { fits = omega (arith, taken-size c.args.s.now c.args.count c.args.turns.now c.args.trims.now c.loop-i.turns c.loop-i.trims c.loop-i.at c.loop-i.i c.loop-i.invariant (omega arith) c.point_at.ensures c.in-Is.is) }
 
 pub loop-i-preserved : goal.loop-i-preserved
-loop-i-preserved c = let k = c.known_told-1.given in let f : SFits w32 c.in-Is.trim = record { sfits = k.1.0.1 } in taken-on c.args.s.now c.args.count c.args.turns.now c.args.trims.now c.loop-i.turns c.loop-i.trims c.loop-i.at c.loop-i.i c.loop-i.invariant (omega arith) c.point_at.ensures c.in-Is.is f c.set_turn.ensures c.set_trim.ensures
+loop-i-preserved c = let k = c.in-Is.known_told-1-own.given in let f : SFits w32 c.in-Is.trim = record { sfits = k.1.0.1 } in taken-on c.args.s.now c.args.count c.args.turns.now c.args.trims.now c.loop-i.turns c.loop-i.trims c.loop-i.at c.loop-i.i c.loop-i.invariant (omega arith) c.point_at.ensures c.in-Is.is f c.set_turn.ensures c.set_trim.ensures
 
 pub shape_of-turns-in-Broken : goal.shape_of-turns-in-Broken
 shape_of-turns-in-Broken c = c.loop-i.invariant.turns-long

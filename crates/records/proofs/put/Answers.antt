@@ -5,7 +5,7 @@ use borrow.Author.Rules.{rules}
 use Rattle.records.proofs.put.Goals as goal
 
 pub returns-then-not-in_form : goal.returns-then-not-in_form
-returns-then-not-in_form c = put-out c.args.store.now c.args.key.now c.args.value.now c.in_form.ensures (not-true _ c.if-not-in_form.true)
+returns-then-not-in_form c = put-out c.args.store.now c.args.key.now c.args.value.now c.in_form.ensures c.if-not-in_form.true
 
 pub returns : goal.returns
-returns c = (put-answer c.args.store.now c.args.key.now c.args.value.now c.in_form.ensures (not-false _ c.if-not-in_form.false) c.offer.ensures.0, put-after c.args.store.now c.args.key.now c.args.value.now c.in_form.ensures (not-false _ c.if-not-in_form.false) c.offer.ensures.1)
+returns c = (put-answer c.args.store.now c.args.key.now c.args.value.now c.in_form.ensures c.if-not-in_form.false c.offer.ensures.0, put-after c.args.store.now c.args.key.now c.args.value.now c.in_form.ensures c.if-not-in_form.false c.offer.ensures.1)

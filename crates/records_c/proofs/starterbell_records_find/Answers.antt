@@ -5,4 +5,4 @@ use borrow.Author.Rules.{rules}
 use Rattle.records_c.proofs.starterbell_records_find.Goals as goal
 
 pub returns : goal.returns
-returns c = c.start_of_lem.ensures ∙ ap start_of c.find.ensures
+returns c = c.start_of.ensures ∙ ap start_of c.find.ensures

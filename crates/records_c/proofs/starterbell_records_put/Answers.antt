@@ -5,4 +5,4 @@ use borrow.Author.Rules.{rules}
 use Rattle.records_c.proofs.starterbell_records_put.Goals as goal
 
 pub returns : goal.returns
-returns c = (c.code_of_lem.ensures ∙ ap code_of c.put.ensures.0, c.put.ensures.1)
+returns c = (c.code_of.ensures ∙ ap code_of c.put.ensures.0, c.put.ensures.1)

@@ -6,8 +6,9 @@ use lib.ListN.{length, length-map}
 use Rattle.replies.proofs.Whole.{framed_is, near-few, near-long, find-listed, find-me, find-who, find_none}
 use borrow.Author.Rules.{rules}
 use Rattle.replies.proofs.find_node.Goals as goal
+use Rattle.replies.proofs.find_node.Goals.{Start}
 
-theirs-long : (c : tie.Start) → length c.args.who.place ≡ 32
+theirs-long : (c : Start) → length c.args.who.place ≡ 32
 theirs-long c = simp length-map at c.well-formed.1.1.0.1.1.1.1.0.1.0.1
 
 pub lies_among-requires : goal.lies_among-requires
@@ -26,7 +27,7 @@ pub returns-then-same_bytes : goal.returns-then-same_bytes
 returns-then-same_bytes c = framed_is _ _ _ _ _ (find-me c.args.me c.args.who _ _ _ _ c.place_of-target.ensures c.nearest-near.ensures _ c.lies_among.ensures c.if-lies_among.false _ c.same_bytes.ensures c.if-same_bytes.true) c.reply_last.ensures
 
 pub slice_bounds-same_bytes-end-4 : goal.slice_bounds-same_bytes-end-4
-slice_bounds-same_bytes-end-4 c = sym (theirs-long c.before.before.before.before.before.before.before.before.before.before.before.before.before.before.before.before.before.before.before)
+slice_bounds-same_bytes-end-4 c = sym (theirs-long (goal.at.slice_bounds-same_bytes-end-4 c).Start)
 
 pub reply_last-requires-then-same_bytes-2 : goal.reply_last-requires-then-same_bytes-2
 reply_last-requires-then-same_bytes-2 c = (omega (arith, near-few _ _ _ c.nearest-near.ensures), omega (arith, near-long _ _ _ c.nearest-near.ensures))

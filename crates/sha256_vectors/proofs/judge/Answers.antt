@@ -4,13 +4,13 @@ use borrow.Author.Rules.{rules}
 use Rattle.sha256_vectors.proofs.judge.Goals as goal
 
 pub returns-in-Agrees : goal.returns-in-Agrees
-returns-in-Agrees c = omega (arith, c.counted.ensures, c.line_at-line.ensures, c.line_at-digits.ensures, c.line_at_lem.ensures, c.requires)
+returns-in-Agrees c = omega (arith, c.counted.ensures, c.line_at-line.ensures, c.line_at-digits.ensures, c.line_at-bits.ensures, c.requires)
 
 pub counted-requires-in-Differs : goal.counted-requires-in-Differs
-counted-requires-in-Differs c = omega (arith, c.line_at-line.ensures, c.line_at-digits.ensures, c.line_at_lem.ensures, c.requires)
+counted-requires-in-Differs c = omega (arith, c.line_at-line.ensures, c.line_at-digits.ensures, c.line_at-bits.ensures, c.requires)
 
 pub returns-in-Differs : goal.returns-in-Differs
-returns-in-Differs c = omega (arith, c.counted-in-Differs.ensures, c.line_at-line.ensures, c.line_at-digits.ensures, c.line_at_lem.ensures, c.requires)
+returns-in-Differs c = omega (arith, c.counted-in-Differs.ensures, c.line_at-line.ensures, c.line_at-digits.ensures, c.line_at-bits.ensures, c.requires)
 
 pub returns-in-Malformed : goal.returns-in-Malformed
 returns-in-Malformed c = omega (arith, c.give_up.ensures, c.requires)

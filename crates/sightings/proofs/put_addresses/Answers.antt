@@ -6,11 +6,12 @@ use Rattle.contacts.specs.Table.{slots_of}
 use Rattle.sightings.proofs.Moves.{addresses-done, addresses-same}
 use borrow.Author.Rules.{rules}
 use Rattle.sightings.proofs.put_addresses.Goals as goal
+use Rattle.sightings.proofs.put_addresses.Goals.{Start}
 
-lens-long : (c : tie.Start) → length c.args.p.lens ≡ 4
+lens-long : (c : Start) → length c.args.p.lens ≡ 4
 lens-long c = simp length-map at c.well-formed.1.1.0.1.1.1.1.1.0.1.0.1
 
-addrs-long : (c : tie.Start) → length c.args.p.addrs ≡ 512
+addrs-long : (c : Start) → length c.args.p.addrs ≡ 512
 addrs-long c = simp length-map at c.well-formed.1.1.0.1.1.0.1.0.1
 
 pub overflow_mul-at : goal.overflow_mul-at
@@ -37,4 +38,4 @@ pub shape_of-table : goal.shape_of-table
 shape_of-table c = addresses-same c.args.table.now c.args.i c.args.p _ _ c.copy.ensures c.copy-2.ensures
 
 pub returns : goal.returns
-returns c = addresses-done c.args.table.now c.args.i c.args.p _ _ c.requires (lens-long c.before.before.before.before.before.before.before.before.before.before.before.before.before) (addrs-long c.before.before.before.before.before.before.before.before.before.before.before.before.before) c.copy.ensures c.copy-2.ensures
+returns c = addresses-done c.args.table.now c.args.i c.args.p _ _ c.requires (lens-long (goal.at.returns c).Start) (addrs-long (goal.at.returns c).Start) c.copy.ensures c.copy-2.ensures

@@ -6,14 +6,15 @@ use Rattle.contacts.specs.Table.{slots_of}
 use Rattle.sightings.proofs.Moves.{write_done}
 use borrow.Author.Rules.{rules}
 use Rattle.sightings.proofs.write_slot.Goals as goal
+use Rattle.sightings.proofs.write_slot.Goals.{Start}
 
-lens-long : (c : tie.Start) → length c.args.p.lens ≡ 4
+lens-long : (c : Start) → length c.args.p.lens ≡ 4
 lens-long c = simp length-map at c.well-formed.1.1.1.0.1.1.1.1.1.0.1.0.1
 
-place-long : (c : tie.Start) → length c.args.p.place ≡ 32
+place-long : (c : Start) → length c.args.p.place ≡ 32
 place-long c = simp length-map at c.well-formed.1.1.1.0.1.1.1.1.0.1.0.1
 
-id-long : (c : tie.Start) → length c.args.p.id ≡ 64
+id-long : (c : Start) → length c.args.p.id ≡ 64
 id-long c = simp length-map at c.well-formed.1.1.1.0.1.1.1.0.1.0.1
 
 pub overflow_mul-at : goal.overflow_mul-at
@@ -37,4 +38,4 @@ unfolding slots_of
 overflow_add-at-4 c = omega arith
 
 pub returns : goal.returns
-returns c = write_done c.args.table.now _ c.args.i c.args.m c.args.p _ _ _ _ _ refl (lens-long c.before.before.before.before.before.before.before.before.before.before.before.before.before.before.before.before.before.before.before.before.before.before.before.before.before.before.before.before.before.before) (place-long c.before.before.before.before.before.before.before.before.before.before.before.before.before.before.before.before.before.before.before.before.before.before.before.before.before.before.before.before.before.before) (id-long c.before.before.before.before.before.before.before.before.before.before.before.before.before.before.before.before.before.before.before.before.before.before.before.before.before.before.before.before.before.before) c.copy.ensures c.copy-2.ensures c.copy-3.ensures c.copy-4.ensures c.copy-5.ensures
+returns c = write_done c.args.table.now _ c.args.i c.args.m c.args.p _ _ _ _ _ refl (lens-long (goal.at.returns c).Start) (place-long (goal.at.returns c).Start) (id-long (goal.at.returns c).Start) c.copy.ensures c.copy-2.ensures c.copy-3.ensures c.copy-4.ensures c.copy-5.ensures

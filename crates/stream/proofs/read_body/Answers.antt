@@ -7,4 +7,4 @@ pub returns-then-there-left : goal.returns-then-there-left
 returns-then-there-left c = gives_part _ _ _ _ _ c.requires.0 c.requires.1 _ c.if-there-left.true c.copy.ensures
 
 pub returns : goal.returns
-returns c = gives_whole _ _ _ _ _ c.requires.0 c.requires.1 _ _ c.if-there-left.false c.«open».ensures c.copy-2.ensures
+returns c = gives_whole _ _ _ _ _ c.requires.0 c.requires.1 _ _ c.if-there-left.false c.open-f.ensures c.copy-2.ensures

@@ -6,7 +6,7 @@ use Rattle.stream_c.proofs.Loop.{Going, going, goes_on, took-within, at_most_one
 use Rattle.stream_c.proofs.starterbell_stream_count.Goals as goal
 
 pub loop-at-init : goal.loop-at-init
-loop-at-init c = going _ _ _ c.«open».ensures
+loop-at-init c = going _ _ _ c.open-framing.ensures
 
 pub returns-then-r-eq0 : goal.returns-then-r-eq0
 returns-then-r-eq0 c = stopped _ _ _ _ _ _ _ _ _ c.loop-at.invariant c.piece_end-end.ensures.0 c.piece_end-end.ensures.1 c.receive-r.ensures c.if-r-eq0.true

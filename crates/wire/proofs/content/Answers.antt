@@ -21,4 +21,4 @@ pub returns-in-5 : goal.returns-in-5
 returns-in-5 c = c.fixed_field-in-5.ensures ∙ content-5 _ _ _ _ c.if-number-eq0.false (omega (arith, c.in-5.is))
 
 pub returns-in_default : goal.returns-in_default
-returns-in_default c = content-other _ _ _ _ c.if-number-eq0.false (λ e. omega (arith, c.in_default.rest)) (λ e. omega (arith, c.in_default.rest)) (λ e. omega (arith, c.in_default.rest)) (λ e. omega (arith, c.in_default.rest))
+returns-in_default c = content-other _ _ _ _ c.if-number-eq0.false (λ e. omega (arith, c.in_default.in_default-own.rest)) (λ e. omega (arith, c.in_default.in_default-own.rest)) (λ e. omega (arith, c.in_default.in_default-own.rest)) (λ e. omega (arith, c.in_default.in_default-own.rest))
