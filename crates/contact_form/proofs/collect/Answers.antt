@@ -29,7 +29,7 @@ pub shape_of-at-then-k-ge-INDEX : goal.shape_of-at-then-k-ge-INDEX
 shape_of-at-then-k-ge-INDEX c = c.loop-i.invariant.1.long ∙ sym c.requires.1
 
 pub returns-then-k-ge-INDEX : goal.returns-then-k-ge-INDEX
-returns-then-k-ge-INDEX c = ((λ e. absurd (false≢true e)), (λ e. read-bad c.args.table.now c.args.ours.now c.loop-i.at c.loop-i.i c.loop-i.invariant.1 (omega (arith, c.requires.0)) c.slot_at-s.ensures.0 c.if-s-lt1.false c.key_of-k.ensures c.if-k-ge-INDEX.true))
+returns-then-k-ge-INDEX c = record { held = (λ e. absurd (false≢true e)); broken = (λ e. read-bad c.args.table.now c.args.ours.now c.loop-i.at c.loop-i.i c.loop-i.invariant.1 (omega (arith, c.requires.0)) c.slot_at-s.ensures.0 c.if-s-lt1.false c.key_of-k.ensures c.if-k-ge-INDEX.true) }
 
 pub bounds-at-k : goal.bounds-at-k
 bounds-at-k c = omega (arith, c.loop-i.invariant.1.long)
@@ -38,7 +38,7 @@ pub shape_of-at-then-at-k-ne0 : goal.shape_of-at-then-at-k-ne0
 shape_of-at-then-at-k-ne0 c = c.loop-i.invariant.1.long ∙ sym c.requires.1
 
 pub returns-then-at-k-ne0 : goal.returns-then-at-k-ne0
-returns-then-at-k-ne0 c = ((λ e. absurd (false≢true e)), (λ e. read_taken c.args.table.now c.args.ours.now c.loop-i.at c.loop-i.i c.loop-i.invariant.1 (omega (arith, c.requires.0)) c.slot_at-s.ensures.0 c.if-s-lt1.false c.key_of-k.ensures c.if-k-ge-INDEX.false c.if-at-k-ne0.true))
+returns-then-at-k-ne0 c = record { held = (λ e. absurd (false≢true e)); broken = (λ e. read_taken c.args.table.now c.args.ours.now c.loop-i.at c.loop-i.i c.loop-i.invariant.1 (omega (arith, c.requires.0)) c.slot_at-s.ensures.0 c.if-s-lt1.false c.key_of-k.ensures c.if-k-ge-INDEX.false c.if-at-k-ne0.true) }
 
 pub overflow_add-i-in-loop-i : goal.overflow_add-i-in-loop-i
 overflow_add-i-in-loop-i c = omega (arith, c.requires.0, slots-most c.args.table.now)
@@ -57,4 +57,4 @@ shape_of-at c = c.loop-i.invariant.1.long ∙ sym c.requires.1
 
 pub returns : goal.returns
 returns c = let e : c.loop-i.i ≡ c.args.n = omega arith in
-    ((λ _. subst (λ (m : ℕ). Indexed c.args.table.now c.args.ours.now m c.loop-i.at) e c.loop-i.invariant.1), (λ e. absurd (true≢false e)))
+    record { held = (λ _. subst (λ (m : ℕ). Indexed c.args.table.now c.args.ours.now m c.loop-i.at) e c.loop-i.invariant.1); broken = (λ e. absurd (true≢false e)) }

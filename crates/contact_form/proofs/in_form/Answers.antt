@@ -10,12 +10,12 @@ pub collect-requires : goal.collect-requires
 collect-requires c = (c.slots-n.ensures, refl, (λ k. zeros 5120 k))
 
 pub returns-then-not-collect : goal.returns-then-not-collect
-returns-then-not-collect c = sym (c.collect.ensures.1 c.if-not-collect.true)
+returns-then-not-collect c = sym (c.collect.ensures.broken c.if-not-collect.true)
 
 pub entries_fit-requires : goal.entries_fit-requires
-entries_fit-requires c = let ix = c.collect.ensures.0 c.if-not-collect.false in
+entries_fit-requires c = let ix = c.collect.ensures.held c.if-not-collect.false in
     (ix.long, entries-le c.args.table.now c.args.ours.now c.collect.new.at (index-all c.args.table.now c.args.ours.now c.collect.new.at c.slots-n.ensures ix))
 
 pub returns : goal.returns
 returns c = c.entries_fit.ensures ∙ form-is c.args.table.now c.args.ours.now c.collect.new.at
-    (index-all c.args.table.now c.args.ours.now c.collect.new.at c.slots-n.ensures (c.collect.ensures.0 c.if-not-collect.false))
+    (index-all c.args.table.now c.args.ours.now c.collect.new.at c.slots-n.ensures (c.collect.ensures.held c.if-not-collect.false))

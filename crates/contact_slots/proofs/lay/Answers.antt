@@ -5,16 +5,17 @@ use Rattle.flat.specs.Promises.{Whole}
 use Rattle.contact_slots.proofs.Laws.{if-enough, if-short}
 use Rattle.contact_slots.proofs.Back.{length-slot}
 use borrow.Author.Rules.{rules}
+use Rattle.std.proofs.Common.{arith}
 use Rattle.contact_slots.proofs.lay.Goals as goal
 use Rattle.contact_slots.proofs.lay.Goals.{Start}
 
 whole : (c : Start) → Whole c.args.c.peer
 whole c =
     record {
-      addrs = simp length-map at c.well-formed.1.1.1.0.1.1.0.1.1.0.1.0.1;
-      id = simp length-map at c.well-formed.1.1.1.0.1.1.0.1.1.1.0.1.0.1;
-      place = simp length-map at c.well-formed.1.1.1.0.1.1.0.1.1.1.1.0.1.0.1;
-      lens = simp length-map at c.well-formed.1.1.1.0.1.1.0.1.1.1.1.1.0.1.0.1;
+      addrs = omega arith;
+      id = omega arith;
+      place = omega arith;
+      lens = omega arith;
     }
 
 pub returns-then-has_slots : goal.returns-then-has_slots

@@ -21,7 +21,7 @@ edge_of-edge-requires c = let r = c.requires.3.ranked in
     (c.requires.0, ranked-length r, λ h. omega (arith, r.below 19 (omega arith), c.requires.1, c.requires.2))
 
 pub loop-k-init : goal.loop-k-init
-loop-k-init c = (c.requires.1, c.requires.3, c.Edge-of.ensures)
+loop-k-init c = (c.requires.1, c.requires.3, c.edge_of-edge.ensures)
 
 pub looks_near-requires : goal.looks_near-requires
 looks_near-requires c = slot_whole c.args.table.now c.loop-k.k (omega (arith, c.requires.2))

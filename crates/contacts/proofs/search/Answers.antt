@@ -40,7 +40,7 @@ pub overflow_cast-first : goal.overflow_cast-first
 overflow_cast-first c = omega (arith, (leader (goal.at.overflow_cast-first c).After-way_told-1).to, c.group_end-z.ensures, slots-most c.args.table.now)
 
 pub reaches-requires : goal.reaches-requires
-reaches-requires c = (c.requires.0.long, omega (arith, c.group_end-z.ensures), c.word-t.ensures, edge-first c.args.table.now c.args.target.now c.args.e (replicate 20 0) c.Edge-of.ensures)
+reaches-requires c = (c.requires.0.long, omega (arith, c.group_end-z.ensures), c.word-t.ensures, edge-first c.args.table.now c.args.target.now c.args.e (replicate 20 0) c.edge_of-edge.ensures)
 
 more : (c : After-group_end-z) → c.loop-a.a < c.group_end-z.result
 more c = group-more c.requires.0 c.loop-a.j c.loop-a.invariant.0 (omega (arith, c.slots-end.ensures)) c.group_end-z.ensures

@@ -11,7 +11,7 @@ use Rattle.entries.proofs.own_len.Goals as goal
 use Rattle.entries.proofs.own_len.Goals.{Start}
 
 own-long : (c : Start) → length c.args.p.id ≡ 64
-own-long c = simp length-map at c.well-formed.0.1.1.1.0.1.0.1
+own-long c = omega arith
 
 pub slice_bounds-id-end : goal.slice_bounds-id-end
 slice_bounds-id-end c = omega (arith, c.id_size-size.ensures, id-long _ _ c.tidied-q.ensures (own-long (goal.at.slice_bounds-id-end c).Start))

@@ -3,16 +3,17 @@ use lib.ListN.{length-map}
 use Rattle.flat.specs.Promises.{Whole}
 use Rattle.flat.proofs.Writing.{conn-written}
 use borrow.Author.Rules.{rules}
+use Rattle.std.proofs.Common.{arith}
 use Rattle.flat.proofs.put_conn.Goals as goal
 use Rattle.flat.proofs.put_conn.Goals.{Start}
 
 whole : (c : Start) → Whole c.args.c.peer
 whole c =
     record {
-      addrs = simp length-map at c.well-formed.1.0.1.1.0.1.1.0.1.0.1;
-      id = simp length-map at c.well-formed.1.0.1.1.0.1.1.1.0.1.0.1;
-      place = simp length-map at c.well-formed.1.0.1.1.0.1.1.1.1.0.1.0.1;
-      lens = simp length-map at c.well-formed.1.0.1.1.0.1.1.1.1.1.0.1.0.1;
+      addrs = omega arith;
+      id = omega arith;
+      place = omega arith;
+      lens = omega arith;
     }
 
 pub returns : goal.returns

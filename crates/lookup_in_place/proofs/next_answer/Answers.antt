@@ -17,28 +17,29 @@ use Rattle.lookup_in_place.proofs.marks_in.Reads as marks-in-reads
 use Rattle.lookup_marks.proofs.idle.Reads as idle-reads
 use Rattle.lookup_marks.proofs.in_flight.Reads as in-flight-reads
 use Rattle.lookup_marks.proofs.over.Reads as over_reads
+use mathlib.Core.Bool.{not}
 use Rattle.lookup_in_place.proofs.next_answer.Goals as goal
 
 pub returns-then-not-in_form : goal.returns-then-not-in_form
-returns-then-not-in_form c = c.give.ensures ∙ ap outcome_of (next-bad (lookup_in c.args.m.now) _ c.in_form.ensures (refuses (lookup_in c.args.m.now) OutOfForm) c.if-not-in_form.true refl)
+returns-then-not-in_form c = c.give.ensures ∙ ap outcome_of (next-bad (lookup_in c.args.m.now) _ c.in_form.ensures (refuses (lookup_in c.args.m.now) OutOfForm) (ap not c.if-not-in_form.true) refl)
 
 pub slice_bounds-marks-end : goal.slice_bounds-marks-end
-slice_bounds-marks-end c = omega (arith, room_in c.args.m.now _ _ c.in_form.ensures c.if-not-in_form.false c.count_in-n.ensures)
+slice_bounds-marks-end c = omega (arith, room_in c.args.m.now _ _ c.in_form.ensures (ap not c.if-not-in_form.false) c.count_in-n.ensures)
 
 pub slice_bounds-held-end : goal.slice_bounds-held-end
-slice_bounds-held-end c = held-count c.args.m.now _ _ c.count_in-n.ensures c.marks_in-marks.ensures (room_in c.args.m.now _ _ c.in_form.ensures c.if-not-in_form.false c.count_in-n.ensures)
+slice_bounds-held-end c = held-count c.args.m.now _ _ c.count_in-n.ensures c.marks_in-marks.ensures (room_in c.args.m.now _ _ c.in_form.ensures (ap not c.if-not-in_form.false) c.count_in-n.ensures)
 
 pub end-requires : goal.end-requires
 end-requires c = (c.requires, marks-held c.args.m.now _ _ c.count_in-n.ensures c.marks_in-marks.ensures)
 
 pub returns-then-over : goal.returns-then-over
-returns-then-over c = c.end.ensures ∙ ap outcome_of (next-over (lookup_in c.args.m.now) _ c.in_form.ensures (ends (lookup_in c.args.m.now)) c.if-not-in_form.false _ (marks-held c.args.m.now _ _ c.count_in-n.ensures c.marks_in-marks.ensures) _ c.over.ensures c.if-over.true refl)
+returns-then-over c = c.end.ensures ∙ ap outcome_of (next-over (lookup_in c.args.m.now) _ c.in_form.ensures (ends (lookup_in c.args.m.now)) (ap not c.if-not-in_form.false) _ (marks-held c.args.m.now _ _ c.count_in-n.ensures c.marks_in-marks.ensures) _ c.over.ensures c.if-over.true refl)
 
 pub returns-then-limit-in_flight : goal.returns-then-limit-in_flight
-returns-then-limit-in_flight c = c.give-then-limit-in_flight.ensures ∙ next-full-in c.args.m.now _ _ _ _ _ _ c.in_form.ensures c.if-not-in_form.false c.count_in-n.ensures (marks-held c.args.m.now _ _ c.count_in-n.ensures c.marks_in-marks.ensures) c.over.ensures c.if-over.false c.number-limit.ensures.0 c.in_flight.ensures c.if-limit-in_flight.true
+returns-then-limit-in_flight c = c.give-then-limit-in_flight.ensures ∙ next-full-in c.args.m.now _ _ _ _ _ _ c.in_form.ensures (ap not c.if-not-in_form.false) c.count_in-n.ensures (marks-held c.args.m.now _ _ c.count_in-n.ensures c.marks_in-marks.ensures) c.over.ensures c.if-over.false c.number-limit.ensures.0 c.in_flight.ensures c.if-limit-in_flight.true
 
 pub returns-then-i-n : goal.returns-then-i-n
-returns-then-i-n c = c.give-then-i-n.ensures ∙ next-ask-in c.args.m.now _ _ _ _ _ _ c.in_form.ensures c.if-not-in_form.false c.count_in-n.ensures (marks-held c.args.m.now _ _ c.count_in-n.ensures c.marks_in-marks.ensures) c.over.ensures c.if-over.false c.number-limit.ensures.0 c.in_flight.ensures c.if-limit-in_flight.false _ c.idle-i.ensures c.if-i-n.true
+returns-then-i-n c = c.give-then-i-n.ensures ∙ next-ask-in c.args.m.now _ _ _ _ _ _ c.in_form.ensures (ap not c.if-not-in_form.false) c.count_in-n.ensures (marks-held c.args.m.now _ _ c.count_in-n.ensures c.marks_in-marks.ensures) c.over.ensures c.if-over.false c.number-limit.ensures.0 c.in_flight.ensures c.if-limit-in_flight.false _ c.idle-i.ensures c.if-i-n.true
 
 pub returns : goal.returns
-returns c = c.give-2.ensures ∙ next-wait-in c.args.m.now _ _ _ _ _ _ c.in_form.ensures c.if-not-in_form.false c.count_in-n.ensures (marks-held c.args.m.now _ _ c.count_in-n.ensures c.marks_in-marks.ensures) c.over.ensures c.if-over.false c.number-limit.ensures.0 c.in_flight.ensures c.if-limit-in_flight.false _ c.idle-i.ensures c.if-i-n.false
+returns c = c.give-2.ensures ∙ next-wait-in c.args.m.now _ _ _ _ _ _ c.in_form.ensures (ap not c.if-not-in_form.false) c.count_in-n.ensures (marks-held c.args.m.now _ _ c.count_in-n.ensures c.marks_in-marks.ensures) c.over.ensures c.if-over.false c.number-limit.ensures.0 c.in_flight.ensures c.if-limit-in_flight.false _ c.idle-i.ensures c.if-i-n.false

@@ -5,11 +5,12 @@ use Rattle.flat_lookup.proofs.Writing.{Putting, put-none}
 use Rattle.lookup_in_place.specs.Inner.{members_of}
 use Rattle.lookup_in_place.proofs.Starting.{member-put, lookup-long, lookup-put}
 use borrow.Author.Rules.{rules}
+use Rattle.std.proofs.Common.{arith}
 use Rattle.lookup_in_place.proofs.put_lookup.Goals as goal
 use Rattle.lookup_in_place.proofs.put_lookup.Goals.{Start}
 
 at_long : (c : Start) → length c.args.at ≡ 20
-at_long c = c.well-formed.1.1.1.1.1.1.0.1.0.1
+at_long c = omega arith
 
 pub loop-i-init : goal.loop-i-init
 loop-i-init c = put-none _ _

@@ -4,7 +4,7 @@ use borrow.Author.Rules.{rules}
 use Rattle.message.proofs.with_peer.Goals as goal
 
 pub returns-then-well_formed : goal.returns-then-well_formed
-returns-then-well_formed c = peer-sound _ _ _ _ c.front.ensures _ c.well-formed-2.ensures c.if-well_formed.true
+returns-then-well_formed c = peer-sound _ _ _ _ c.front.ensures _ c.well_formed-2.ensures c.if-well_formed.true
 
 pub returns : goal.returns
-returns c = peer-broken _ _ _ _ c.front.ensures _ c.well-formed-2.ensures c.if-well_formed.false
+returns c = peer-broken _ _ _ _ c.front.ensures _ c.well_formed-2.ensures c.if-well_formed.false

@@ -11,10 +11,10 @@ use Rattle.peer.proofs.keep_usable.Goals.{Start}
 
 -- the rooms have 512 bytes, and there are four lengths
 rooms-long : (c : Start) → length c.args.p.addrs ≡ 512
-rooms-long c = simp length-map at c.well-formed.1.1.0.1.1.0.1.0.1
+rooms-long c = omega arith
 
 lens-long : (c : Start) → length c.args.p.lens ≡ 4
-lens-long c = simp length-map at c.well-formed.1.1.0.1.1.1.1.1.0.1.0.1
+lens-long c = omega arith
 
 pub loop-k-init : goal.loop-k-init
 loop-k-init c = kept-none c.args.p c.args.addrs.now c.args.lens.now c.requires.0 c.requires.1

@@ -12,19 +12,19 @@ pub loop-i-init : goal.loop-i-init
 loop-i-init c = left-start c.args.part c.args.s.now c.args.count
 
 pub returns-then-not-is_good : goal.returns-then-not-is_good
-returns-then-not-is_good c = let k = c.known_told-1.given in
-    let f : SFits w32 c.in-Is.trim = record { sfits = k.1.0.1 } in
+returns-then-not-is_good c =
+    let f : SFits w32 c.in-Is.trim = search rules in
     left-stop c.args.part c.args.s.now c.args.count c.loop-i.prev c.loop-i.at c.loop-i.i c.loop-i.invariant (omega arith) c.point_at.ensures c.in-Is.is f c.setpoint_fault-w.ensures
-    (sym c.is_good.ensures ∙ not-true _ c.if-not-is_good.true)
+    (sym c.is_good.ensures ∙ c.if-not-is_good.true)
 
 pub overflow_add-at : goal.overflow_add-at
 overflow_add-at c = record { fits = omega (arith, left-size c.args.part c.args.s.now c.args.count c.loop-i.prev c.loop-i.at c.loop-i.i c.loop-i.invariant (omega arith) c.point_at.ensures c.in-Is.is) }
 
 pub loop-i-preserved : goal.loop-i-preserved
-loop-i-preserved c = let k = c.known_told-1.given in
-    let f : SFits w32 c.in-Is.trim = record { sfits = k.1.0.1 } in
+loop-i-preserved c =
+    let f : SFits w32 c.in-Is.trim = search rules in
     left-on c.args.part c.args.s.now c.args.count c.loop-i.prev c.loop-i.at c.loop-i.i c.loop-i.invariant (omega arith) c.point_at.ensures c.in-Is.is f c.setpoint_fault-w.ensures
-    (sym c.is_good.ensures ∙ not-false _ c.if-not-is_good.false)
+    (sym c.is_good.ensures ∙ c.if-not-is_good.false)
 
 pub returns-in-Broken : goal.returns-in-Broken
 returns-in-Broken c = left-none c.args.part c.args.s.now c.args.count c.loop-i.prev c.loop-i.at c.loop-i.i c.loop-i.invariant (omega arith) c.point_at.ensures c.in-Broken.is c.broken.ensures

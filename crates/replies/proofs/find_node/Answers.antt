@@ -9,7 +9,7 @@ use Rattle.replies.proofs.find_node.Goals as goal
 use Rattle.replies.proofs.find_node.Goals.{Start}
 
 theirs-long : (c : Start) → length c.args.who.place ≡ 32
-theirs-long c = simp length-map at c.well-formed.1.1.0.1.1.1.1.0.1.0.1
+theirs-long c = omega arith
 
 pub lies_among-requires : goal.lies_among-requires
 lies_among-requires c = near-long _ _ _ c.nearest-near.ensures

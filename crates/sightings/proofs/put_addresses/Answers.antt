@@ -9,10 +9,10 @@ use Rattle.sightings.proofs.put_addresses.Goals as goal
 use Rattle.sightings.proofs.put_addresses.Goals.{Start}
 
 lens-long : (c : Start) → length c.args.p.lens ≡ 4
-lens-long c = simp length-map at c.well-formed.1.1.0.1.1.1.1.1.0.1.0.1
+lens-long c = omega arith
 
 addrs-long : (c : Start) → length c.args.p.addrs ≡ 512
-addrs-long c = simp length-map at c.well-formed.1.1.0.1.1.0.1.0.1
+addrs-long c = omega arith
 
 pub overflow_mul-at : goal.overflow_mul-at
 unfolding slots_of

@@ -9,13 +9,13 @@ use Rattle.sightings.proofs.write_slot.Goals as goal
 use Rattle.sightings.proofs.write_slot.Goals.{Start}
 
 lens-long : (c : Start) → length c.args.p.lens ≡ 4
-lens-long c = simp length-map at c.well-formed.1.1.1.0.1.1.1.1.1.0.1.0.1
+lens-long c = omega arith
 
 place-long : (c : Start) → length c.args.p.place ≡ 32
-place-long c = simp length-map at c.well-formed.1.1.1.0.1.1.1.1.0.1.0.1
+place-long c = omega arith
 
 id-long : (c : Start) → length c.args.p.id ≡ 64
-id-long c = simp length-map at c.well-formed.1.1.1.0.1.1.1.0.1.0.1
+id-long c = omega arith
 
 pub overflow_mul-at : goal.overflow_mul-at
 unfolding slots_of
