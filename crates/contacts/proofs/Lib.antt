@@ -1,9 +1,5 @@
 pub mod Shown
 pub mod Sorting
-mod Ranking
-mod Within
-mod Leading
-mod Fair
 pub mod TwentyNearest
 mod Pairs
 mod Shifts

@@ -18,11 +18,12 @@ use Rattle.place.specs.Place.{is_place, distance}
 use Rattle.place.proofs.Distance.{distance_self, distance-zero, distance-inj}
 use Rattle.contacts.specs.Table.{slots_of, slot, used, doubtful, place}
 use Rattle.contacts.specs.Near.{far, shown, insert, sort_onto, shown_below, sorted, nearest_slots}
+use Rattle.contacts.specs.Inner.{kept}
 use Rattle.contact_table.proofs.Cuts.{slot_whole, place-size, bytes-place}
 use Rattle.contact_form.specs.Claims.{InForm}
 use Rattle.contacts.specs.Claims.{AreNearest, Gives, GivesFirst}
 use Rattle.contacts.proofs.Shown.{shown-used, shown-trusted}
-use Rattle.contacts.proofs.Sorting.{All, none, more, all-at, all_map, all_take, all_insert, asc-at, sorted-asc, sorted_suc, length-insert, nearest-first}
+use Rattle.contacts.proofs.Sorting.{All, none, more, all-at, all_map, all_take, all_insert, asc-at, sorted-asc, sorted_suc, length-insert, nearest-kept}
 
 -- ---- an element of a list
 data In (k : ℕ) : List ℕ → Type 0 where
@@ -151,7 +152,8 @@ module _ (t x : List ℕ) where
 
 -- the answer to a place is the list of the twenty nearest
 pub nearest-are : (t x : List ℕ) → length x ≡ 32 → AreNearest t x (nearest_slots t x)
-nearest-are t x h = subst (AreNearest t x) (sym (nearest-first t x h)) (first-twenty t x)
+unfolding kept
+nearest-are t x h = subst (AreNearest t x) (sym (nearest-kept t x h)) (first-twenty t x)
 
 -- contacts of the table that aren't doubtful, also where x is no place: then there is nobody
 pub nearest-shown : (t x : List ℕ) (k : ℕ) → k < length (nearest_slots t x) → (get_or (nearest_slots t x) k 0 < slots_of t) × (shown (slot t (get_or (nearest_slots t x) k 0)) ≡ true)
@@ -224,8 +226,9 @@ module _ (t o : List ℕ) (i : ℕ) (ht : Bytes t) (f : InForm t o) (l : i < slo
       (subst (λ (z : ℕ). far t x (get_or (Whole t x) 0 0) ≤ far t x z) e (asc-at (sorted-asc t x (slots_of t)) 0 r (omega arith) lr))
 
   pub own_first : GivesFirst t x i
+  unfolding kept
   own_first =
       let r = in-at (sorted_all t x (slots_of t) i l u) in
       let some : 0 < length (Whole t x) = omega (arith, r.1) in
       let one : 0 < length (take most_near (Whole t x)) = omega (arith, some, length-take most_near (Whole t x)) in
-      rw (nearest-first t x (long i l)) (one, first-at t x 0 one ∙ heads some r.0 r.1 r.2)
+      rw (nearest-kept t x (long i l)) (one, first-at t x 0 one ∙ heads some r.0 r.1 r.2)

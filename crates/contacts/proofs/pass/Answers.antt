@@ -1,20 +1,51 @@
--- `pass` keeps the nearest of all slots, without a limit.
-use mathlib.Core.Path.{subst}
-use native.Mathlib.Omega.{arith}
-use Prim.Native.Nat.{ℕ, ◌<◌}
-use Rattle.contacts.specs.Table.{slots_of}
-use Rattle.contacts.specs.Inner.{Kept}
-use Rattle.contacts.proofs.Within.{kept-none, kept-answer}
 use borrow.Author.Rules.{rules}
+use native.Mathlib.Omega.{arith}
+use Prim.Native.Nat.{◌+◌, ◌-◌, ◌≤◌}
+use mathlib.Core.Path.{◌≡◌, refl, sym, ap, ◌∙◌}
+use mathlib.Core.Logic.{⊎_elim}
+use lib.ListN.{length}
+use Rattle.contacts.specs.Table.{slots_of}
+use Rattle.contacts.specs.Near.{sort_onto, shown_below, sorted, filled}
+use Rattle.contacts.specs.Inner.{kept}
+use Rattle.contact_table.proofs.Cuts.{slots-most, slot_whole}
+use Rattle.contacts.proofs.Sorting.{kept-hidden, nearest-kept, nearest-as}
 use Rattle.contacts.proofs.pass.Goals as goal
+use Rattle.contacts.proofs.pass.Goals.{Joined-shown_at}
 
-pub keep_all-n-requires : goal.keep_all-n-requires
-keep_all-n-requires c = (c.requires, omega arith, omega (arith, c.slots-end.ensures), kept-none c.args.table.now c.args.target.now c.slots-end.result)
+pub loop-k-init : goal.loop-k-init
+unfolding kept sorted shown_below sort_onto filled
+loop-k-init c = (search rules, refl, refl)
+
+pub shown_at-requires : goal.shown_at-requires
+shown_at-requires c = slot_whole c.args.table.now c.loop-k.k (omega (arith, c.slots-end.ensures))
+
+pub keep-n-requires : goal.keep-n-requires
+keep-n-requires c = record {
+  long = c.requires;
+  whole = slot_whole c.args.table.now c.loop-k.k (omega (arith, c.slots-end.ensures));
+  taken = sym c.shown_at.ensures ∙ c.if-shown_at.true;
+  count = c.loop-k.invariant.1;
+  list = c.loop-k.invariant.2;
+}
+
+pub overflow_add-k : goal.overflow_add-k
+overflow_add-k c = omega (arith, c.slots-end.ensures, slots-most c.args.table.now)
+
+turn : (c : Joined-shown_at)
+    → (c.if-shown_at.n ≡ length (kept c.args.table.now c.args.target.now (c.loop-k.k + 1)))
+    × (c.if-shown_at.at ≡ filled (kept c.args.table.now c.args.target.now (c.loop-k.k + 1)))
+turn c =
+    ⊎_elim
+    (λ w. (w.4 ∙ w.2.ensures.0, w.3 ∙ w.2.ensures.1))
+    (λ w.
+    let e = kept-hidden c.args.table.now c.args.target.now c.loop-k.k (sym c.shown_at.ensures ∙ w.0.left) in
+    (w.2 ∙ c.loop-k.invariant.1 ∙ ap length (sym e), w.1 ∙ c.loop-k.invariant.2 ∙ ap filled (sym e)))
+    c.if-shown_at.branch
+
+pub loop-k-preserved : goal.loop-k-preserved
+loop-k-preserved c = (search rules, (turn c).0, (turn c).1)
 
 pub returns : goal.returns
-returns c = kept-answer c.args.table.now c.args.target.now c.slots-end.result c.requires
-    (subst (λ (k : ℕ). Kept c.args.table.now c.args.target.now c.slots-end.result k c.keep_all-n.new.at c.keep_all-n.result) c.slots-end.ensures c.keep_all-n.ensures)
-    (λ l. absurd (no l))
-  where
-    no : c.slots-end.result < slots_of c.args.table.now → ⊥
-    no l = omega (arith, c.slots-end.ensures)
+returns c = let e : c.loop-k.k ≡ slots_of c.args.table.now = omega (arith, c.slots-end.ensures) in
+    nearest-as c.args.table.now c.args.target.now (kept c.args.table.now c.args.target.now c.loop-k.k) c.loop-k.at c.loop-k.n
+    (nearest-kept c.args.table.now c.args.target.now c.requires ∙ ap (kept c.args.table.now c.args.target.now) (sym e)) c.loop-k.invariant.2 c.loop-k.invariant.1

@@ -1,12 +1,8 @@
 use native.Mathlib.Omega.{arith}
 use Prim.Native.Nat.{◌+◌, ◌-◌, ◌/◌}
 use mathlib.Core.Path.{sym, ◌∙◌}
-use Rattle.contacts.proofs.Ranking.{Halving, halving, halve-left, halve-right, halved, held-length, held-count, held_below}
-use borrow.Author.Rules.{rules}
+use Rattle.contacts.proofs.Sorting.{Halving, halving, halve-left, halve-right, halved, held-length, held-count, held_below}
 use Rattle.contacts.proofs.rank.Goals as goal
-
-pub first_far-w-requires : goal.first_far-w-requires
-first_far-w-requires c = c.requires.whole
 
 pub loop-low-init : goal.loop-low-init
 loop-low-init c = halving c.requires
@@ -21,7 +17,7 @@ pub bounds-at-mid : goal.bounds-at-mid
 bounds-at-mid c = omega (arith, c.loop-low.invariant.within, held-count c.requires, held-length c.requires)
 
 pub closer-requires : goal.closer-requires
-closer-requires c = (c.requires.long, c.requires.whole, omega (arith, c.requires.whole, held_below c.requires ((c.loop-low.low + c.loop-low.high) / 2) (omega (arith, c.loop-low.invariant.within))), c.word-t.ensures, c.first_far-w.ensures)
+closer-requires c = (c.requires.long, c.requires.whole, omega (arith, c.requires.whole, held_below c.requires ((c.loop-low.low + c.loop-low.high) / 2) (omega (arith, c.loop-low.invariant.within))))
 
 pub loop-low-preserved-then-closer : goal.loop-low-preserved-then-closer
 loop-low-preserved-then-closer c = halve-left c.requires c.loop-low.low c.loop-low.high ((c.loop-low.low + c.loop-low.high) / 2) c.loop-low.invariant (omega arith) (omega arith) (sym c.closer.ensures ∙ c.if-closer.true)

@@ -2,8 +2,7 @@
 use native.Mathlib.Omega.{arith}
 use Prim.Native.Nat.{◌+◌, ◌-◌, ◌/◌}
 use mathlib.Core.Path.{sym, ◌∙◌}
-use Rattle.contacts.proofs.Ranking.{Halving, halving, halve-left, halve-right, halved, held-length, held-count, held_below}
-use borrow.Author.Rules.{rules}
+use Rattle.contacts.proofs.Sorting.{Halving, halving, halve-left, halve-right, halved, held-length, held-count, held_below}
 use Rattle.contacts.proofs.rank.Given as goal
 
 abbrev pub invariant-loop-low : goal.invariant-loop-low
