@@ -10,8 +10,8 @@ use native.Mathlib.Omega.{arith}
 use lib.Arith.{digits_lt}
 use lib.Bits.{bit_xor, differ, xor_block, xor_lt, xor_self, xor_comm, xor_step}
 use lib.Dec.{ltb, eqb}
-use lib.ListN.{length, take, drop, length-drop, take-append-drop}
-use lib.Seq.{take-add, take_all, length-take-le}
+use lib.ListN.{length, get_or, take, drop, length-drop, take-append-drop}
+use lib.Seq.{take-add, take_all, drop-cons, length-take-le}
 use borrow.Author.Tests.{ltb-true, lt-ltb, le-ltb, eqb-true, eq-eqb}
 use Rattle.octets.specs.Octets.{Bytes, part, number}
 use Rattle.octets.proofs.Bools.{and_l, and_r, to-false}
@@ -147,6 +147,14 @@ pub word-digit : (m : ℕ) (a x : List ℕ) → digit 8 m a x ≡ bit_xor (numbe
 unfolding distance
 word-digit m a x = let e : m + 8 - m ≡ 8 = omega arith in rw e refl
 
+-- a digit of one byte
+pub byte-digit : (m : ℕ) (a x : List ℕ) → m < length a → m < length x → digit 1 m a x ≡ bit_xor (get_or a m 0) (get_or x m 0)
+unfolding distance number
+byte-digit m a x ha hx = rw (drop-cons a m 0 ha, drop-cons x m 0 hx) (ap₂ bit_xor (one (get_or a m 0)) (one (get_or x m 0)))
+  where
+    one : (b : ℕ) → b * 1 + 0 ≡ b
+    one b = omega arith
+
 -- ---- nearer
 pub nearer-out : (t a b : List ℕ) → nearer_to t a b ≡ true → distance a t < distance b t
 unfolding nearer_to
@@ -189,6 +197,23 @@ module _ (x a b : List ℕ) (i : ℕ) (lx : length x ≡ 32) (la : length a ≡ 
 
   pub word_same : bit_xor v t ≡ bit_xor w t → lead (i + 8) a x ≡ lead (i + 8) b x
   word_same h = lead-same 32 i 8 a b x la lb lx l ba bb bx e (sym digit-a ∙ h ∙ digit-b)
+
+-- ---- the same byte by byte, for callers that read bytes
+module _ (x a b : List ℕ) (i : ℕ) (lx : length x ≡ 32) (la : length a ≡ 32) (lb : length b ≡ 32) (bx : Bytes x) (ba : Bytes a) (bb : Bytes b)
+    (l : i < 32) (e : lead i a x ≡ lead i b x) where
+  pub byte-nearer : bit_xor (get_or a i 0) (get_or x i 0) < bit_xor (get_or b i 0) (get_or x i 0) → true ≡ ltb (distance a x) (distance b x)
+  byte-nearer h =
+      let d : digit 1 i a x < digit 1 i b x = omega (arith, byte-digit i a x (omega arith) (omega arith), byte-digit i b x (omega arith) (omega arith)) in
+      sym (lt-ltb (distance a x) (distance b x) (digit-nearer 32 i 1 a b x la lb lx (omega arith) ba bb bx e d))
+
+  pub byte-farther : bit_xor (get_or b i 0) (get_or x i 0) < bit_xor (get_or a i 0) (get_or x i 0) → false ≡ ltb (distance a x) (distance b x)
+  byte-farther h =
+      let d : digit 1 i b x < digit 1 i a x = omega (arith, byte-digit i a x (omega arith) (omega arith), byte-digit i b x (omega arith) (omega arith)) in
+      let n : distance b x < distance a x = digit-nearer 32 i 1 b a x lb la lx (omega arith) bb ba bx (sym e) d in
+      sym (le-ltb (distance a x) (distance b x) (omega arith))
+
+  pub byte-same : bit_xor (get_or a i 0) (get_or x i 0) ≡ bit_xor (get_or b i 0) (get_or x i 0) → lead (i + 1) a x ≡ lead (i + 1) b x
+  byte-same h = lead-same 32 i 1 a b x la lb lx (omega arith) ba bb bx e (byte-digit i a x (omega arith) (omega arith) ∙ h ∙ sym (byte-digit i b x (omega arith) (omega arith)))
 
 pub never-nearer : (x a b : List ℕ) (i : ℕ) → length x ≡ 32 → length a ≡ 32 → length b ≡ 32 → 32 ≤ i → lead i a x ≡ lead i b x → false ≡ ltb (distance a x) (distance b x)
 never-nearer x a b i lx la lb h e =

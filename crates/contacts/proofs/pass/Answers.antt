@@ -10,7 +10,7 @@ use Rattle.contacts.specs.Inner.{kept}
 use Rattle.contact_table.proofs.Cuts.{slots-most, slot_whole}
 use Rattle.contacts.proofs.Sorting.{kept-hidden, nearest-kept, nearest-as}
 use Rattle.contacts.proofs.pass.Goals as goal
-use Rattle.contacts.proofs.pass.Goals.{Joined-shown_at}
+use Rattle.contacts.proofs.pass.Goals.{Joined-shown_at, then-shown_at, else-shown_at}
 
 pub loop-k-init : goal.loop-k-init
 unfolding kept sorted shown_below sort_onto filled
@@ -35,12 +35,12 @@ turn : (c : Joined-shown_at)
     → (c.if-shown_at.n ≡ length (kept c.args.table.now c.args.target.now (c.loop-k.k + 1)))
     × (c.if-shown_at.at ≡ filled (kept c.args.table.now c.args.target.now (c.loop-k.k + 1)))
 turn c =
-    ⊎_elim
-    (λ w. (w.4 ∙ w.2.ensures.0, w.3 ∙ w.2.ensures.1))
-    (λ w.
-    let e = kept-hidden c.args.table.now c.args.target.now c.loop-k.k (sym c.shown_at.ensures ∙ w.0.left) in
-    (w.2 ∙ c.loop-k.invariant.1 ∙ ap length (sym e), w.1 ∙ c.loop-k.invariant.2 ∙ ap filled (sym e)))
-    c.if-shown_at.branch
+    elim c.if-shown_at.branch [
+      | then-shown_at w ↦ (w.n-is ∙ w.keep-n.ensures.0, w.at-is ∙ w.keep-n.ensures.1)
+      | else-shown_at w ↦
+          let e = kept-hidden c.args.table.now c.args.target.now c.loop-k.k (sym c.shown_at.ensures ∙ w.if-shown_at.false) in
+          (w.n-is ∙ c.loop-k.invariant.1 ∙ ap length (sym e), w.at-is ∙ c.loop-k.invariant.2 ∙ ap filled (sym e))
+    ]
 
 pub loop-k-preserved : goal.loop-k-preserved
 loop-k-preserved c = (search rules, (turn c).0, (turn c).1)
