@@ -1,4 +1,0 @@
-pub mod Further
-pub mod Thin
-pub mod Whole
-pub mod Forms
