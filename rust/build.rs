@@ -79,7 +79,7 @@ fn tool(variable: &str, here: &str, across: &str) -> Command {
 /// In a checkout whose crates have changed since dist/ was written, what is linked isn't what stands in crates/.
 fn warn_of_other_sources(source: &Path) {
     let root = package().join("..");
-    let Ok(said) = Command::new(root.join("tools/sources")).arg("host").output() else { return };
+    let Ok(said) = Command::new(root.join("tools/sources")).arg("host_c").output() else { return };
     println!("cargo:rerun-if-changed={}", root.join("crates").display());
     println!("cargo:rerun-if-changed={}", root.join("crates.txt").display());
     let sum = String::from_utf8_lossy(&said.stdout);
@@ -97,7 +97,7 @@ fn prove(archive: &Path) {
         println!("cargo:rerun-if-changed={}", root.join(source).display());
     }
     let mut build = Command::new(root.join("tools/native-lib"));
-    build.arg("host").arg(archive).arg(machine());
+    build.arg("host_c").arg(archive).arg(machine());
     if let Ok(terminal) = fs::OpenOptions::new().write(true).open("/dev/tty") {
         build.stderr(terminal);
     }
