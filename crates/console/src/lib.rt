@@ -9,6 +9,9 @@ ghost use Rattle.console.specs.Console.{goes_on, Sent, Follows, stand, Turns, Us
 use node::{Answer, Conn};
 use peer::Peer;
 use refusal::Refusal;
+use std::env::{Env, FillError};
+use std::io;
+use std::io::{ErrorKind, Print, Read};
 use stream::Ending;
 
 // The largest piece, and the one that is read where no argument says another.
@@ -79,132 +82,161 @@ fn front(s: &[u8], n: usize) -> &[u8] {
     &s[..n]
 }
 
-// Whether a read or a write failed, by what it answered. One that a signal interrupted before it moved a byte didn't.
-fn failed(answered: isize) -> bool {
-    if 0 <= answered {
-        return false;
-    }
-    os::errno() != libc::EINTR
+// Whether a read or a write failed, by the error that it gave. One that a signal interrupted before it moved a byte didn't.
+fn failed(e: &io::Error) -> bool {
+    e.kind() != ErrorKind::Interrupted
 }
 
-// Writes all of the bytes, in as many writes as that takes. False where one fails or takes nothing: then some may have been written. A proved loop has
+// Writes all of the bytes, in as many writes as that takes. An error where one fails or takes nothing: then some may have been written. A proved loop has
 // to end, so the turns are counted down from a number that no run uses up.
-fn put(fd: i32, bytes: &[u8]) -> bool {
+fn put<P: Print>(to: &P, bytes: &[u8]) -> io::Result<()> {
     let mut done: usize = 0;
     let mut turns = u64::MAX;
     while done < bytes.len() {
-        let moved = libc::write(fd, &bytes[done..]);
-        if moved == 0 {
-            return false;
-        }
-        if failed(moved) {
-            return false;
+        match to.write_some(&bytes[done..]) {
+            Ok(0) => return Err(io::Error::from(ErrorKind::WriteZero)),
+            Ok(n) => done = onward(done, n, bytes.len()),
+            Err(e) => {
+                if failed(&e) {
+                    return Err(e);
+                }
+            }
         }
         if turns == 0 {
-            return false;
+            return Err(io::Error::from(ErrorKind::Interrupted));
         }
-        done = onward(done, io::count(moved, bytes), bytes.len());
         turns -= 1;
     }
-    true
+    Ok(())
 }
 
-fn say(text: &[u8]) {
-    put(libc::STDERR_FILENO, text);
+fn say(rt: HostRuntime, text: &[u8]) {
+    let _ = put(&rt.stderr(), text);
 }
 
-fn count(n: usize) {
-    io::print_decimal(libc::STDERR_FILENO, n as u64);
+fn count(rt: HostRuntime, n: usize) {
+    let _ = rt.eprint(n);
 }
 
-// The usage. Whether all of it was written.
-fn usage(fd: i32) -> bool {
-    put(fd, b"usage: starterbell [PIECE]\n")
-        && put(
-            fd,
-            b"Standard input is one client's connection: length-prefixed requests. The replies go to standard output.\n",
-        )
-        && put(
-            fd,
-            b"PIECE is how many bytes are read at a time, 1 to 4096 (4096 where none is given). The replies don't depend on it.\n",
-        )
-        && put(
-            fd,
-            b"A refusal, an end inside a message, or a read or write that fails ends the run, and standard error says which.\n",
-        )
-        && put(
-            fd,
-            b"The exit status doesn't: it is 0 unless a signal ended the program. A script looks whether standard error is empty.\n",
-        )
-        && put(
-            fd,
-            b"The box is lent 12,320 bytes for contacts, 205,312 for records, 16,384 to receive and 16,387 to reply.\n",
-        )
-        && put(
-            fd,
-            b"-h or --help in place of PIECE writes this to standard output.\n",
-        )
+// The system's reason, as the C library words it, with no number after it. Where there is no memory to take the number off, it stays.
+fn because(rt: HostRuntime, e: io::Error) {
+    match format!(in rt.alloc(); "{e}") {
+        Ok(text) => match text.split_once(" (os error ") {
+            Some((reason, _)) => say(rt, reason.as_bytes()),
+            None => say(rt, text.as_bytes()),
+        },
+        Err(_) => {
+            let _ = rt.eprint(e);
+        }
+    }
 }
 
-fn help() {
-    if !usage(libc::STDOUT_FILENO) {
-        os::fail(b"starterbell: the usage can't be written to standard output");
+// Says what failed, and why.
+fn fail(rt: HostRuntime, what: &[u8], e: io::Error) {
+    say(rt, what);
+    say(rt, b": ");
+    because(rt, e);
+    say(rt, b"\n");
+}
+
+// The usage. An error where not all of it was written.
+fn usage<P: Print>(to: &P) -> io::Result<()> {
+    put(to, b"usage: starterbell [PIECE]\n")?;
+    put(
+        to,
+        b"Standard input is one client's connection: length-prefixed requests. The replies go to standard output.\n",
+    )?;
+    put(
+        to,
+        b"PIECE is how many bytes are read at a time, 1 to 4096 (4096 where none is given). The replies don't depend on it.\n",
+    )?;
+    put(
+        to,
+        b"A refusal, an end inside a message, or a read or write that fails ends the run, and standard error says which.\n",
+    )?;
+    put(
+        to,
+        b"The exit status doesn't: it is 0 unless a signal ended the program. A script looks whether standard error is empty.\n",
+    )?;
+    put(
+        to,
+        b"The box is lent 12,320 bytes for contacts, 205,312 for records, 16,384 to receive and 16,387 to reply.\n",
+    )?;
+    put(
+        to,
+        b"-h or --help in place of PIECE writes this to standard output.\n",
+    )
+}
+
+fn help(rt: HostRuntime) {
+    if let Err(e) = usage(&rt.stdout()) {
+        fail(
+            rt,
+            b"starterbell: the usage can't be written to standard output",
+            e,
+        );
     }
 }
 
 // What is wrong with the arguments.
-fn misused(what: &[u8]) {
-    say(b"starterbell: ");
-    say(what);
-    say(b"\n");
-    usage(libc::STDERR_FILENO);
+fn misused(rt: HostRuntime, what: &[u8]) {
+    say(rt, b"starterbell: ");
+    say(rt, what);
+    say(rt, b"\n");
+    let _ = usage(&rt.stderr());
 }
 
 // Why a client's bytes are refused. The others can't be given to this program's box, whose memory is its own.
-fn reason(r: Refusal) {
+fn reason(rt: HostRuntime, r: Refusal) {
     match r {
-        Refusal::PrefixNotMinimal => say(b": a length prefix isn't minimal"),
-        Refusal::TooLong => say(b": a message is over 16,384 bytes"),
-        Refusal::Malformed => say(b": a message isn't well formed"),
-        Refusal::UnknownType => say(b": a message's type isn't 0 to 5"),
-        Refusal::Providers => say(b": providers (types 2 and 3) aren't kept"),
-        Refusal::BreaksRules => say(b": a key or record breaks the request rules"),
-        Refusal::BrokenRecipe => say(b": a recipe is broken"),
-        Refusal::Outranked => say(b": the held record ranks higher"),
-        Refusal::NoRecordSlot => say(b": every record slot holds another key"),
-        Refusal::EndedInside => say(b": the input ends inside a message"),
+        Refusal::PrefixNotMinimal => say(rt, b": a length prefix isn't minimal"),
+        Refusal::TooLong => say(rt, b": a message is over 16,384 bytes"),
+        Refusal::Malformed => say(rt, b": a message isn't well formed"),
+        Refusal::UnknownType => say(rt, b": a message's type isn't 0 to 5"),
+        Refusal::Providers => say(rt, b": providers (types 2 and 3) aren't kept"),
+        Refusal::BreaksRules => say(rt, b": a key or record breaks the request rules"),
+        Refusal::BrokenRecipe => say(rt, b": a recipe is broken"),
+        Refusal::Outranked => say(rt, b": the held record ranks higher"),
+        Refusal::NoRecordSlot => say(rt, b": every record slot holds another key"),
+        Refusal::EndedInside => say(rt, b": the input ends inside a message"),
         _ => (),
     }
 }
 
 // The refusal that ended the run.
-fn tell(r: Refusal) {
-    say(b"starterbell: refused with ");
-    count(refusal::number(r) as usize);
-    reason(r);
-    say(b"\n");
+fn tell(rt: HostRuntime, r: Refusal) {
+    say(rt, b"starterbell: refused with ");
+    count(rt, refusal::number(r) as usize);
+    reason(rt, r);
+    say(rt, b"\n");
 }
 
 // Writes a reply. Where that fails the bytes after this request are never read as something else: the run stops.
-fn send(reply: &[u8]) -> After
+fn send(rt: HostRuntime, reply: &[u8]) -> After
     ensures { Sent result }
 {
-    if put(libc::STDOUT_FILENO, reply) {
-        return After::On;
+    match put(&rt.stdout(), reply) {
+        Ok(()) => After::On,
+        Err(e) => {
+            fail(
+                rt,
+                b"starterbell: a reply can't be written to standard output",
+                e,
+            );
+            After::Stop
+        }
     }
-    os::fail(b"starterbell: a reply can't be written to standard output");
-    After::Stop
 }
 
 // What comes after an answer: its reply is written, its refusal told.
-fn deal(answer: Answer, reply: &[u8]) -> After
+fn deal(rt: HostRuntime, answer: Answer, reply: &[u8]) -> After
     ensures { Follows answer result }
 {
     match answer {
-        Answer::Reply(n) => send(front(reply, n)),
+        Answer::Reply(n) => send(rt, front(reply, n)),
         Answer::Heard(_, _) => After::On,
         Answer::Refused(r) => {
-            tell(r);
+            tell(rt, r);
             After::Stop
         }
         Answer::More => After::On,
@@ -213,6 +245,7 @@ fn deal(answer: Answer, reply: &[u8]) -> After
 
 // One call, and what comes after it.
 fn call(
+    rt: HostRuntime,
     me: Peer,
     conn: Conn,
     buffer: &mut [u8],
@@ -225,7 +258,7 @@ fn call(
 {
     let r = node::receive(me, conn, buffer, rest, contacts, records, reply);
     let a = r.answer;
-    let after = deal(a, reply);
+    let after = deal(rt, a, reply);
     let c = r.conn;
     Turn {
         conn: c,
@@ -247,6 +280,7 @@ fn stopped(conn: Conn, taken: usize) -> Turn
 // A piece, call after call until it is used up. Each call after which the run goes on takes a byte, so there are no more calls than bytes, and the
 // turns, by which the loop is seen to end, don't run out.
 fn feed(
+    rt: HostRuntime,
     me: Peer,
     conn: Conn,
     buffer: &mut [u8],
@@ -264,7 +298,7 @@ fn feed(
         if turns == 0 {
             return stopped(c, from);
         }
-        let t = call(me, c, buffer, &piece[from..], contacts, records, reply);
+        let t = call(rt, me, c, buffer, &piece[from..], contacts, records, reply);
         c = t.conn;
         let a = t.after;
         if !goes_on(a) {
@@ -285,18 +319,21 @@ fn feed(
 }
 
 // Reads once, at most so many bytes, which the piece has to have. A failure is said at once, before another call of the system hides its reason.
-fn read_into(piece: &mut [u8], most: usize) -> Got
+fn read_into(rt: HostRuntime, piece: &mut [u8], most: usize) -> Got
     requires { most ≤ length piece.old }
 {
-    let got = libc::read(libc::STDIN_FILENO, &mut piece[..most]);
-    if got == 0 {
-        return Got::End;
+    let mut input = rt.stdin();
+    match input.read(&mut piece[..most]) {
+        Ok(0) => Got::End,
+        Ok(n) => Got::Bytes(n),
+        Err(e) => {
+            if failed(&e) {
+                fail(rt, b"starterbell: standard input can't be read", e);
+                return Got::Failed;
+            }
+            Got::Bytes(0)
+        }
     }
-    if failed(got) {
-        os::fail(b"starterbell: standard input can't be read");
-        return Got::Failed;
-    }
-    Got::Bytes(io::count(got, piece))
 }
 
 // The size of a piece that is nearest to a number.
@@ -314,6 +351,7 @@ fn fit(size: usize) -> usize
 
 // Reads once and hands the bytes over.
 fn read_once(
+    rt: HostRuntime,
     me: Peer,
     conn: Conn,
     size: usize,
@@ -323,9 +361,18 @@ fn read_once(
     reply: &mut [u8],
 ) -> Turn {
     let mut piece = [0u8; PIECE];
-    let got = read_into(&mut piece, fit(size));
+    let got = read_into(rt, &mut piece, fit(size));
     match got {
-        Got::Bytes(n) => feed(me, conn, buffer, front(&piece, n), contacts, records, reply),
+        Got::Bytes(n) => feed(
+            rt,
+            me,
+            conn,
+            buffer,
+            front(&piece, n),
+            contacts,
+            records,
+            reply,
+        ),
         Got::End => Turn {
             conn,
             taken: 0,
@@ -337,6 +384,7 @@ fn read_once(
 
 // The whole input, until it ends or the run stops. Nothing says that an input ends, so the turns are counted down here too.
 fn pump(
+    rt: HostRuntime,
     me: Peer,
     conn: Conn,
     size: usize,
@@ -350,7 +398,7 @@ fn pump(
     let mut c = conn;
     let mut turns = u64::MAX;
     while 0 < turns {
-        let t = read_once(me, c, size, buffer, contacts, records, reply);
+        let t = read_once(rt, me, c, size, buffer, contacts, records, reply);
         c = t.conn;
         let a = t.after;
         if !goes_on(a) {
@@ -362,17 +410,17 @@ fn pump(
 }
 
 // The input is over. An end inside a message is refused.
-fn finish(me: Peer, conn: Conn) {
+fn finish(rt: HostRuntime, me: Peer, conn: Conn) {
     let e = node::end(me, conn);
     let a = e.answer;
     match a {
         Ending::Clean => (),
-        Ending::Refused(r) => tell(r),
+        Ending::Refused(r) => tell(rt, r),
     }
 }
 
 // Serves standard input in pieces of some bytes, 1 to PIECE: for any other number those that are nearest to it.
-pub fn serve(size: usize) {
+pub fn serve(rt: HostRuntime, size: usize) {
     let mut contacts = [0u8; CONTACTS];
     let mut records = [0u8; RECORDS];
     let mut buffer = [0u8; limits::MOST_BODY];
@@ -383,6 +431,7 @@ pub fn serve(size: usize) {
     let opened = node::open(me, b"client", false, false, &nowhere);
     let conn = opened.conn;
     let last = pump(
+        rt,
         me,
         conn,
         size,
@@ -394,7 +443,7 @@ pub fn serve(size: usize) {
     let c = last.conn;
     let a = last.after;
     match a {
-        After::End => finish(me, c),
+        After::End => finish(rt, me, c),
         _ => (),
     }
 }
@@ -422,36 +471,43 @@ fn number(text: &[u8]) -> usize
     n
 }
 
+// Whether there are so many arguments; some room for one of them has to be lent.
+fn has_argument(rt: HostRuntime, many: usize, room: &mut [u8]) -> bool {
+    match rt.arg(many, room) {
+        Ok(_) => true,
+        Err(FillError::TooLong) => true,
+        Err(FillError::NotPresent) => false,
+    }
+}
+
 // The program with its one argument: the size of a piece, or the wish for the usage.
-fn with_argument(text: &[u8]) {
+fn with_argument(rt: HostRuntime, text: &[u8]) {
     if octets::same_bytes(text, b"--help") {
-        help();
+        help(rt);
         return;
     }
     if octets::same_bytes(text, b"-h") {
-        help();
+        help(rt);
         return;
     }
     let size = number(text);
     if fit(size) != size {
-        misused(b"PIECE isn't a number from 1 to 4096");
+        misused(rt, b"PIECE isn't a number from 1 to 4096");
         return;
     }
-    serve(size);
+    serve(rt, size);
 }
 
 // The program.
-pub fn start() {
-    let words = os::arg_count();
-    if words < 2 {
-        serve(PIECE);
+pub fn start(rt: HostRuntime) {
+    let mut text = [0u8; 4096];
+    if has_argument(rt, 2, &mut text) {
+        misused(rt, b"there is more than one argument");
         return;
     }
-    if 2 < words {
-        misused(b"there is more than one argument");
-        return;
+    match rt.arg(1, &mut text) {
+        Ok(n) => with_argument(rt, &text[..n]),
+        Err(FillError::TooLong) => misused(rt, b"PIECE isn't a number from 1 to 4096"),
+        Err(FillError::NotPresent) => serve(rt, PIECE),
     }
-    let mut text = io::buffer();
-    let n = os::arg(1, &mut text);
-    with_argument(&text[..n]);
 }

@@ -8,6 +8,8 @@ ghost use Rattle.contact_structs.specs.Structs.{contacts_after};
 
 use contact_slots::Contact;
 use peer::Peer;
+use std::io;
+use std::io::{Print, Stdout};
 
 // The two contacts after a server was seen.
 fn after_seen(
@@ -24,47 +26,47 @@ fn after_seen(
     t
 }
 
-fn say(text: &[u8]) {
-    io::write_all(libc::STDOUT_FILENO, text);
+fn say(out: Stdout, text: &[u8]) -> io::Result<()> {
+    out.write_all(text)
 }
 
 fn wide(x: u8) -> u64 {
     x as u64
 }
 
-fn tell(c: Contact) {
+fn tell(out: Stdout, c: Contact) -> io::Result<()> {
     let mark = c.mark;
     if mark == 0 {
-        say(b"-");
-        return;
+        return say(out, b"-");
     }
     let p = c.peer;
     let id = p.id;
     let first = [id[0]];
-    say(&first);
-    io::print_decimal(libc::STDOUT_FILENO, wide(mark));
+    say(out, &first)?;
+    out.print(wide(mark))
 }
 
-fn tell_both(pair: [Contact; 2]) {
-    tell(pair[0]);
-    say(b" ");
-    tell(pair[1]);
-    say(b"\n");
+fn tell_both(out: Stdout, pair: [Contact; 2]) -> io::Result<()> {
+    tell(out, pair[0])?;
+    say(out, b" ")?;
+    tell(out, pair[1])?;
+    say(out, b"\n")
 }
 
-fn main() {
+fn main(rt: HostRuntime) -> io::Result<()> {
+    let out = rt.stdout();
     let place = place::place_of(b"us");
     let me = peer::peer_of(b"us", place, b"");
     let free = contact_slots::contact_in(b"", 0);
     let none = [free; 2];
     let mut room = [0u8; 1232];
     let one = after_seen(me, none, &mut room, b"c", b"");
-    tell_both(one);
+    tell_both(out, one)?;
     let two = after_seen(me, one, &mut room, b"d", b"");
-    tell_both(two);
+    tell_both(out, two)?;
     let moved = after_seen(me, two, &mut room, b"c", b"");
-    tell_both(moved);
+    tell_both(out, moved)?;
     let mut short = [0u8; 1231];
     let same = after_seen(me, moved, &mut short, b"d", b"");
-    tell_both(same);
+    tell_both(out, same)
 }

@@ -10,6 +10,8 @@ ghost use Rattle.std.specs.Prelude.{◌≤◌, ◌<◌};
 
 use contact_calls::{Removed, Settled, Sighting};
 use refusal::Refusal;
+use std::io;
+use std::io::{Print, Stdout};
 
 // What a call answered: a letter, and the slot that it named.
 #[derive(Drop)]
@@ -27,12 +29,12 @@ struct Run {
     letter: u8,
 }
 
-fn say(text: &[u8]) {
-    io::write_all(libc::STDOUT_FILENO, text);
+fn say(to: Stdout, text: &[u8]) -> io::Result<()> {
+    to.write_all(text)
 }
 
-fn count(n: usize) {
-    io::print_decimal(libc::STDOUT_FILENO, n as u64);
+fn count(to: Stdout, n: usize) -> io::Result<()> {
+    to.print(n)
 }
 
 fn refused(r: Refusal) -> u8 {
@@ -257,7 +259,7 @@ fn put_letter(line: &mut [u8], i: usize, letter: u8) {
 }
 
 // A hundred calls, on a line.
-fn hundred(table: &mut [u8], ours: &[u8], start: Run) -> Run {
+fn hundred(to: Stdout, table: &mut [u8], ours: &[u8], start: Run) -> io::Result<Run> {
     let mut out = [0u8; 100];
     let mut run = start;
     let mut i: usize = 0;
@@ -266,16 +268,16 @@ fn hundred(table: &mut [u8], ours: &[u8], start: Run) -> Run {
         put_letter(&mut out, i, run.letter);
         i += 1;
     }
-    say(&out);
-    say(b"\n");
-    run
+    say(to, &out)?;
+    say(to, b"\n")?;
+    Ok(run)
 }
 
-fn tell_table(table: &[u8]) {
+fn tell_table(to: Stdout, table: &[u8]) -> io::Result<()> {
     let digest = sha256::hash(table);
-    say(b"table ");
-    io::print_decimal(libc::STDOUT_FILENO, octets::word(&digest, 0));
-    say(b"\n");
+    say(to, b"table ")?;
+    to.print(octets::word(&digest, 0))?;
+    say(to, b"\n")
 }
 
 // A peer is seen if it is of bucket 0; else the letter is a dot.
@@ -301,35 +303,38 @@ fn one_more(joined: u8, letter: u8) -> u8 {
     joined + 1
 }
 
-fn tell_full(joined: u8, head: usize) {
-    say(b"bucket 0: ");
-    count(joined as usize);
-    say(b" joined, and the next is refused with 13; the head is in slot ");
-    count(head);
-    say(b"\n");
+fn tell_full(to: Stdout, joined: u8, head: usize) -> io::Result<()> {
+    say(to, b"bucket 0: ")?;
+    count(to, joined as usize)?;
+    say(
+        to,
+        b" joined, and the next is refused with 13; the head is in slot ",
+    )?;
+    count(to, head)?;
+    say(to, b"\n")
 }
 
 // Peers of bucket 0 are seen until one is turned away.
-fn fill_bucket(table: &mut [u8], ours: &[u8]) {
+fn fill_bucket(to: Stdout, table: &mut [u8], ours: &[u8]) -> io::Result<()> {
     let mut joined: u8 = 0;
     let mut id: u8 = 0;
     while id < 200 {
         let told = see_near(table, ours, id);
         if told.letter == b'N' {
-            tell_full(joined, told.slot);
-            return;
+            return tell_full(to, joined, told.slot);
         }
         joined = one_more(joined, told.letter);
         id += 1;
     }
+    Ok(())
 }
 
 // The table's hash, after every fifth line.
-fn tell_fifth(table: &[u8], k: usize) {
+fn tell_fifth(to: Stdout, table: &[u8], k: usize) -> io::Result<()> {
     if k % 5 != 0 {
-        return;
+        return Ok(());
     }
-    tell_table(table);
+    tell_table(to, table)
 }
 
 // ---- a crowd of peers, with ids of four bytes
@@ -405,47 +410,49 @@ fn thousand(table: &mut [u8], ours: &[u8], tally: &mut [usize], start: u32) -> u
     seed
 }
 
-fn tell_letter(tally: &[usize], letter: u8) {
+fn tell_letter(to: Stdout, tally: &[usize], letter: u8) -> io::Result<()> {
     let k = letter as usize;
     if tally.len() <= k {
-        return;
+        return Ok(());
     }
     let text = [b' ', letter, b' '];
-    say(&text);
-    count(tally[k]);
+    say(to, &text)?;
+    count(to, tally[k])
 }
 
-fn tell_tally(tally: &[usize]) {
-    say(b"crowd:");
-    tell_letter(tally, b'm');
-    tell_letter(tally, b'j');
-    tell_letter(tally, b'N');
-    tell_letter(tally, b'O');
-    tell_letter(tally, b'k');
-    tell_letter(tally, b'w');
-    tell_letter(tally, b'P');
-    tell_letter(tally, b'g');
-    say(b"\n");
+fn tell_tally(to: Stdout, tally: &[usize]) -> io::Result<()> {
+    say(to, b"crowd:")?;
+    tell_letter(to, tally, b'm')?;
+    tell_letter(to, tally, b'j')?;
+    tell_letter(to, tally, b'N')?;
+    tell_letter(to, tally, b'O')?;
+    tell_letter(to, tally, b'k')?;
+    tell_letter(to, tally, b'w')?;
+    tell_letter(to, tally, b'P')?;
+    tell_letter(to, tally, b'g')?;
+    say(to, b"\n")
 }
 
-fn crowd(ours: &[u8]) {
+fn crowd(to: Stdout, ours: &[u8]) -> io::Result<()> {
     let mut table = [0u8; 118272];
     let mut tally = [0usize; 128];
     let mut seed: u32 = 88172645;
     let mut k: usize = 0;
     while k < 6 {
         seed = thousand(&mut table, ours, &mut tally, seed);
-        tell_tally(&tally);
-        tell_table(&table);
+        tell_tally(to, &tally)?;
+        tell_table(to, &table)?;
         k += 1;
     }
+    Ok(())
 }
 
-fn main() {
+fn main(rt: HostRuntime) -> io::Result<()> {
+    let to = rt.stdout();
     let mut table = [0u8; 39424];
     let ours = place::place_of(b"ours");
-    fill_bucket(&mut table, &ours);
-    tell_table(&table);
+    fill_bucket(to, &mut table, &ours)?;
+    tell_table(to, &table)?;
     let mut run = Run {
         seed: 2463534242,
         head: 0,
@@ -454,9 +461,9 @@ fn main() {
     };
     let mut k: usize = 0;
     while k < 30 {
-        run = hundred(&mut table, &ours, run);
+        run = hundred(to, &mut table, &ours, run)?;
         k += 1;
-        tell_fifth(&table, k);
+        tell_fifth(to, &table, k)?;
     }
-    crowd(&ours);
+    crowd(to, &ours)
 }

@@ -4,11 +4,12 @@
 // nobody has. The last example is that of RULES, Examples: 256 candidates, and a 257th marks.
 ghost use Rattle.std.specs.Prelude.{◌<◌, ◌≤◌};
 
-use libc::STDOUT_FILENO;
 use lookup::{Answer, Candidate};
 use lookup_marks::Ranks;
 use lookup_value::Lookup;
 use message::Reading;
+use std::io;
+use std::io::{Print, Stdout};
 
 // How a peer behaves, and a network that has such peers.
 const HONEST: u8 = 0;
@@ -33,12 +34,12 @@ const NOBODY: usize = 1000;
 
 const REPLY: usize = 142;
 
-fn say(text: &[u8]) {
-    io::write_all(STDOUT_FILENO, text);
+fn say(out: Stdout, text: &[u8]) -> io::Result<()> {
+    out.write_all(text)
 }
 
-fn say_number(n: usize) {
-    io::print_decimal(STDOUT_FILENO, n as u64);
+fn say_number(out: Stdout, n: usize) -> io::Result<()> {
+    out.print(n)
 }
 
 // Our own id, and its place.
@@ -421,45 +422,43 @@ fn true_ones(l: Lookup, found: Ranks, near: [usize; 20]) -> usize {
     n
 }
 
-fn say_state(state: u8) {
+fn say_state(out: Stdout, state: u8) -> io::Result<()> {
     if state == 1 {
-        say(b"complete");
-        return;
+        return say(out, b"complete");
     }
     if state == 2 {
-        say(b"cut short");
-        return;
+        return say(out, b"cut short");
     }
-    say(b"not over");
+    say(out, b"not over")
 }
 
 // Writes how a lookup ended.
-fn report(l: Lookup, near: [usize; 20]) {
+fn report(out: Stdout, l: Lookup, near: [usize; 20]) -> io::Result<()> {
     let s = l.next();
     let a = s.answer;
     let found = s.found;
-    say_state(over_of(a));
-    say(b", found ");
-    say_number(found.n);
-    say(b", of the true twenty ");
-    say_number(true_ones(l, found, near));
-    say(b", requests ");
-    say_number(sent_of(a));
-    say(b", candidates ");
-    say_number(count_of(l));
-    say(b"\n");
+    say_state(out, over_of(a))?;
+    say(out, b", found ")?;
+    say_number(out, found.n)?;
+    say(out, b", of the true twenty ")?;
+    say_number(out, true_ones(l, found, near))?;
+    say(out, b", requests ")?;
+    say_number(out, sent_of(a))?;
+    say(out, b", candidates ")?;
+    say_number(out, count_of(l))?;
+    say(out, b"\n")
 }
 
 // A lookup of a key of one byte on a network of n peers.
-fn look_up(places: &[u8], n: usize, key: u8, network: u8) {
+fn look_up(out: Stdout, places: &[u8], n: usize, key: u8, network: u8) -> io::Result<()> {
     let me = our_id();
     let table = small_table();
     let k = [key];
     let s = Lookup::start(&table, &me, our_place(), &k, 3);
     let l = run_on(s.lookup, network, places, n);
-    say_number(n);
-    say(b" peers: ");
-    report(l, nearest_known(places, n, target_of(l), NOBODY));
+    say_number(out, n)?;
+    say(out, b" peers: ")?;
+    report(out, l, nearest_known(places, n, target_of(l), NOBODY))
 }
 
 // ---- RULES, Examples: "256 candidates: a 257th marks."
@@ -498,14 +497,13 @@ fn fill_up(l: Lookup, n: usize) -> Lookup
     answers(asked, last_in_flight(asked), n)
 }
 
-fn say_filled(l: Lookup) {
-    say(b"candidates ");
-    say_number(count_of(l));
+fn say_filled(out: Stdout, l: Lookup) -> io::Result<()> {
+    say(out, b"candidates ")?;
+    say_number(out, count_of(l))?;
     if turned_away(l) {
-        say(b", someone turned away\n");
-        return;
+        return say(out, b", someone turned away\n");
     }
-    say(b", nobody turned away\n");
+    say(out, b", nobody turned away\n")
 }
 
 // Twelve times 20 newcomers, and 15 more.
@@ -519,28 +517,29 @@ fn filled(first: Lookup) -> Lookup {
     fill_up(l, 235)
 }
 
-fn fill() {
+fn fill(out: Stdout) -> io::Result<()> {
     let me = our_id();
     let table = small_table();
     let k = [9u8];
     let s = Lookup::start(&table, &me, our_place(), &k, 3);
     let l = filled(s.lookup);
-    say_filled(l);
-    say_filled(fill_up(l, 236));
+    say_filled(out, l)?;
+    say_filled(out, fill_up(l, 236))
 }
 
-fn main() {
+fn main(rt: HostRuntime) -> io::Result<()> {
+    let out = rt.stdout();
     let mut places = [0u8; 32000];
     fill_places(&mut places);
-    look_up(&places, 40, 0, HONEST);
-    look_up(&places, 200, 1, HONEST);
-    look_up(&places, 1000, 2, HONEST);
-    look_up(&places, 1000, 3, HONEST);
-    look_up(&places, 40, 4, SILENT);
-    look_up(&places, 1000, 5, SILENT);
-    look_up(&places, 40, 6, LYING);
-    look_up(&places, 1000, 7, LYING);
-    look_up(&places, 40, 8, CHATTY);
-    look_up(&places, 1000, 9, CHATTY);
-    fill();
+    look_up(out, &places, 40, 0, HONEST)?;
+    look_up(out, &places, 200, 1, HONEST)?;
+    look_up(out, &places, 1000, 2, HONEST)?;
+    look_up(out, &places, 1000, 3, HONEST)?;
+    look_up(out, &places, 40, 4, SILENT)?;
+    look_up(out, &places, 1000, 5, SILENT)?;
+    look_up(out, &places, 40, 6, LYING)?;
+    look_up(out, &places, 1000, 7, LYING)?;
+    look_up(out, &places, 40, 8, CHATTY)?;
+    look_up(out, &places, 1000, 9, CHATTY)?;
+    fill(out)
 }

@@ -53,7 +53,7 @@ fn begins(s: &[u8], name: &[u8]) -> bool
     if s.len() < n {
         return false;
     }
-    check::same(&s[..n], name)
+    &s[..n] == name
 }
 
 // A line whose value stands from `from` up to `to`, and after which the next one starts at `next`. Where `found` is false the line has

@@ -7,11 +7,13 @@
 mod hex;
 mod lines;
 
-ghost use Rattle.std.specs.Prelude.{◌≡◌, true, ◌+◌, ◌*◌, ◌≤◌, ◌<◌, length, replicate};
+ghost use Rattle.std.specs.Prelude.{IfOk, ◌≡◌, true, ◌+◌, ◌*◌, ◌≤◌, ◌<◌, length, replicate};
 ghost use Rattle.sha256.specs.Sha256.{sha256};
 
-use libc::STDOUT_FILENO;
 use lines::{Line, Number};
+use std::fs::File;
+use std::io;
+use std::io::{Print, Read, Stdout};
 
 // What is known of a file that is read up to `at`. Where `whole` is false the rest of it was given up.
 #[derive(Drop)]
@@ -43,18 +45,18 @@ struct Digest {
     bytes: [u8; 32],
 }
 
-fn say(text: &[u8]) {
-    io::write_all(STDOUT_FILENO, text);
+fn say(out: Stdout, text: &[u8]) -> io::Result<()> {
+    out.write_all(text)
 }
 
-fn say_number(n: usize) {
-    io::print_decimal(STDOUT_FILENO, n as u64);
+fn say_number(out: Stdout, n: usize) -> io::Result<()> {
+    out.print(n)
 }
 
 // Starts a line on the file `name`.
-fn say_name(name: &[u8]) {
-    say(name);
-    say(b": ");
+fn say_name(out: Stdout, name: &[u8]) -> io::Result<()> {
+    say(out, name)?;
+    say(out, b": ")
 }
 
 // Whether the hash of `message` is `digest`.
@@ -62,7 +64,7 @@ fn agrees(message: &[u8], digest: &[u8]) -> bool
     ensures { result ≡ true → sha256 message.now ≡ digest.now }
 {
     let got = sha256::hash(message);
-    check::same(&got, digest)
+    got.as_slice() == digest
 }
 
 // How many bytes a message has whose length line says `bits` and whose message line has `digits` digits. The message of no bits is
@@ -141,29 +143,29 @@ fn digest_of(text: &[u8], line: Line) -> Digest
 }
 
 // Gives the rest of a text of `size` bytes up, where it isn't what a vector file holds.
-fn give_up(name: &[u8], t: Tally, size: usize) -> Tally
-    ensures { (result.at ≡ size) × (result.vectors ≡ t.vectors) × (result.agreed ≡ t.agreed) }
+fn give_up(out: Stdout, name: &[u8], t: Tally, size: usize) -> io::Result<Tally>
+    ensures { IfOk result (λ r. (r.at ≡ size) × (r.vectors ≡ t.vectors) × (r.agreed ≡ t.agreed)) }
 {
-    say_name(name);
-    say(b"MALFORMED from byte ");
-    say_number(t.at);
-    say(b" on, which is not read\n");
-    Tally {
+    say_name(out, name)?;
+    say(out, b"MALFORMED from byte ")?;
+    say_number(out, t.at)?;
+    say(out, b" on, which is not read\n")?;
+    Ok(Tally {
         at: size,
         vectors: t.vectors,
         agreed: t.agreed,
         whole: false,
-    }
+    })
 }
 
 // Says that the vector at `at` disagrees.
-fn accuse(name: &[u8], at: usize, bytes: usize) {
-    say_name(name);
-    say(b"the vector at byte ");
-    say_number(at);
-    say(b", a message of ");
-    say_number(bytes);
-    say(b" bytes, DISAGREES\n");
+fn accuse(out: Stdout, name: &[u8], at: usize, bytes: usize) -> io::Result<()> {
+    say_name(out, name)?;
+    say(out, b"the vector at byte ")?;
+    say_number(out, at)?;
+    say(out, b", a message of ")?;
+    say_number(out, bytes)?;
+    say(out, b" bytes, DISAGREES\n")
 }
 
 // Whether each of a vector's three lines is there.
@@ -210,9 +212,9 @@ fn counted(t: Tally, next: usize, more: usize) -> Tally
 }
 
 // The vector at `t.at`.
-fn judge(name: &[u8], text: &[u8], t: Tally, room: &mut [u8]) -> Tally
+fn judge(out: Stdout, name: &[u8], text: &[u8], t: Tally, room: &mut [u8]) -> io::Result<Tally>
     requires { (t.at < length text.now) × (t.vectors ≤ t.at) × (t.agreed ≤ t.vectors) }
-    ensures { (t.at < result.at) × (result.at ≤ length text.now) × (result.vectors ≤ result.at) × (result.agreed ≤ result.vectors) }
+    ensures { IfOk result (λ r. (t.at < r.at) × (r.at ≤ length text.now) × (r.vectors ≤ r.at) × (r.agreed ≤ r.vectors)) }
 {
     let at = t.at;
     let bits = lines::line_at(text, at, b"Len = ");
@@ -220,14 +222,14 @@ fn judge(name: &[u8], text: &[u8], t: Tally, room: &mut [u8]) -> Tally
     let line = lines::line_at(text, digits.next, b"MD = ");
     match verdict_on(text, bits, digits, line, room) {
         Verdict::Agrees => {
-            return counted(t, line.next, 1);
+            return Ok(counted(t, line.next, 1));
         }
         Verdict::Differs(bytes) => {
-            accuse(name, at, bytes);
-            return counted(t, line.next, 0);
+            accuse(out, name, at, bytes)?;
+            return Ok(counted(t, line.next, 0));
         }
         Verdict::Malformed => {
-            return give_up(name, t, text.len());
+            return give_up(out, name, t, text.len());
         }
     }
 }
@@ -238,24 +240,24 @@ fn is_between(first: u8) -> bool {
 }
 
 // The line or the vector at `t.at`.
-fn turn(name: &[u8], text: &[u8], t: Tally, room: &mut [u8]) -> Tally
+fn turn(out: Stdout, name: &[u8], text: &[u8], t: Tally, room: &mut [u8]) -> io::Result<Tally>
     requires { (t.at < length text.now) × (t.vectors ≤ t.at) × (t.agreed ≤ t.vectors) }
-    ensures { (t.at < result.at) × (result.at ≤ length text.now) × (result.vectors ≤ result.at) × (result.agreed ≤ result.vectors) }
+    ensures { IfOk result (λ r. (t.at < r.at) × (r.at ≤ length text.now) × (r.vectors ≤ r.at) × (r.agreed ≤ r.vectors)) }
 {
     let at = t.at;
     if is_between(text[at]) {
-        return Tally {
+        return Ok(Tally {
             at: lines::next_line(text, at),
             vectors: t.vectors,
             agreed: t.agreed,
             whole: t.whole,
-        };
+        });
     }
-    judge(name, text, t, room)
+    judge(out, name, text, t, room)
 }
 
 // Every vector of a text.
-fn judge_all(name: &[u8], text: &[u8], room: &mut [u8]) -> Tally {
+fn judge_all(out: Stdout, name: &[u8], text: &[u8], room: &mut [u8]) -> io::Result<Tally> {
     let mut t = Tally {
         at: 0,
         vectors: 0,
@@ -263,36 +265,53 @@ fn judge_all(name: &[u8], text: &[u8], room: &mut [u8]) -> Tally {
         whole: true,
     };
     while t.at < text.len() {
-        t = turn(name, text, t, room);
+        t = turn(out, name, text, t, room)?;
     }
-    t
+    Ok(t)
 }
 
 // The line on a file, which says so where that file was no proper one.
-fn report(name: &[u8], t: Tally) {
-    say_name(name);
+fn report(out: Stdout, name: &[u8], t: Tally) -> io::Result<()> {
+    say_name(out, name)?;
     if !t.whole {
-        say(b"NOT READ WHOLE, ");
+        say(out, b"NOT READ WHOLE, ")?;
     }
     if t.vectors == 0 {
-        say(b"NO VECTORS\n");
-        return;
+        return say(out, b"NO VECTORS\n");
     }
-    say_number(t.vectors);
-    say(b" vectors, ");
-    say_number(t.agreed);
-    say(b" agree\n");
+    say_number(out, t.vectors)?;
+    say(out, b" vectors, ")?;
+    say_number(out, t.agreed)?;
+    say(out, b" agree\n")
+}
+
+// Fills a buffer from a file, as far as the file goes, and answers how many bytes it put there. A read that fails ends it too.
+fn read_full(file: &mut File, room: &mut [u8]) -> usize
+    ensures { result ≤ length room.new }
+{
+    let mut done: usize = 0;
+    while done < room.len() {
+        match file.read(&mut room[done..]) {
+            Ok(0) => return done,
+            Ok(n) => done += n,
+            Err(_) => return done,
+        }
+    }
+    done
 }
 
 // Whether nothing is left to read. A read that fails answers false, and so does a file that was too long.
-fn is_at_end(fd: i32) -> bool {
+fn is_at_end(file: &mut File) -> bool {
     let mut one = [0u8; 1];
-    libc::read(fd, &mut one) == 0
+    match file.read(&mut one) {
+        Ok(n) => n == 0,
+        Err(_) => false,
+    }
 }
 
-fn complain(name: &[u8]) {
-    say_name(name);
-    say(b"CANNOT BE READ\n");
+fn complain(out: Stdout, name: &[u8]) -> io::Result<()> {
+    say_name(out, name)?;
+    say(out, b"CANNOT BE READ\n")
 }
 
 // Room for a file. It is a function of its own, as `million` is, since the prover takes long to count out an array that it sees made.
@@ -300,22 +319,22 @@ fn text_room() -> [u8; 524288] {
     [0; 524288]
 }
 
-fn judge_file(name: &[u8]) {
-    let fd = os::open_read(name);
-    if fd < 0 {
-        complain(name);
-        return;
-    }
+fn judge_file(rt: HostRuntime, name: &str) -> io::Result<()> {
+    let out = rt.stdout();
+    let Ok(mut file) = File::open(&rt, name) else {
+        return complain(out, name.as_bytes());
+    };
     let mut text = text_room();
-    let n = io::read_full(fd, &mut text);
-    let ended = is_at_end(fd);
-    libc::close(fd);
-    if !ended {
-        complain(name);
-        return;
+    let n = read_full(&mut file, &mut text);
+    if !is_at_end(&mut file) {
+        return complain(out, name.as_bytes());
     }
     let mut room = [0u8; 8192];
-    report(name, judge_all(name, &text[..n], &mut room));
+    report(
+        out,
+        name.as_bytes(),
+        judge_all(out, name.as_bytes(), &text[..n], &mut room)?,
+    )
 }
 
 // A million 'a'.
@@ -325,22 +344,21 @@ fn million() -> [u8; 1000000]
     [b'a'; 1000000]
 }
 
-fn judge_million() {
+fn judge_million(out: Stdout) -> io::Result<()> {
     let message = million();
     let mut digest = [0u8; 32];
     let digits = b"cdc76e5c9914fb9281a1c7e284d73e67f1809a48a497200e046d39ccc7112cd0";
-    say(b"a million 'a': ");
+    say(out, b"a million 'a': ")?;
     if hex::decode(digits, 32, &mut digest) {
         if agrees(&message, &digest) {
-            say(b"1 vector, 1 agrees\n");
-            return;
+            return say(out, b"1 vector, 1 agrees\n");
         }
     }
-    say(b"DISAGREES\n");
+    say(out, b"DISAGREES\n")
 }
 
-fn main() {
-    judge_file(b"SHA256ShortMsg.rsp");
-    judge_file(b"SHA256LongMsg.rsp");
-    judge_million();
+fn main(rt: HostRuntime) -> io::Result<()> {
+    judge_file(rt, "SHA256ShortMsg.rsp")?;
+    judge_file(rt, "SHA256LongMsg.rsp")?;
+    judge_million(rt.stdout())
 }

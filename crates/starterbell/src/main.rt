@@ -1,5 +1,5 @@
 #![tactic(auto)]
 // The workshop's program; see crate console.
-fn main() {
-    console::start();
+fn main(rt: HostRuntime) {
+    console::start(rt);
 }

@@ -1,5 +1,5 @@
 #![tactic(auto)]
 // The same program, run in pieces of 7.
-fn main() {
-    console::start();
+fn main(rt: HostRuntime) {
+    console::start(rt);
 }

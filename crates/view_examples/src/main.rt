@@ -4,131 +4,144 @@
 use message::Fields;
 use parts::{Entry, Number, Part};
 use refusal::Refusal;
+use std::io;
+use std::io::{Print, Stdout};
 
-fn say(text: &[u8]) {
-    io::write_all(libc::STDOUT_FILENO, text);
+fn say(out: Stdout, text: &[u8]) -> io::Result<()> {
+    out.write_all(text)
 }
 
-fn count(n: u64) {
-    io::print_decimal(libc::STDOUT_FILENO, n);
+fn count(out: Stdout, n: u64) -> io::Result<()> {
+    out.print(n)
 }
 
-fn refused(r: Refusal) {
-    say(b"refused ");
-    count(refusal::number(r) as u64);
+fn refused(out: Stdout, r: Refusal) -> io::Result<()> {
+    say(out, b"refused ")?;
+    count(out, refusal::number(r) as u64)
 }
 
-fn tell_kind(k: Number) {
+fn tell_kind(out: Stdout, k: Number) -> io::Result<()> {
     match k {
         Number::Is(n) => {
-            say(b"type ");
-            count(n);
+            say(out, b"type ")?;
+            count(out, n)
         }
-        Number::Refused(r) => refused(r),
+        Number::Refused(r) => refused(out, r),
     }
 }
 
-fn tell(name: &[u8], body: &[u8]) {
-    say(name);
-    say(b": ");
-    tell_kind(view::kind_of(body));
-    say(b", key [");
-    say(view::key_of(body));
-    say(b"], value [");
-    say(view::record_value_of(body));
-    say(b"]\n");
+fn tell(out: Stdout, name: &[u8], body: &[u8]) -> io::Result<()> {
+    say(out, name)?;
+    say(out, b": ")?;
+    tell_kind(out, view::kind_of(body))?;
+    say(out, b", key [")?;
+    say(out, view::key_of(body))?;
+    say(out, b"], value [")?;
+    say(out, view::record_value_of(body))?;
+    say(out, b"]\n")
 }
 
-fn tell_part(p: Part) {
+fn tell_part(out: Stdout, p: Part) -> io::Result<()> {
     match p {
         Part::At(s) => {
-            say(b"at ");
-            count(s.at as u64);
-            say(b" to ");
-            count(s.end as u64);
+            say(out, b"at ")?;
+            count(out, s.at as u64)?;
+            say(out, b" to ")?;
+            count(out, s.end as u64)
         }
-        Part::Refused(r) => refused(r),
+        Part::Refused(r) => refused(out, r),
     }
 }
 
-fn tell_entry(e: Entry) {
+fn tell_entry(out: Stdout, e: Entry) -> io::Result<()> {
     match e {
         Entry::At(s) => {
-            say(b"at ");
-            count(s.at as u64);
-            say(b" to ");
-            count(s.end as u64);
+            say(out, b"at ")?;
+            count(out, s.at as u64)?;
+            say(out, b" to ")?;
+            count(out, s.end as u64)
         }
-        Entry::Nothing => say(b"nothing"),
-        Entry::Refused(r) => refused(r),
+        Entry::Nothing => say(out, b"nothing"),
+        Entry::Refused(r) => refused(out, r),
     }
 }
 
 // The parts of a body at positions that may be another's.
-fn tell_at(name: &[u8], body: &[u8], at: Fields) {
-    say(name);
-    say(b": key ");
-    tell_part(parts::key(body, at));
-    say(b", record's key ");
-    tell_entry(parts::record_key(body, at));
-    say(b", value ");
-    tell_entry(parts::record_value(body, at));
-    say(b", closer peer ");
-    tell_entry(parts::closer_peer(body, at, 0));
-    say(b", provider ");
-    tell_entry(parts::provider_peer(body, at, 0));
-    say(b"\n");
+fn tell_at(out: Stdout, name: &[u8], body: &[u8], at: Fields) -> io::Result<()> {
+    say(out, name)?;
+    say(out, b": key ")?;
+    tell_part(out, parts::key(body, at))?;
+    say(out, b", record's key ")?;
+    tell_entry(out, parts::record_key(body, at))?;
+    say(out, b", value ")?;
+    tell_entry(out, parts::record_value(body, at))?;
+    say(out, b", closer peer ")?;
+    tell_entry(out, parts::closer_peer(body, at, 0))?;
+    say(out, b", provider ")?;
+    tell_entry(out, parts::provider_peer(body, at, 0))?;
+    say(out, b"\n")
 }
 
 // The parts of a body at the reader's positions.
-fn tell_parts(name: &[u8], body: &[u8]) {
-    tell_at(name, body, parts::positions(body));
+fn tell_parts(out: Stdout, name: &[u8], body: &[u8]) -> io::Result<()> {
+    tell_at(out, name, body, parts::positions(body))
 }
 
 // A record in several fields, read as though they stood one after another.
-fn split_records() {
+fn split_records(out: Stdout) -> io::Result<()> {
     tell_parts(
+        out,
         b"key, then value",
         &[0x1A, 3, 0x0A, 1, b'A', 0x1A, 3, 0x12, 1, b'B'],
-    );
+    )?;
     tell_parts(
+        out,
         b"value, then key",
         &[0x1A, 3, 0x12, 1, b'B', 0x1A, 3, 0x0A, 1, b'A'],
-    );
-    tell_parts(b"key, then nothing", &[0x1A, 3, 0x0A, 1, b'A', 0x1A, 0]);
-    tell_parts(b"nothing at all", &[0x1A, 0]);
+    )?;
     tell_parts(
+        out,
+        b"key, then nothing",
+        &[0x1A, 3, 0x0A, 1, b'A', 0x1A, 0],
+    )?;
+    tell_parts(out, b"nothing at all", &[0x1A, 0])?;
+    tell_parts(
+        out,
         b"key, then an empty key",
         &[0x1A, 3, 0x0A, 1, b'A', 0x1A, 2, 0x0A, 0],
-    );
+    )?;
     tell_parts(
+        out,
         b"key, a number 3, then value",
         &[0x1A, 3, 0x0A, 1, b'A', 0x18, 7, 0x1A, 3, 0x12, 1, b'B'],
-    );
+    )?;
     tell_parts(
+        out,
         b"well formed only if joined",
         &[0x1A, 1, 0x0A, 0x1A, 2, 1, b'A'],
-    );
+    )
 }
 
-fn main() {
+fn main(rt: HostRuntime) -> io::Result<()> {
+    let out = rt.stdout();
     let ask = [0x08, 4, 0x12, 2, b'A', b'B'];
     let put = [
         0x12, 2, b'k', b'1', 0x1A, 9, 0x0A, 2, b'k', b'1', 0x12, 3, b'v', b'a', b'l',
     ];
     let reply = [0x08, 4, 0x42, 3, 0x0A, 1, b'p', 0x4A, 3, 0x0A, 1, b'q'];
-    tell(b"PING", &[0x08, 5]);
-    tell(b"FIND_NODE", &ask);
-    tell(b"PUT_VALUE", &put);
-    tell(b"type 6", &[0x08, 6, 0x12, 2, b'A', b'B']);
-    tell(b"a part past its end", &[0x08, 4, 0x12, 3, b'A', b'B']);
-    tell_parts(b"FIND_NODE", &ask);
-    tell_parts(b"PUT_VALUE", &put);
-    tell_parts(b"a reply", &reply);
+    tell(out, b"PING", &[0x08, 5])?;
+    tell(out, b"FIND_NODE", &ask)?;
+    tell(out, b"PUT_VALUE", &put)?;
+    tell(out, b"type 6", &[0x08, 6, 0x12, 2, b'A', b'B'])?;
+    tell(out, b"a part past its end", &[0x08, 4, 0x12, 3, b'A', b'B'])?;
+    tell_parts(out, b"FIND_NODE", &ask)?;
+    tell_parts(out, b"PUT_VALUE", &put)?;
+    tell_parts(out, b"a reply", &reply)?;
     tell_at(
+        out,
         b"a reply at another's positions",
         &reply,
         parts::positions(&ask),
-    );
-    split_records();
+    )?;
+    split_records(out)
 }

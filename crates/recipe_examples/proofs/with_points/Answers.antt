@@ -2,7 +2,6 @@
 use native.Mathlib.Omega.{arith}
 use mathlib.Core.Path.{sym}
 use lib.Seq.{length-take-le}
-use borrow.Author.Rules.{rules}
 use Rattle.recipe_examples.proofs.with_points.Goals as goal
 
 pub slice_bounds-check-end : goal.slice_bounds-check-end

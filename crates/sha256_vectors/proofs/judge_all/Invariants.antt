@@ -1,6 +1,5 @@
 -- `judge_all` is safe and ends: the measure is what is left of the text.
 use mathlib.Core.Path.{◌≡◌}
-use borrow.Author.Rules.{rules}
 use lib.ListN.{length}
 use Prim.Native.Nat.{◌≤◌, ◌-◌}
 use Rattle.sha256_vectors.proofs.judge_all.Given as goal

@@ -3,9 +3,6 @@ use lib.ListN.{length-set}
 use borrow.Author.Rules.{rules}
 use Rattle.sha256_vectors.specs.Hex.{spelled}
 use Rattle.sha256_vectors.proofs.Laws.{no, spelled-more, spelled-all}
-use mathlib.Core.Path.{◌≡◌}
-use lib.ListN.{length, take}
-use Prim.Native.Nat.{◌≤◌, ◌-◌}
 use Rattle.sha256_vectors.proofs.hex.decode.Goals as goal
 
 pub loop-i-init : goal.loop-i-init

@@ -1,9 +1,5 @@
 -- `decode` puts the spelled bytes at the start of `out`. The invariant: the first i bytes of `out` are those that the digits spell.
-use native.Mathlib.Omega.{arith}
-use lib.ListN.{length-set}
-use borrow.Author.Rules.{rules}
 use Rattle.sha256_vectors.specs.Hex.{spelled}
-use Rattle.sha256_vectors.proofs.Laws.{no, spelled-more, spelled-all}
 use mathlib.Core.Path.{◌≡◌}
 use lib.ListN.{length, take}
 use Prim.Native.Nat.{◌≤◌, ◌-◌}

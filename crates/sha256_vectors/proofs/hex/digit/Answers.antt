@@ -1,7 +1,6 @@
 -- `digit` answers the value of a digit, or 16: each range of bytes by its law.
 use native.Mathlib.Omega.{arith}
 use Rattle.sha256_vectors.proofs.Laws.{digit-below, digit-number, digit-between, digit-letter, digit-above}
-use borrow.Author.Rules.{rules}
 use Rattle.sha256_vectors.proofs.hex.digit.Goals as goal
 
 pub returns-then-c-lt48 : goal.returns-then-c-lt48

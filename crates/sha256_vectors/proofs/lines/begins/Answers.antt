@@ -2,11 +2,10 @@
 use native.Mathlib.Omega.{arith}
 use lib.ListN.{length-take}
 use Rattle.sha256_vectors.proofs.Laws.{no}
-use borrow.Author.Rules.{rules}
 use Rattle.sha256_vectors.proofs.lines.begins.Goals as goal
 
 pub returns-then-s-n : goal.returns-then-s-n
 returns-then-s-n c = λ e. no e
 
-pub slice_bounds-same-end : goal.slice_bounds-same-end
-slice_bounds-same-end c = simp length-take (omega arith)
+pub slice_bounds-eq-end : goal.slice_bounds-eq-end
+slice_bounds-eq-end c = simp length-take (omega arith)

@@ -1,7 +1,6 @@
 -- `line_at` is safe, and its value and the next line lie in the text. The value starts after the name, since `begins` says that the name fits.
 use native.Mathlib.Omega.{arith}
 use lib.ListN.{length-take, length-drop}
-use borrow.Author.Rules.{rules}
 use Rattle.sha256_vectors.proofs.lines.line_at.Goals as goal
 
 pub returns-then-begins : goal.returns-then-begins

@@ -1,5 +1,4 @@
 -- `line_end` is safe and ends, and answers a place from `at` up to the text's end.
-use native.Mathlib.Omega.{arith}
 use lib.ListN.{length}
 use Prim.Native.Nat.{◌≤◌, ◌-◌}
 use Rattle.sha256_vectors.proofs.lines.line_end.Given as goal

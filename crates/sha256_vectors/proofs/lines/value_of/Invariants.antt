@@ -1,5 +1,4 @@
 -- `value_of` is safe and ends: the value stays below a thousand million.
-use borrow.Author.Rules.{rules}
 use lib.ListN.{length}
 use Prim.Native.Nat.{◌<◌, ◌-◌}
 use Rattle.sha256_vectors.proofs.lines.value_of.Given as goal
