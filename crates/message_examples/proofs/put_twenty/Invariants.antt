@@ -1,10 +1,7 @@
 -- `put_twenty` copies an entry at a time; the list keeps its length.
 use Prim.Native.Nat.{◌≤◌, ◌-◌}
-use mathlib.Core.Path.{◌≡◌, refl, ap, ◌∙◌}
+use mathlib.Core.Path.{◌≡◌}
 use lib.ListN.{length}
-use lib.Seq.{length-sets}
-use native.Mathlib.Omega.{arith}
-use borrow.Author.Rules.{rules}
 use Rattle.message_examples.proofs.put_twenty.Given as goal
 
 abbrev pub invariant-loop-k : goal.invariant-loop-k

@@ -1,8 +1,6 @@
 -- `tell_bytes` goes up to the end.
 use Prim.Native.Nat.{◌≤◌, ◌-◌}
 use lib.ListN.{length}
-use native.Mathlib.Omega.{arith}
-use borrow.Author.Rules.{rules}
 use Rattle.message_examples.proofs.tell_bytes.Given as goal
 
 abbrev pub invariant-loop-i : goal.invariant-loop-i
