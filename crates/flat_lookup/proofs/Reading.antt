@@ -26,6 +26,7 @@ candidates-length (suc n) s = ap suc (candidates-length n (drop candidate_size s
 
 pub candidate-at : (n : ℕ) (s : List ℕ) (i : ℕ) (d : Candidate) → i < n → get_or (candidates_in n s) i d ≡ candidate_in (drop (i * candidate_size) s)
 unfolding candidates_in
+candidate-at zero s i d h = elim h [ ]
 candidate-at (suc n) s zero d h = refl
 candidate-at (suc n) s (suc i) d h =
     let e : candidate_size + i * candidate_size ≡ suc i * candidate_size = omega arith in

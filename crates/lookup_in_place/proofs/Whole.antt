@@ -121,6 +121,7 @@ first-marked s v h =
 
 marked-in : (n : ℕ) (s : List ℕ) (i v : ℕ) → n * candidate_size ≤ length s → i < n → candidates_in n (set s (i * candidate_size) v) ≡ mark_at i v (candidates_in n s)
 unfolding candidates_in mark_at
+marked-in zero s i v h l = elim l [ ]
 marked-in (suc n) s zero v h l =
     ap₂ (λ (c : Candidate) (cs : List Candidate). c ∷ cs) (first-marked s v (omega arith)) (ap (candidates_in n) (drop-set-lt candidate_size s 0 v (omega arith)))
 marked-in (suc n) s (suc i) v h l =

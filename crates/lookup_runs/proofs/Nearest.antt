@@ -167,6 +167,7 @@ module _ (t : List ℕ) where
   split : {c : Candidate} (k : ℕ) (cs : List Candidate) → Rising t cs → In c cs
       → In c (take k cs) ⊎ ((length (take k cs) ≡ k) × ((i : ℕ) → i < length (take k cs) → dist t (get_or (take k cs) i nobody) < dist t c))
   unfolding Rising
+  split {c = c} (suc k) [] r m = elim m [ ]
   split zero cs r m = inr (refl, λ i h. absurd (none h))
     where
       none : {i : ℕ} → i < 0 → ⊥

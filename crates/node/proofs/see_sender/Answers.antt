@@ -5,7 +5,7 @@ use borrow.Author.Rules.{rules}
 use Rattle.node.proofs.see_sender.Goals as goal
 
 pub returns-then-not-conn : goal.returns-then-not-conn
-returns-then-not-conn c = let a = c.args in client-unseen a.me a.conn a.contacts.now c.if-not-conn.true
+returns-then-not-conn c = let a = c.args in client-unseen a.me a.conn a.contacts.now (not-true _ c.if-not-conn.true)
 
 pub returns : goal.returns
-returns c = let a = c.args in server-seen a.me a.conn a.contacts.now _ _ c.if-not-conn.false c.seen-s.ensures.0 c.seen-s.ensures.1
+returns c = let a = c.args in server-seen a.me a.conn a.contacts.now _ _ (not-false _ c.if-not-conn.false) c.seen-s.ensures.0 c.seen-s.ensures.1
