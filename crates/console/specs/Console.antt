@@ -1,5 +1,5 @@
 -- How the program's run goes on. What it reads and writes no definition can say; that no byte of a piece is passed over, these do.
-use Rattle.std.specs.Prelude.{ℕ, zero, suc, ◌≡◌, Bool, true, false, ◌&&◌, List, [], drop}
+use Rattle.std.specs.Prelude.{ℕ, zero, suc, ◌≡◌, Bool, true, false, ◌&&◌, List, drop}
 use Rattle.peer.specs.declared.Peer.{Peer}
 use Rattle.replies.specs.Lent.{Lent, lent}
 use Rattle.node.specs.Node.{Link, linked, Out, receive_of}

@@ -1,6 +1,5 @@
 -- `console::call` meets its contract: its turn and the lent memory have what `receive` gives. Assumes nothing.
 use mathlib.Core.Path.{refl}
-use borrow.Author.Rules.{rules}
 use Rattle.console.proofs.Going.{turned}
 use Rattle.console.proofs.call.Goals as goal
 

@@ -1,8 +1,6 @@
 -- `console::deal` meets its contract. Assumes nothing.
 use mathlib.Core.Path.{refl}
 use Rattle.console.proofs.Going.{follows}
-use borrow.Author.Rules.{rules}
-use borrow.Author.Rules.{rules}
 use Rattle.console.proofs.deal.Goals as goal
 
 pub returns-in-Reply : goal.returns-in-Reply

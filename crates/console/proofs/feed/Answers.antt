@@ -1,11 +1,4 @@
-use Prim.Native.Nat.{◌≤◌, ◌-◌}
-use mathlib.Core.Path.{◌≡◌, refl, sym, ◌∙◌}
-use mathlib.Core.Bool.{true}
-use borrow.Author.Tests.{not-false}
-use lib.ListN.{length, drop}
-use Rattle.replies.specs.Lent.{lent}
-use Rattle.node.specs.Node.{linked}
-use Rattle.console.specs.Console.{stand, calls, all_pass}
+use mathlib.Core.Path.{refl, sym, ◌∙◌}
 use Rattle.console.proofs.Going.{stops, not_yet, goes, over, all-yet, still}
 use native.Mathlib.Omega.{arith}
 use borrow.Author.Rules.{rules}
@@ -18,7 +11,7 @@ pub returns-then-turns-eq0 : goal.returns-then-turns-eq0
 returns-then-turns-eq0 c = stops _ _ _ _ c.stopped.ensures
 
 pub loop-from-preserved : goal.loop-from-preserved
-loop-from-preserved c = (omega arith, omega arith, goes _ _ _ _ _ _ _ _ _ _ _ _ _ _ (omega arith) (omega arith) c.loop-from.invariant.2 c.call-t.ensures c.onward-from.ensures.0, still _ _ _ _ c.loop-from.from c.args.piece.now _ _ _ _ _ _ _ (omega arith) (omega arith) c.loop-from.invariant.2 c.call-t.ensures (sym c.goes_on.ensures ∙ c.if-not-goes_on.false) c.loop-from.invariant.3, search rules, search rules, search rules, search rules)
+loop-from-preserved c = (omega arith, omega arith, goes _ _ _ _ _ _ _ _ _ _ _ _ _ _ (omega arith) (omega arith) c.loop-from.invariant.2 c.call-t.ensures c.onward-from.ensures.value, still _ _ _ _ c.loop-from.from c.args.piece.now _ _ _ _ _ _ _ (omega arith) (omega arith) c.loop-from.invariant.2 c.call-t.ensures (sym c.goes_on.ensures ∙ c.if-not-goes_on.false) c.loop-from.invariant.3, search rules, search rules, search rules, search rules)
 
 pub returns : goal.returns
 returns c = (_, over _ _ _ c.loop-from.from c.args.piece.now _ _ (omega arith) c.loop-from.invariant.2, c.loop-from.invariant.3)

@@ -1,15 +1,11 @@
 -- `console::feed` meets its contract: a place within the piece, the calls that led there, and turns that count them. Assumes nothing.
 use Prim.Native.Nat.{◌≤◌, ◌-◌}
-use mathlib.Core.Path.{◌≡◌, refl, sym, ◌∙◌}
+use mathlib.Core.Path.{◌≡◌}
 use mathlib.Core.Bool.{true}
-use borrow.Author.Tests.{not-false}
 use lib.ListN.{length, drop}
 use Rattle.replies.specs.Lent.{lent}
 use Rattle.node.specs.Node.{linked}
 use Rattle.console.specs.Console.{stand, calls, all_pass}
-use Rattle.console.proofs.Going.{stops, not_yet, goes, over, all-yet, still}
-use native.Mathlib.Omega.{arith}
-use borrow.Author.Rules.{rules}
 use Rattle.console.proofs.feed.Given as goal
 
 abbrev pub invariant-loop-from : goal.invariant-loop-from

@@ -1,7 +1,6 @@
 -- `console::front` meets its contract. Assumes nothing.
 use mathlib.Core.Path.{sym}
 use lib.Seq.{length-take-le}
-use borrow.Author.Rules.{rules}
 use Rattle.console.proofs.front.Goals as goal
 
 pub slice_bounds-result-end : goal.slice_bounds-result-end

@@ -1,8 +1,6 @@
 -- `console::number`: what was read so far has at most four digits. Assumes nothing.
 use Prim.Native.Nat.{◌-◌, ◌≤◌}
-use native.Mathlib.Omega.{arith}
 use lib.ListN.{length}
-use borrow.Author.Rules.{rules}
 use Rattle.console.proofs.number.Given as goal
 
 abbrev pub invariant-loop-i : goal.invariant-loop-i

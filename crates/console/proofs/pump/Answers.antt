@@ -1,8 +1,4 @@
-use mathlib.Core.Path.{◌≡◌, sym, ap, ◌∙◌}
-use lib.ListN.{length}
-use native.Mathlib.Omega.{arith}
-use borrow.Author.Rules.{rules}
-use borrow.Author.Tests.{not-true}
+use mathlib.Core.Path.{sym, ap, ◌∙◌}
 use Rattle.console.specs.Console.{goes_on}
 use Rattle.console.proofs.pump.Goals as goal
 

@@ -1,10 +1,6 @@
 -- `console::pump` meets its contract: turns that count down. Assumes nothing.
-use mathlib.Core.Path.{◌≡◌, sym, ap, ◌∙◌}
+use mathlib.Core.Path.{◌≡◌}
 use lib.ListN.{length}
-use native.Mathlib.Omega.{arith}
-use borrow.Author.Rules.{rules}
-use borrow.Author.Tests.{not-true}
-use Rattle.console.specs.Console.{goes_on}
 use Rattle.console.proofs.pump.Given as goal
 
 abbrev pub invariant-loop-turns : goal.invariant-loop-turns

@@ -1,8 +1,6 @@
 -- `console::read_into` is safe. Assumes nothing.
 use mathlib.Core.Path.{sym}
 use lib.Seq.{length-take-le}
-use borrow.Author.Rules.{rules}
-use borrow.Author.Rules.{rules}
 use Rattle.console.proofs.read_into.Goals as goal
 
 pub slice_bounds-read-end-2 : goal.slice_bounds-read-end-2
