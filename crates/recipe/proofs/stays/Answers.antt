@@ -13,7 +13,7 @@ returns-in-First c = let e = c.in-First.is in rw e refl
 
 pub returns-in-After : goal.returns-in-After
 unfolding stays
-returns-in-After c = 
+returns-in-After c =
     let f : SFits w32 c.in-After.before = search rules in
     let e = c.in-After.is in
     rw e (leap-back c.in-After.before c.args.trim f c.ranges.trim c.no_leap.ensures)
