@@ -1,5 +1,5 @@
 -- `pack` meets its contract: each turn lays out one more contact.
-use Rattle.std.proofs.Common.{◌≡◌, ℕ, ◌*◌, length, take, refl, sym, ap, subst, ◌∙◌, arith, add-one, List}
+use Rattle.std.proofs.Common.{◌≡◌, ℕ, ◌*◌, length, take, refl, sym, ap, ◌∙◌, arith, add-one, List}
 use lib.Seq.{take-length}
 use Rattle.contacts.specs.Table.{slot_size}
 use Rattle.contact_slots.specs.Slots.{table_bytes}
