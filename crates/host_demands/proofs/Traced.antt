@@ -89,10 +89,10 @@ module _ (me : List ℕ) (S : Started me) (j : ℕ) where
       is-run (peer_in me) step_seen (seen_trace x) l r.lookup (ap (map entry_seen) r.told ∙ map-map entry_seen (λ (g : Step). called (step_gave g)) gave)
 
   -- a trace that the program has is that of the world, as it sees it
-  seen_if : (l : Lookup) (o : Option (Trace Entry)) → ((y : Trace Entry) → o ≡ some y → IsRun (peer_in me) (λ g. called (step_gave g)) y l)
+  seen_if_lem : (l : Lookup) (o : Option (Trace Entry)) → ((y : Trace Entry) → o ≡ some y → IsRun (peer_in me) (λ g. called (step_gave g)) y l)
       → (x : Trace Seen) → seen_if o ≡ some x → IsRun (peer_in me) step_seen x l
-  seen_if l none r x e = absurd (none-ne-some x e)
-  seen_if l (some y) r x e = subst (λ (z : Trace Seen). IsRun (peer_in me) step_seen z l) (some-injective (seen_trace y) x e) (seen-run l y (r y refl))
+  seen_if_lem l none r x e = absurd (none-ne-some x e)
+  seen_if_lem l (some y) r x e = subst (λ (z : Trace Seen). IsRun (peer_in me) step_seen z l) (some-injective (seen_trace y) x e) (seen-run l y (r y refl))
 
   -- a start gives a trace, and calls keep one
   traced-there : (cs : List Export) (m : Memory) (o : Option (Trace Seen)) → There o → There (traced_in me j m o cs)
@@ -116,7 +116,7 @@ lookup-bytes-are-runs me S =
           let same : lookup_in ((leaves_all me m cs).lookups j) ≡ end.shared.state.lookups j =
           ap (λ (v : World Who Box Ask). v.shared.state.lookups j) (all-calls me S m w cs len ready refl fit).stands in
           subst (λ (l : Lookup). IsRun (peer_in me) step_seen x l) (sym same)
-          (seen_if me S j (end.shared.state.lookups j) (traced (peer_in me) j w none (meant_all me m cs))
+          (seen_if_lem me S j (end.shared.state.lookups j) (traced (peer_in me) j w none (meant_all me m cs))
           (λ y. (lookups-are-runs (peer_in me)).runs w (meant_all me m cs) j y) x
           (sym (traces-same me S j cs m w none len ready refl fit) ∙ e));
       begins = λ m before after j key limit. begins-there me S j key limit before after m none;
