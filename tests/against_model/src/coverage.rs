@@ -46,7 +46,7 @@ const REACHABLE: [(&str, &[u32]); 23] = [
 ];
 
 /// Beside the numbers: what a long run has to meet too, and after that what crate::doubts, crate::longer and crate::formats have.
-const MET: [&str; 50] = [
+const MET: [&str; 48] = [
     "receive: the sender moved",
     "receive: the sender joined",
     "receive: the sender's bucket is full",
@@ -73,8 +73,6 @@ const MET: [&str; 50] = [
     "reply: 256 candidates",
     "seen: 20 in the bucket of a joined one",
     "contacts: 5,120 slots or more",
-    "nearest: contacts in twenty groups of slots or more",
-    "nearest: contacts in fewer of 160 slots or more",
     "records: 256 slots or more",
     "write: a body of 16,300 bytes or more",
     "read: a record's key and value from two fields",
@@ -98,12 +96,6 @@ const MET: [&str; 50] = [
     "find: a held leaper is found",
     "receive: GET_VALUE is served a held leaper",
 ];
-
-/// In how many of the groups that the library's search takes slots in (DECISIONS, C8) somebody stands who may be given: by that it goes another way.
-fn groups_with_contacts(table: &[u8]) -> usize {
-    let slots = contacts::slots(table);
-    table[..slots * 616].chunks(616 * (slots / 400 + 4)).filter(|group| group.chunks(616).any(|slot| slot[0] != 0 && slot[1] == 0)).count()
-}
 
 /// Stands for 0 where the memory of the box, connection or lookup is too short.
 const SHORT: u32 = 99;
@@ -181,10 +173,6 @@ impl Coverage {
             }
             Step::Seen { .. } if answer.code == 14 && contacts::slots(&world.contacts) == 0 => self.meet("contacts: no slot at all"),
             Step::Seen { .. } if answer.code >= 64 && contacts::slots(&world.contacts) == 5_120 => self.meet("contacts: 5,120 slots or more"),
-            Step::Nearest { .. } if answer.code == 64 && contacts::slots(&world.contacts) >= 160 => self.meet(match groups_with_contacts(&world.contacts) {
-                20.. => "nearest: contacts in twenty groups of slots or more",
-                _ => "nearest: contacts in fewer of 160 slots or more",
-            }),
             Step::Put { .. } if answer.code != 0 && records::slots(&world.records) == 256 => self.meet("records: 256 slots or more"),
             Step::Read { body } => self.note_read(body, answer),
             Step::Write { .. } if answer.code == 64 && answer.numbers[0] >= 16_300 => self.meet("write: a body of 16,300 bytes or more"),
