@@ -109,12 +109,10 @@ pub fn twenty(marks: &[u8]) -> Ranks
             return Ranks { at, n };
         }
         let m = marks[i];
-        if m == FAILED {
-            i += 1;
-            continue;
+        if m != FAILED {
+            at[n] = i;
+            n += 1;
         }
-        at[n] = i;
-        n += 1;
         i += 1;
     }
     Ranks { at, n }
