@@ -318,7 +318,7 @@ fn feed(
     }
 }
 
-// Reads once, at most so many bytes, which the piece has to have. A failure is said at once, before another call of the system hides its reason.
+// Reads once, at most so many bytes, which the piece has to have. A failure is said at once.
 fn read_into(rt: HostRuntime, piece: &mut [u8], most: usize) -> Got
     requires { most ≤ length piece.old }
 {

@@ -1,5 +1,5 @@
 -- `fill_places` is safe and ends. Assumes nothing.
-use Rattle.std.proofs.Common.{◌≡◌, ◌+◌, ◌-◌, ◌<◌, ◌≤◌, length, arith, rules}
+use Rattle.std.proofs.Common.{◌≡◌, ◌-◌, ◌≤◌, length}
 use Rattle.lookup_examples.proofs.fill_places.Given as goal
 
 abbrev pub invariant-loop-k : goal.invariant-loop-k

@@ -1,5 +1,5 @@
 -- `filled` is safe and ends. Assumes nothing.
-use Rattle.std.proofs.Common.{◌≡◌, ◌+◌, ◌-◌, ◌<◌, ◌≤◌, length, arith, rules}
+use Rattle.std.proofs.Common.{◌-◌, ◌≤◌}
 use Rattle.lookup_examples.proofs.filled.Given as goal
 
 abbrev pub invariant-loop-n : goal.invariant-loop-n

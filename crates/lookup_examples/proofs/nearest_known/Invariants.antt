@@ -1,5 +1,5 @@
 -- `nearest_known` is safe and ends. Assumes nothing.
-use Rattle.std.proofs.Common.{◌≡◌, ◌+◌, ◌-◌, ◌<◌, ◌≤◌, length, arith, rules}
+use Rattle.std.proofs.Common.{◌≡◌, ◌-◌, ◌≤◌, length}
 use Rattle.lookup_examples.proofs.nearest_known.Given as goal
 
 abbrev pub invariant-loop-k : goal.invariant-loop-k

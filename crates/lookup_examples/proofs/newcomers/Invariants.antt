@@ -1,5 +1,5 @@
 -- `newcomers` is safe and ends. Assumes nothing.
-use Rattle.std.proofs.Common.{◌≡◌, ◌+◌, ◌-◌, ◌<◌, ◌≤◌, length, arith, rules}
+use Rattle.std.proofs.Common.{◌≡◌, ◌-◌, ◌≤◌, length}
 use Rattle.lookup_examples.proofs.newcomers.Given as goal
 
 abbrev pub invariant-loop-j : goal.invariant-loop-j

@@ -1,5 +1,5 @@
 -- `put_peer` is safe and ends. Assumes nothing.
-use Rattle.std.proofs.Common.{◌≡◌, ◌+◌, ◌-◌, ◌<◌, ◌≤◌, length, arith, rules}
+use Rattle.std.proofs.Common.{◌≡◌, ◌-◌, ◌≤◌, length}
 use Rattle.lookup_examples.proofs.put_peer.Given as goal
 
 abbrev pub invariant-loop-i : goal.invariant-loop-i

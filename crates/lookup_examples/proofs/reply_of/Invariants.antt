@@ -1,5 +1,5 @@
 -- `reply_of` is safe and ends. Assumes nothing.
-use Rattle.std.proofs.Common.{◌≡◌, ◌+◌, ◌-◌, ◌<◌, ◌≤◌, length, arith, rules}
+use Rattle.std.proofs.Common.{◌≡◌, ◌-◌, ◌≤◌, length}
 use Rattle.lookup_examples.proofs.reply_of.Given as goal
 
 abbrev pub invariant-loop-j : goal.invariant-loop-j

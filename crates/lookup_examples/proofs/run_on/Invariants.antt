@@ -1,5 +1,5 @@
 -- `run_on` is safe and ends. Assumes nothing.
-use Rattle.std.proofs.Common.{◌≡◌, ◌+◌, ◌-◌, ◌<◌, ◌≤◌, length, arith, rules}
+use Rattle.std.proofs.Common.{◌-◌, ◌≤◌}
 use Rattle.lookup_examples.proofs.run_on.Given as goal
 
 abbrev pub invariant-loop-turns : goal.invariant-loop-turns

@@ -1,5 +1,5 @@
 -- `was_found` is safe and ends. Assumes nothing.
-use Rattle.std.proofs.Common.{◌+◌, ◌-◌, ◌<◌, ◌≤◌, length, arith, rules}
+use Rattle.std.proofs.Common.{◌-◌, ◌≤◌}
 use Rattle.lookup_examples.proofs.was_found.Given as goal
 
 abbrev pub invariant-loop-i : goal.invariant-loop-i
