@@ -115,7 +115,7 @@ pub struct Node {
 impl Node {
     /// Starts a box. Its id has 1 to 64 bytes; its first four addresses with 1 to 128 bytes are told to peers that ask for it.
     ///
-    /// Stack: 2,791 bytes on Arm, 2,711 on x86-64.
+    /// Stack: 2,327 bytes on Arm, 2,295 on x86-64.
     pub fn start(id: &[u8], addresses: &[&[u8]], room: Room) -> Result<Node, Refusal> {
         let mut node = Node {
             me: vec![0; raw::BOX].into(),
@@ -189,7 +189,7 @@ impl Node {
 
     /// A peer was seen: it answered us. Those that ask are seen by [`receive`](Node::receive), which doesn't see those that we ask.
     ///
-    /// Stack: 11,879 bytes on Arm, 11,783 on x86-64.
+    /// Stack: 13,047 bytes on Arm, 12,935 on x86-64.
     pub fn seen(&mut self, peer: Peer<'_>) -> Result<Seen<'_>, Refusal> {
         let mut out = [0];
         let returned = raw::seen(&self.me, &mut self.contacts, peer.id, peer.is_client(), &listed(peer.addresses), &mut out);
@@ -204,7 +204,7 @@ impl Node {
 
     /// The probe of a bucket's head is over, for which a newcomer was waiting. Refused where the contacts have changed since.
     ///
-    /// Stack: 13,223 bytes on Arm, 13,127 on x86-64.
+    /// Stack: 12,615 bytes on Arm, 12,567 on x86-64.
     pub fn settle(&mut self, head: &[u8], newcomer: Peer<'_>, head_did: Probed) -> Result<Settled, Refusal> {
         let addresses = listed(newcomer.addresses);
         let answered = u32::from(head_did == Probed::Answered);
@@ -216,21 +216,21 @@ impl Node {
 
     /// Takes a contact out. Refused where it is none.
     ///
-    /// Stack: 11,175 bytes on Arm, 11,095 on x86-64.
+    /// Stack: 11,255 bytes on Arm, 11,143 on x86-64.
     pub fn remove(&mut self, id: &[u8]) -> Result<(), Refusal> {
         answer(raw::remove(&self.me, &mut self.contacts, id)).map(|_| ())
     }
 
     /// Marks a contact as doubtful, until it is seen or answers a probe: `nearest`, replies and new lookups pass over it. Refused where it is none.
     ///
-    /// Stack: 11,175 bytes on Arm, 11,095 on x86-64.
+    /// Stack: 10,615 bytes on Arm, 10,519 on x86-64.
     pub fn doubt(&mut self, id: &[u8]) -> Result<(), Refusal> {
         answer(raw::doubt(&self.me, &mut self.contacts, id)).map(|_| ())
     }
 
     /// Of the contacts that aren't doubtful, those nearest to a key of 1 to 128 bytes, nearest first: all, or twenty.
     ///
-    /// Stack: 11,975 bytes on Arm, 11,863 on x86-64.
+    /// Stack: 11,959 bytes on Arm, 11,831 on x86-64.
     pub fn nearest(&self, key: &[u8]) -> Result<Vec<Contact<'_>>, Refusal> {
         let mut out = [0; 21];
         answer(raw::nearest(&self.me, &self.contacts, key, &mut out))?;
@@ -253,7 +253,7 @@ impl Node {
 
     /// The value that is held under a key.
     ///
-    /// Stack: 591 bytes on Arm, 512 on x86-64.
+    /// Stack: 567 bytes on Arm, 543 on x86-64.
     pub fn find(&self, key: &[u8]) -> Result<Option<&[u8]>, Refusal> {
         let mut out = [0; 2];
         match answer(raw::find(&self.records, key, &mut out))? {
@@ -273,7 +273,7 @@ impl Node {
 
     /// A connection on which a peer asks and the box answers. Refused where the peer's id isn't 1 to 64 bytes, or is the box's own.
     ///
-    /// Stack: 3,623 bytes on Arm, 3,559 on x86-64.
+    /// Stack: 3,015 bytes on Arm, 2,999 on x86-64.
     pub fn accept(&self, peer: Peer<'_>) -> Result<Connection, Refusal> {
         self.open(peer, 0)
     }
@@ -293,7 +293,7 @@ impl Node {
     /// Takes bytes of a piece up to the first event. Hand in the rest again until all are taken, or the connection is shut. How the bytes are cut into pieces
     /// changes nothing.
     ///
-    /// Stack: 15,943 bytes on Arm, 15,863 on x86-64, whatever comes.
+    /// Stack: 15,047 bytes on Arm, 15,527 on x86-64, whatever comes.
     ///
     /// ```
     /// use starterbell::{Event, Node, Peer, Room};
@@ -355,7 +355,7 @@ impl Node {
 
     /// The bytes of a connection are over, and it is shut. Refused where they ended inside a message.
     ///
-    /// Stack: 2,103 bytes on Arm, 2,047 on x86-64.
+    /// Stack: 512 bytes on Arm, 512 on x86-64.
     pub fn end(&self, connection: &mut Connection) -> Result<(), Refusal> {
         answer(raw::end(&self.me, &mut connection.state)).map(|_| ())
     }

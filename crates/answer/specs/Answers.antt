@@ -4,13 +4,13 @@ use Rattle.refusal.specs.declared.Refusal.TheVariants.{Providers}
 use Rattle.peer.specs.declared.Peer as peers
 use Rattle.message.specs.Message.{Message, message_of}
 use Rattle.message.specs.View.{reading_of}
-use Rattle.message.specs.declared.Reading.{Reading}
-use Rattle.message.specs.declared.Reading.TheVariants as read
 use Rattle.replies.specs.Lent.{Lent, with_records}
 use Rattle.message.specs.Kinds.{put_value, get_value, find_node, ping}
 use Rattle.replies.specs.Replies.{find_node_reply, get_value_reply, ping_reply}
 use Rattle.replies.specs.Verdicts.{Verdict, replies, refuses, keyed, put_verdict, put_after, Dealt, refused, by_verdict}
-use Rattle.replies.specs.declared.Answered.TheVariants.{Refused}
+use Rattle.std.specs.Prelude.{Ok, Err, Result}
+use Rattle.message.specs.declared.Fields.{Fields}
+use Rattle.refusal.specs.declared.Refusal.{Refusal}
 
 -- the request m to us, from the requester, over lent memory. A well-formed message's type is 0 to 5; 2 and 3 are left, which give 7
 unfoldable pub verdict_of : peers.Peer → peers.Peer → Message → Lent → Verdict
@@ -30,9 +30,9 @@ abbrev pub by_request : peers.Peer → peers.Peer → Message → Lent → Dealt
 by_request me who m l = by_verdict (verdict_of me who m l) (with_records l (records_after m l.records)) l
 
 -- the body of a request, read: 5 and 6 are the reader's
-abbrev pub by_reading : Reading → peers.Peer → peers.Peer → Message → Lent → Dealt
-by_reading (read.Refused r) me who m l = refused r l
-by_reading (read.Whole f) me who m l = by_request me who m l
+abbrev pub by_reading : Result Fields Refusal → peers.Peer → peers.Peer → Message → Lent → Dealt
+by_reading (Err r) me who m l = refused r l
+by_reading (Ok f) me who m l = by_request me who m l
 
 unfoldable pub deal_of : peers.Peer → peers.Peer → List ℕ → Lent → Dealt
 deal_of me who body l = by_reading (reading_of body) me who (message_of body) l

@@ -4,7 +4,6 @@ ghost use Rattle.std.specs.Prelude.{◌≡◌, List, ℕ, ◌≤◌, length};
 ghost use Rattle.octets.specs.Octets.{part};
 ghost use Rattle.message.specs.Message.{message_of};
 ghost use Rattle.message.specs.View.{reading_of};
-ghost use Rattle.message.specs.declared.Reading.TheVariants.{Whole};
 ghost use Rattle.answer.specs.Answers.{deal_of, by_request};
 ghost use Rattle.replies.specs.Lent.{lent};
 ghost use Rattle.replies.specs.Verdicts.{Gives, put_dealt};
@@ -12,7 +11,6 @@ ghost use Rattle.replies.specs.Verdicts.{Gives, put_dealt};
 use message::{FIND_NODE, Fields, GET_VALUE, PING, PUT_VALUE};
 use peer::Peer;
 use refusal::Refusal;
-use replies::Answered;
 use wire::Span;
 
 // The bytes of a body at a span.
@@ -26,8 +24,8 @@ fn cut(body: &[u8], p: Span) -> &[u8]
 }
 
 // Answers PUT_VALUE: there has to be a record. Whatever contacts t are lent beside.
-fn serve_put(m: Fields, body: &[u8], records: &mut [u8], reply: &mut [u8]) -> Answered
-    requires { reading_of body.now ≡ Whole m }
+fn serve_put(m: Fields, body: &[u8], records: &mut [u8], reply: &mut [u8]) -> Result<usize, Refusal>
+    requires { reading_of body.now ≡ Ok m }
     ensures { (t : List ℕ) → Gives (put_dealt (message_of body.now).key (message_of body.now).held (lent t records.old reply.old)) result records.new reply.new }
 {
     let key = m.key;
@@ -41,7 +39,7 @@ fn serve_put(m: Fields, body: &[u8], records: &mut [u8], reply: &mut [u8]) -> An
             cut(body, held.value),
         );
     }
-    Answered::Refused(Refusal::BreaksRules)
+    Err(Refusal::BreaksRules)
 }
 
 // Answers the request that was read from the body.
@@ -53,8 +51,8 @@ fn serve(
     contacts: &[u8],
     records: &mut [u8],
     reply: &mut [u8],
-) -> Answered
-    requires { reading_of body.now ≡ Whole m }
+) -> Result<usize, Refusal>
+    requires { reading_of body.now ≡ Ok m }
     ensures { Gives (by_request me who (message_of body.now) (lent contacts.now records.old reply.old)) result records.new reply.new }
 {
     let kind = m.kind;
@@ -69,9 +67,9 @@ fn serve(
         return replies::answer_find(reply, me, who, key, contacts);
     }
     if kind == PING {
-        return Answered::Reply(replies::echo_ping(reply));
+        return Ok(replies::echo_ping(reply));
     }
-    Answered::Refused(Refusal::Providers)
+    Err(Refusal::Providers)
 }
 
 // Answers the request whose body is here: who sent it, and who we are.
@@ -82,11 +80,9 @@ pub fn answer(
     contacts: &[u8],
     records: &mut [u8],
     reply: &mut [u8],
-) -> Answered
+) -> Result<usize, Refusal>
     ensures { Gives (deal_of me who body.now (lent contacts.now records.old reply.old)) result records.new reply.new }
 {
-    match message::read(body) {
-        message::Reading::Refused(r) => Answered::Refused(r),
-        message::Reading::Whole(m) => serve(me, who, m, body, contacts, records, reply),
-    }
+    let m = message::read(body)?;
+    serve(me, who, m, body, contacts, records, reply)
 }

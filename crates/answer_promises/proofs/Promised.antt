@@ -3,7 +3,6 @@ use Prim.Native.Nat.{ℕ, ◌+◌, ◌-◌, ◌*◌, ◌≤◌}
 use mathlib.Core.Path.{◌≡◌, refl, sym, ap, ap₂, ◌∙◌}
 use mathlib.Core.Bool.{Bool, true, false, cond, not}
 use mathlib.Core.List.{List, [], ◌∷◌, ◌++◌, map}
-use mathlib.Core.Option.{Option, none, some}
 use native.Mathlib.Omega.{arith}
 use lib.ListN.{length, take, length-append, length-map}
 use lib.Seq.{sets}
@@ -26,12 +25,8 @@ use Rattle.peer.specs.Peers.{id_fits}
 use Rattle.peer.proofs.Meaning.{id-whole}
 use Rattle.peer.proofs.Tidy.{made-usable}
 use Rattle.records.specs.Store.{in_form, found, offer_answer, offer_after, put_answer, put_after as put_into}
-use Rattle.records.specs.declared.Answer as stored
-use Rattle.records.specs.declared.Answer.TheVariants as store
-use Rattle.records.specs.declared.Found.{Found}
-use Rattle.records.specs.declared.Found.TheVariants as looked
 use Rattle.record_slots.proofs.Laying.{key-least, key-most}
-use Rattle.records_history.specs.History.{Has, got}
+use Rattle.records_history.specs.History.{got}
 use Rattle.records_history.proofs.Stays.{offer-form, put_is, put-form as put-kept}
 use Rattle.records_history.proofs.Holding.{held-key, held_found}
 use Rattle.records_history.proofs.Longer.{taken-form, taken-got, refused-before}
@@ -41,8 +36,6 @@ use Rattle.wire_put.proofs.Putting.{number-length, single-full, bytes-short}
 use Rattle.message.specs.Message.{Peer, Record, Message, message_of, well_message, decode, encode_peer, held_items, encode, frame}
 use Rattle.pieces.specs.Writable.{peer_fits, held_fits, record_with, writable}
 use Rattle.message.specs.View.{fields_of, reading_of}
-use Rattle.message.specs.declared.Reading.{Reading}
-use Rattle.message.specs.declared.Reading.TheVariants as read
 use Rattle.pieces.proofs.Sizes.{message-length, held-most, entries-most, echo-most}
 use Rattle.message.proofs.Meaning.{kind-meant}
 use Rattle.round_trip.proofs.RoundTrip.{round_trip}
@@ -54,22 +47,24 @@ use Rattle.replies.specs.Verdicts.{Verdict, replies, refuses, keyed, echoed, put
 use Rattle.answer.specs.Answers.{verdict_of, records_after, by_request, by_reading, deal_of}
 use Rattle.answer.proofs.Serving.{deal-contacts}
 use Rattle.answer_promises.specs.Promises.{RefusedChangesNothing, ReadsBack, Roomed, RepliesReadBack, AnsweredByVerdict, AnsweredByFields, SentAsTyped, Serves, HeldIsServed, GivenWhole, RefusedWhenSent, EntryIsPeer, ContactsStay, RecordsStayInForm}
-use Rattle.replies.specs.declared.Answered.TheVariants.{Reply, Refused}
 use Rattle.entries.proofs.Entries.{entry-fits}
 use Rattle.replies.proofs.Runs.{entries_fit}
 use Rattle.replies.proofs.Whole.{record-fits, nearest-few}
 use Rattle.replies.proofs.Serving.{held-lies, value-short, taken-fits}
 use Rattle.answer_promises.proofs.Shown.{shows-record}
 use Rattle.pieces.specs.Sizes.{most_peer_field, most_record_field, most_echo, most_reply}
+use Rattle.std.specs.Prelude.{Ok, Err, Some, None, Result, Option, ⊤}
+use Rattle.message.specs.declared.Fields.{Fields}
+use Rattle.records.specs.declared.Held.{Held}
 
 -- ---- a refusal
-verdict-refused : (v : Verdict) (after l : Lent) (r : Refusal) → (by_verdict v after l).told ≡ Refused r → (by_verdict v after l).left ≡ l
+verdict-refused : (v : Verdict) (after l : Lent) (r : Refusal) → (by_verdict v after l).told ≡ Err r → (by_verdict v after l).left ≡ l
 verdict-refused (replies m) after l r e = absurd (let z : ◌≡◌ {A = ℕ} 0 1 = cc in omega arith)
 verdict-refused (refuses f) after l r e = refl
 
-reading-refused : (a : Reading) (me who : peers.Peer) (m : Message) (l : Lent) (r : Refusal) → (by_reading a me who m l).told ≡ Refused r → (by_reading a me who m l).left ≡ l
-reading-refused (read.Refused f) me who m l r e = refl
-reading-refused (read.Whole f) me who m l r e = verdict-refused (verdict_of me who m l) (with_records l (records_after m l.records)) l r e
+reading-refused : (a : Result Fields Refusal) (me who : peers.Peer) (m : Message) (l : Lent) (r : Refusal) → (by_reading a me who m l).told ≡ Err r → (by_reading a me who m l).left ≡ l
+reading-refused (Err f) me who m l r e = refl
+reading-refused (Ok f) me who m l r e = verdict-refused (verdict_of me who m l) (with_records l (records_after m l.records)) l r e
 
 pub refused-changes-nothing : RefusedChangesNothing
 unfolding deal_of
@@ -78,8 +73,8 @@ refused-changes-nothing me who body l r e = reading-refused (reading_of body) me
 -- ---- the records
 put-form : (key : List ℕ) (held : Option Record) (k : List ℕ) → in_form k ≡ true → in_form (put_after key held k) ≡ true
 unfolding put_after
-put-form key none k f = f
-put-form key (some r) k f =
+put-form key None k f = f
+put-form key (Some r) k f =
     cond_ind (λ (x : List ℕ). in_form x ≡ true) (same r.key key) (offer_after k key r.value) k (λ e. offer-form k key r.value f) (λ e. f)
 
 after-form : (m : Message) (k : List ℕ) → in_form k ≡ true → in_form (records_after m k) ≡ true
@@ -90,9 +85,9 @@ verdict-form : (v : Verdict) (after l : Lent) → in_form l.records ≡ true →
 verdict-form (replies m) after l f g = g
 verdict-form (refuses r) after l f g = f
 
-reading-form : (a : Reading) (me who : peers.Peer) (m : Message) (l : Lent) → in_form l.records ≡ true → in_form (by_reading a me who m l).left.records ≡ true
-reading-form (read.Refused f) me who m l h = h
-reading-form (read.Whole f) me who m l h = verdict-form (verdict_of me who m l) (with_records l (records_after m l.records)) l h (after-form m l.records h)
+reading-form : (a : Result Fields Refusal) (me who : peers.Peer) (m : Message) (l : Lent) → in_form l.records ≡ true → in_form (by_reading a me who m l).left.records ≡ true
+reading-form (Err f) me who m l h = h
+reading-form (Ok f) me who m l h = verdict-form (verdict_of me who m l) (with_records l (records_after m l.records)) l h (after-form m l.records h)
 
 pub contacts-stay : ContactsStay
 contacts-stay me who body l = deal-contacts me who body l
@@ -136,7 +131,7 @@ size_of m k ek c ep =
     let e : length (written (repeated 9 (map encode_peer m.providers))) ≡ 0 = rw ep in
     omega (arith, message-length m, two_bytes m.kind k, entries-most 8 m.closer (omega arith) c)
 
-no-held : length (written (held_items none)) ≡ 0
+no-held : length (written (held_items None)) ≡ 0
 unfolding held_items written
 no-held = refl
 
@@ -177,11 +172,11 @@ module _ (me who : peers.Peer) (h : Roomed me) (g : Roomed who) (t : List ℕ) w
       good (find_node_reply me who t key) (omega arith) (omega arith) refl f refl
       (omega (arith, size_of (find_node_reply me who t key) (omega arith) refl f refl, no-held, length-append (closer_peers t (place_of key)) (last_entry me who t (place_of key)), closer-few t (place_of key), w.1))
 
-record-good : (k key : List ℕ) → length key ≤ 128 → (f : Found) → found k key ≡ f → held_fits (record_at k key f) ≡ true
+record-good : (k key : List ℕ) → length key ≤ 128 → (f : Result (Option Held) Refusal) → found k key ≡ f → held_fits (record_at k key f) ≡ true
 unfolding held_fits
-record-good k key h (looked.Held a z) e = unfold record_with in record-fits key (part k a z) h (value-short k key a z (held-lies k key a z e))
-record-good k key h looked.NotHeld e = refl
-record-good k key h (looked.Refused r) e = refl
+record-good k key h (Ok (Some p)) e = unfold record_with in record-fits key (part k p.start p.end) h (value-short k key p.start p.end (held-lies k key p.start p.end e))
+record-good k key h (Ok None) e = refl
+record-good k key h (Err r) e = refl
 
 good-get : (t k key : List ℕ) → length key ≤ 128 → Good (get_value_reply t k key)
 unfolding get_value_reply
@@ -195,7 +190,7 @@ no-entries : (f : ℕ) → length (written (repeated f (map encode_peer []))) �
 unfolding repeated written
 no-entries f = refl
 
-good-put : (k key value : List ℕ) → offer_answer k key value ≡ store.Taken → Good (put_value_reply key value)
+good-put : (k key value : List ℕ) → offer_answer k key value ≡ Ok tt → Good (put_value_reply key value)
 unfolding put_value_reply held_fits record_with
 good-put k key value e =
     let f = taken-fits k key value e in
@@ -210,14 +205,14 @@ abbrev GoodVerdict : Verdict → Type 0
 GoodVerdict (replies m) = Good m
 GoodVerdict (refuses r) = Unit {0}
 
-echoed-good : (k key value : List ℕ) (a : stored.Answer) → offer_answer k key value ≡ a → GoodVerdict (echoed a (put_value_reply key value))
-echoed-good k key value store.Taken e = good-put k key value e
-echoed-good k key value (store.Refused r) e = tt
+echoed-good : (k key value : List ℕ) (a : Result ⊤ Refusal) → offer_answer k key value ≡ a → GoodVerdict (echoed a (put_value_reply key value))
+echoed-good k key value (Ok tt) e = good-put k key value e
+echoed-good k key value (Err r) e = tt
 
 put-good : (key : List ℕ) (held : Option Record) (k : List ℕ) → GoodVerdict (put_verdict key held k)
 unfolding put_verdict
-put-good key none k = tt
-put-good key (some r) k = cond_ind GoodVerdict (same r.key key) _ _ (λ e. echoed-good k key r.value (offer_answer k key r.value) refl) (λ e. tt)
+put-good key None k = tt
+put-good key (Some r) k = cond_ind GoodVerdict (same r.key key) _ _ (λ e. echoed-good k key r.value (offer_answer k key r.value) refl) (λ e. tt)
 
 keyed-good : (key : List ℕ) (m : Message) → (length key ≤ 128 → Good m) → GoodVerdict (keyed key m)
 unfolding keyed key_fits
@@ -235,7 +230,7 @@ frame-short : (m : Message) → length (encode m) ≤ most_reply → length (fra
 unfolding frame
 frame-short m h = omega (arith, length-append (minimal (length (encode m))) (encode m), minimal-three (length (encode m)) (omega arith))
 
-replied-back : (m : Message) (l : Lent) (n : ℕ) → Good m → least_reply ≤ length l.reply → (replied m l).told ≡ Reply n → ReadsBack (replies m) (replied m l) l.reply n
+replied-back : (m : Message) (l : Lent) (n : ℕ) → Good m → least_reply ≤ length l.reply → (replied m l).told ≡ Ok n → ReadsBack (replies m) (replied m l) l.reply n
 replied-back m l n g w e =
     let y = l.reply in
     let q : length (frame (encode m)) ≡ n = cc in
@@ -252,15 +247,15 @@ replied-back m l n g w e =
       rest = drop-sets n y 0 (frame (encode m)) (omega arith);
     }
 
-verdict-back : (v : Verdict) (l : Lent) (k : List ℕ) (n : ℕ) → GoodVerdict v → least_reply ≤ length l.reply → (by_verdict v (with_records l k) l).told ≡ Reply n
+verdict-back : (v : Verdict) (l : Lent) (k : List ℕ) (n : ℕ) → GoodVerdict v → least_reply ≤ length l.reply → (by_verdict v (with_records l k) l).told ≡ Ok n
     → ReadsBack v (by_verdict v (with_records l k) l) l.reply n
 verdict-back (replies m) l k n g w e = replied-back m (with_records l k) n g w e
 verdict-back (refuses r) l k n g w e = absurd (let z : ◌≡◌ {A = ℕ} 0 1 = cc in omega arith)
 
-reading-back : (a : Reading) (me who : peers.Peer) → Roomed me → Roomed who → (m : Message) (l : Lent) (n : ℕ) → least_reply ≤ length l.reply → (by_reading a me who m l).told ≡ Reply n
+reading-back : (a : Result Fields Refusal) (me who : peers.Peer) → Roomed me → Roomed who → (m : Message) (l : Lent) (n : ℕ) → least_reply ≤ length l.reply → (by_reading a me who m l).told ≡ Ok n
     → ReadsBack (verdict_of me who m l) (by_reading a me who m l) l.reply n
-reading-back (read.Refused r) me who h g m l n w e = absurd (let z : ◌≡◌ {A = ℕ} 0 1 = cc in omega arith)
-reading-back (read.Whole f) me who h g m l n w e = verdict-back (verdict_of me who m l) l (records_after m l.records) n (verdict-good me who h g m l) w e
+reading-back (Err r) me who h g m l n w e = absurd (let z : ◌≡◌ {A = ℕ} 0 1 = cc in omega arith)
+reading-back (Ok f) me who h g m l n w e = verdict-back (verdict_of me who m l) l (records_after m l.records) n (verdict-good me who h g m l) w e
 
 pub replies-read-back : RepliesReadBack
 unfolding deal_of
@@ -269,16 +264,16 @@ replies-read-back me who h g body l w n e = reading-back (reading_of body) me wh
 -- ---- what a body says
 module _ (me who : peers.Peer) (l : Lent) where
   by_decoding : Option Message → Dealt
-  by_decoding none = refused Malformed l
-  by_decoding (some m) = cond (ltb most_kind m.kind) (refused UnknownType l) (by_request me who m l)
+  by_decoding None = refused Malformed l
+  by_decoding (Some m) = cond (ltb most_kind m.kind) (refused UnknownType l) (by_request me who m l)
 
   decoded : (s : List ℕ) → length s ≤ most_body → deal_of me who s l ≡ by_decoding (decode s)
   unfolding deal_of reading_of decode by_decoding
   decoded s w = rw (le-ltb most_body (length s) w) (go (well_message s) (ltb most_kind (fields_of s).kind) (ap (ltb most_kind) (sym (kind-meant s))))
     where
       go : (w u : Bool) → ltb most_kind (message_of s).kind ≡ u
-          → by_reading (cond (not w) (read.Refused Malformed) (cond u (read.Refused UnknownType) (read.Whole (fields_of s)))) me who (message_of s) l
-          ≡ by_decoding (cond w (some (message_of s)) none)
+          → by_reading (cond (not w) (Err Malformed) (cond u (Err UnknownType) (Ok (fields_of s)))) me who (message_of s) l
+          ≡ by_decoding (cond w (Some (message_of s)) None)
       go false u e = refl
       go true false e = rw e
       go true true e = rw e
@@ -287,12 +282,12 @@ pub answered-by-fields : (me : peers.Peer) → AnsweredByFields me
 answered-by-fields me who a b la lb e l = decoded me who l a la ∙ ap (by_decoding me who l) e ∙ sym (decoded me who l b lb)
 
 -- ---- puts that are sent, and values that are asked for
-module _ (me who : peers.Peer) (l : Lent) (body : List ℕ) (w : length body ≤ most_body) (m : Message) (d : decode body ≡ some m) where
+module _ (me who : peers.Peer) (l : Lent) (body : List ℕ) (w : length body ≤ most_body) (m : Message) (d : decode body ≡ Some m) where
   by-type : ltb most_kind m.kind ≡ false → deal_of me who body l ≡ by_request me who m l
   unfolding by_decoding
   by-type e = decoded me who l body w ∙ ap (by_decoding me who l) d ∙ rw e refl
 
-  by-put : m.kind ≡ put_value → (r : Record) → m.held ≡ some r → r.key ≡ m.key
+  by-put : m.kind ≡ put_value → (r : Record) → m.held ≡ Some r → r.key ≡ m.key
       → deal_of me who body l
       ≡ by_verdict (echoed (offer_answer l.records m.key r.value) (put_value_reply m.key r.value)) (with_records l (offer_after l.records m.key r.value)) l
   unfolding verdict_of records_after put_verdict put_after
@@ -309,9 +304,9 @@ pub sent-as-typed : (me : peers.Peer) → SentAsTyped me
 sent-as-typed me who body l m r w d e h q form =
     let k = l.records in
     by-put me who l body w m d e r h q
-    ∙ sym (ap₂ (λ (a : stored.Answer) (x : List ℕ). by_verdict (echoed a (put_value_reply m.key r.value)) (with_records l x) l) (put_is k m.key r.value form).0 (put_is k m.key r.value form).1)
+    ∙ sym (ap₂ (λ (a : Result ⊤ Refusal) (x : List ℕ). by_verdict (echoed a (put_value_reply m.key r.value)) (with_records l x) l) (put_is k m.key r.value form).0 (put_is k m.key r.value form).1)
 
-record-held : (t k key u : List ℕ) → got k key ≡ Has u → (get_value_reply t k key).held ≡ some (record { key = key; value = u })
+record-held : (t k key u : List ℕ) → got k key ≡ Some u → (get_value_reply t k key).held ≡ Some (record { key = key; value = u })
 unfolding get_value_reply
 record-held t k key u g = let f = held_found k key u g in rw (f.2, f.3) refl
 
@@ -332,11 +327,11 @@ held-is-served me who body l u m w d e form g room =
       shown = shows-record (get_value_reply t k m.key) (good-get t k m.key (key-most m.key n)).fits (record { key = m.key; value = u }) (record-held t k m.key u g);
     })
 
-echo-held : (key value : List ℕ) → (put_value_reply key value).held ≡ some (record { key = key; value = value })
+echo-held : (key value : List ℕ) → (put_value_reply key value).held ≡ Some (record { key = key; value = value })
 unfolding put_value_reply
 echo-held key value = refl
 
-echo-short : (k key v : List ℕ) → put_answer k key v ≡ store.Taken → length (encode (put_value_reply key v)) ≤ most_echo
+echo-short : (k key v : List ℕ) → put_answer k key v ≡ Ok tt → length (encode (put_value_reply key v)) ≤ most_echo
 unfolding put_value_reply held_fits record_with
 echo-short k key v t =
     let f = taken-fits k key v (sym (put_is k key v (taken-form k key v t)).0 ∙ t) in
@@ -345,21 +340,21 @@ echo-short k key v t =
 pub given-whole : (me : peers.Peer) → GivenWhole me
 given-whole me = record { served = served; echoed = echo; echo = echo-short }
   where
-    served : (who : peers.Peer) (body : List ℕ) (l : Lent) (m : Message) (v : List ℕ) → length body ≤ most_body → decode body ≡ some m → m.kind ≡ get_value
-        → least_reply ≤ length l.reply → put_answer l.records m.key v ≡ store.Taken
+    served : (who : peers.Peer) (body : List ℕ) (l : Lent) (m : Message) (v : List ℕ) → length body ≤ most_body → decode body ≡ Some m → m.kind ≡ get_value
+        → least_reply ≤ length l.reply → put_answer l.records m.key v ≡ Ok tt
         → Serves (deal_of me who body (with_records l (put_into l.records m.key v))) l.reply m.key v
     served who body l m v w d e room t =
         let k = l.records in
         held-is-served me who body (with_records l (put_into k m.key v)) v m w d e (put-kept k m.key v (taken-form k m.key v t)) (taken-got k m.key v t) room
 
-    echo : (who : peers.Peer) (body : List ℕ) (l : Lent) (m : Message) (r : Record) → length body ≤ most_body → decode body ≡ some m → m.kind ≡ put_value
-        → m.held ≡ some r → r.key ≡ m.key → least_reply ≤ length l.reply → put_answer l.records m.key r.value ≡ store.Taken
+    echo : (who : peers.Peer) (body : List ℕ) (l : Lent) (m : Message) (r : Record) → length body ≤ most_body → decode body ≡ Some m → m.kind ≡ put_value
+        → m.held ≡ Some r → r.key ≡ m.key → least_reply ≤ length l.reply → put_answer l.records m.key r.value ≡ Ok tt
         → Serves (deal_of me who body l) l.reply m.key r.value
     echo who body l m r w d e h q room t =
         let k = l.records in
         let form = taken-form k m.key r.value t in
         let says = put_value_reply m.key r.value in
-        let o : offer_answer k m.key r.value ≡ store.Taken = sym (put_is k m.key r.value form).0 ∙ t in
+        let o : offer_answer k m.key r.value ≡ (Ok tt) = sym (put_is k m.key r.value form).0 ∙ t in
         let g = good-put k m.key r.value o in
         rw (by-put me who l body w m d e r h q, o) (record {
           size = length (frame (encode says));
@@ -371,4 +366,4 @@ given-whole me = record { served = served; echoed = echo; echo = echo-short }
         })
 
 pub refused-when-sent : RefusedWhenSent
-refused-when-sent b k v plan echo e h = ap (λ (a : stored.Answer). echoed a echo) (refused-before b [] k v plan e h).0
+refused-when-sent b k v plan echo e h = ap (λ (a : Result ⊤ Refusal). echoed a echo) (refused-before b [] k v plan e h).0

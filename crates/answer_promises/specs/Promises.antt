@@ -1,6 +1,5 @@
 -- What follows from the definitions of the answers, for every input. proofs/Promised.antt shows each.
 use Rattle.std.specs.Prelude.{ℕ, ◌≤◌, ◌≡◌, true, List, length, take, drop}
-use Rattle.std.proofs.Math.Option.{some}
 use Rattle.limits.specs.Limits.{most_id, most_body, least_reply, most_kind}
 use Rattle.refusal.specs.declared.Refusal.{Refusal}
 use Rattle.refusal.specs.declared.Refusal.TheVariants.{BrokenRecipe}
@@ -9,9 +8,7 @@ use Rattle.peer.specs.declared.Peer as peers
 use Rattle.peer.specs.Addresses.{kept_of}
 use Rattle.peer.specs.Peers.{id_fits, peer_of}
 use Rattle.records.specs.Store.{is_key, in_form, judged, answer_of, put_answer, put_after}
-use Rattle.records.specs.declared.Plan.{Plan}
-use Rattle.records.specs.declared.Answer.TheVariants.{Taken}
-use Rattle.records_history.specs.History.{Has, got}
+use Rattle.records_history.specs.History.{got}
 use Rattle.records_history.specs.Claims.{Outside}
 use Rattle.message.specs.Message.{Record, Message, message_of, decode, encode, frame}
 use Rattle.pieces.specs.Writable.{writable}
@@ -22,12 +19,12 @@ use Rattle.message.specs.Kinds.{put_value, get_value}
 use Rattle.replies.specs.Replies.{put_value_reply}
 use Rattle.replies.specs.Verdicts.{Verdict, replies, refuses, echoed, Dealt, by_verdict}
 use Rattle.answer.specs.Answers.{verdict_of, records_after, deal_of}
-use Rattle.replies.specs.declared.Answered.TheVariants.{Reply, Refused}
+use Rattle.std.specs.Prelude.{Ok, Err, Some, Result, Option}
 
 -- a request that is refused changes nothing
 abbrev pub RefusedChangesNothing : Type 0
 RefusedChangesNothing =
-    (me who : peers.Peer) (body : List ℕ) (l : Lent) (r : Refusal) → (deal_of me who body l).told ≡ Refused r → (deal_of me who body l).left ≡ l
+    (me who : peers.Peer) (body : List ℕ) (l : Lent) (r : Refusal) → (deal_of me who body l).told ≡ Err r → (deal_of me who body l).left ≡ l
 
 -- a reply of n bytes stands in the buffer: the message that the verdict calls for, within the limits, with its prefix, which reads back as the same message;
 -- "bytes after a reply stay". 15,111 is the largest reply body (RULES, Messages)
@@ -37,7 +34,7 @@ pub record ReadsBack (v : Verdict) (d : Dealt) (y : List ℕ) (n : ℕ) : Type 0
   pub fits : writable says ≡ true
   pub size : n ≡ length (frame (encode says))
   pub stands : take n d.left.reply ≡ frame (encode says)
-  pub back : decode (encode says) ≡ some says
+  pub back : decode (encode says) ≡ Some says
   pub short : length (encode says) ≤ 15111
   pub rest : drop n d.left.reply ≡ drop n y
 
@@ -48,12 +45,12 @@ Roomed p = length p.id ≡ most_id
 abbrev pub RepliesReadBack : Type 0
 RepliesReadBack =
     (me who : peers.Peer) → Roomed me → Roomed who → (body : List ℕ) (l : Lent) → least_reply ≤ length l.reply → (n : ℕ)
-    → (deal_of me who body l).told ≡ Reply n → ReadsBack (verdict_of me who (message_of body) l) (deal_of me who body l) l.reply n
+    → (deal_of me who body l).told ≡ Ok n → ReadsBack (verdict_of me who (message_of body) l) (deal_of me who body l) l.reply n
 
 -- a request gets what its fields call for, refused or answered: the verdict's reply, and the records that it leaves
 abbrev pub AnsweredByVerdict : peers.Peer → Type 0
 AnsweredByVerdict me =
-    (who : peers.Peer) (body : List ℕ) (l : Lent) (m : Message) → length body ≤ most_body → decode body ≡ some m → m.kind ≤ most_kind
+    (who : peers.Peer) (body : List ℕ) (l : Lent) (m : Message) → length body ≤ most_body → decode body ≡ Some m → m.kind ≤ most_kind
     → deal_of me who body l ≡ by_verdict (verdict_of me who m l) (with_records l (records_after m l.records)) l
 
 -- answer, records and reply go by what a body says, not by how it is written: two bodies of the same fields get the same. So a message whose record comes in
@@ -66,7 +63,7 @@ AnsweredByFields me =
 -- is taken, and leaves the same records
 abbrev pub SentAsTyped : peers.Peer → Type 0
 SentAsTyped me =
-    (who : peers.Peer) (body : List ℕ) (l : Lent) (m : Message) (r : Record) → length body ≤ most_body → decode body ≡ some m → m.kind ≡ put_value → m.held ≡ some r
+    (who : peers.Peer) (body : List ℕ) (l : Lent) (m : Message) (r : Record) → length body ≤ most_body → decode body ≡ Some m → m.kind ≡ put_value → m.held ≡ Some r
     → r.key ≡ m.key → in_form l.records ≡ true
     → deal_of me who body l
     ≡ by_verdict (echoed (put_answer l.records m.key r.value) (put_value_reply m.key r.value)) (with_records l (put_after l.records m.key r.value)) l
@@ -81,34 +78,34 @@ pub record ShowsRecord (body k v : List ℕ) : Type 0 where
 -- a reply that carries the value u under a key: it stands in the buffer and reads back with that record, which its view shows
 pub record Serves (d : Dealt) (y key u : List ℕ) : Type 0 where
   pub size : ℕ
-  pub told : d.told ≡ Reply size
+  pub told : d.told ≡ Ok size
   pub says : Message
   pub back : ReadsBack (replies says) d y size
-  pub held : says.held ≡ some (record { key = key; value = u })
+  pub held : says.held ≡ Some (record { key = key; value = u })
   pub shown : ShowsRecord (encode says) key u
 
 -- "Records already held .. are still served": a GET_VALUE for a key gets the value that is held under it, whatever the recipe rules say of that value
 abbrev pub HeldIsServed : peers.Peer → Type 0
 HeldIsServed me =
-    (who : peers.Peer) (body : List ℕ) (l : Lent) (u : List ℕ) (m : Message) → length body ≤ most_body → decode body ≡ some m → m.kind ≡ get_value
-    → in_form l.records ≡ true → got l.records m.key ≡ Has u → least_reply ≤ length l.reply → Serves (deal_of me who body l) l.reply m.key u
+    (who : peers.Peer) (body : List ℕ) (l : Lent) (u : List ℕ) (m : Message) → length body ≤ most_body → decode body ≡ Some m → m.kind ≡ get_value
+    → in_form l.records ≡ true → got l.records m.key ≡ Some u → least_reply ≤ length l.reply → Serves (deal_of me who body l) l.reply m.key u
 
 -- request iii, "nobody may read it short": a value that a put takes, however long, is given whole. In the reply to every GET_VALUE for its key, once it is put; and
 -- in the echo of a PUT_VALUE that brings it, which has at most 3,342 bytes. (By find: `TakenWhole`, crates/records_history.)
 pub record GivenWhole (me : peers.Peer) : Type 0 where
-  pub served : (who : peers.Peer) (body : List ℕ) (l : Lent) (m : Message) (v : List ℕ) → length body ≤ most_body → decode body ≡ some m → m.kind ≡ get_value
-      → least_reply ≤ length l.reply → put_answer l.records m.key v ≡ Taken
+  pub served : (who : peers.Peer) (body : List ℕ) (l : Lent) (m : Message) (v : List ℕ) → length body ≤ most_body → decode body ≡ Some m → m.kind ≡ get_value
+      → least_reply ≤ length l.reply → put_answer l.records m.key v ≡ Ok tt
       → Serves (deal_of me who body (with_records l (put_after l.records m.key v))) l.reply m.key v
-  pub echoed : (who : peers.Peer) (body : List ℕ) (l : Lent) (m : Message) (r : Record) → length body ≤ most_body → decode body ≡ some m → m.kind ≡ put_value
-      → m.held ≡ some r → r.key ≡ m.key → least_reply ≤ length l.reply → put_answer l.records m.key r.value ≡ Taken
+  pub echoed : (who : peers.Peer) (body : List ℕ) (l : Lent) (m : Message) (r : Record) → length body ≤ most_body → decode body ≡ Some m → m.kind ≡ put_value
+      → m.held ≡ Some r → r.key ≡ m.key → least_reply ≤ length l.reply → put_answer l.records m.key r.value ≡ Ok tt
       → Serves (deal_of me who body l) l.reply m.key r.value
-  pub echo : (k key v : List ℕ) → put_answer k key v ≡ Taken → length (encode (put_value_reply key v)) ≤ 3342
+  pub echo : (k key v : List ℕ) → put_answer k key v ≡ Ok tt → length (encode (put_value_reply key v)) ≤ 3342
 
 -- "Boxes not yet changed refuse the longer value with 9", "A box knowing only format 1 refuses 2 with 9", sent as typed: a PUT_VALUE gets what their store says to it
 -- (`RefusedBefore`, crates/records_history)
 abbrev pub RefusedWhenSent : Type 0
 RefusedWhenSent =
-    (b : Bounds) (k v : List ℕ) (store : Plan) (echo : Message) → is_key k ≡ true → Outside b v
+    (b : Bounds) (k v : List ℕ) (store : Result (Option ℕ) Refusal) (echo : Message) → is_key k ≡ true → Outside b v
     → echoed (answer_of (judged (recipe_within b) k v store)) echo ≡ refuses BrokenRecipe
 
 -- the entry for us or the requester has the id and the usable addresses that were handed in

@@ -15,28 +15,26 @@ use Rattle.stream.specs.declared.Held.{Held}
 use Rattle.stream.specs.declared.Held.TheVariants.{Nothing, One, Two}
 use Rattle.stream.specs.declared.Framing.{Framing}
 use Rattle.stream.specs.declared.Framing.TheVariants.{Shut, Prefix, Body}
-use Rattle.stream.specs.declared.Answer.{Answer}
-use Rattle.stream.specs.declared.Answer.TheVariants.{Message, Refused, More}
 use Rattle.stream.specs.declared.Lead.{Lead}
-use Rattle.stream.specs.declared.Lead.TheVariants.{On, Length, Bad}
-use Rattle.stream.specs.declared.Ending.TheVariants as ends
+use Rattle.stream.specs.declared.Lead.TheVariants.{On, Length}
 use Rattle.stream.specs.declared.Received.{Received}
 use Rattle.stream.specs.Stream.{is_shut, held_form, in_form, limited, minimal, prefix_step, Stepped, led, step_of, store_of, Out, after, run_of, stays, receive_of, ended, end_in, end_of}
 use Rattle.stream.proofs.Steps.{body-short, body-small}
+use Rattle.std.specs.Prelude.{Ok, Err, Some, None, Result, Option}
 
 -- ---- a step
-LeadForm : Lead → Type 0
-LeadForm (On h) = held_form h ≡ true
-LeadForm (Length n) = n ≤ most_body
-LeadForm (Bad r) = Unit {0}
+LeadForm : Result Lead Refusal → Type 0
+LeadForm (Ok (On h)) = held_form h ≡ true
+LeadForm (Ok (Length n)) = n ≤ most_body
+LeadForm (Err r) = Unit {0}
 
-Small : Answer → Type 0
-Small (Message n) = n ≤ most_body
-Small (Refused r) = Unit {0}
-Small More = Unit {0}
+Small : Result (Option ℕ) Refusal → Type 0
+Small (Ok (Some n)) = n ≤ most_body
+Small (Err r) = Unit {0}
+Small (Ok None) = Unit {0}
 
 -- in form, and with no message that is too long
-Fits : Framing → Answer → Type 0
+Fits : Framing → Result (Option ℕ) Refusal → Type 0
 Fits f a = (in_form f ≡ true) × Small a
 
 StepFits : Stepped → Type 0
@@ -60,12 +58,12 @@ prefix-form (Two a b) z g = cond_ind LeadForm (ltb z 128) _ _ (λ h. minimal-for
 some-length : (n : ℕ) → eqb n 0 ≡ false → 0 < n
 some-length n k = let h : n ≡ 0 → ⊥ = eqb-false n 0 k in omega arith
 
-led-fits : (l : Lead) → LeadForm l → StepFits (led l)
+led-fits : (l : Result Lead Refusal) → LeadForm l → StepFits (led l)
 unfolding StepFits Fits Small LeadForm
-led-fits (On h) g = (g, tt)
-led-fits (Length n) g =
+led-fits (Ok (On h)) g = (g, tt)
+led-fits (Ok (Length n)) g =
     cond_ind StepFits (eqb n 0) _ _ (λ h. (refl, omega arith)) (λ h. (and_i (leb n most_body) (ltb 0 n) (le-leb n most_body g) (lt-ltb 0 n (some-length n h)), tt))
-led-fits (Bad r) g = (refl, tt)
+led-fits (Err r) g = (refl, tt)
 
 step_fits : (f : Framing) (b : ℕ) → in_form f ≡ true → StepFits (step_of f b)
 unfolding StepFits Fits Small
@@ -81,11 +79,11 @@ step_fits (Body want have) b g =
 RunFits : Out → Type 0
 RunFits o = Fits o.got.framing o.got.answer
 
-after-fits : (a : Answer) (f : Framing) (m : List ℕ) (o : Out) → Fits f a → RunFits o → RunFits (after a f m o)
+after-fits : (a : Result (Option ℕ) Refusal) (f : Framing) (m : List ℕ) (o : Out) → Fits f a → RunFits o → RunFits (after a f m o)
 unfolding RunFits
-after-fits (Message n) f m o h k = h
-after-fits (Refused r) f m o h k = h
-after-fits More f m o h k = k
+after-fits (Ok (Some n)) f m o h k = h
+after-fits (Err r) f m o h k = h
+after-fits (Ok None) f m o h k = k
 
 run_fits : (bs : List ℕ) (f : Framing) (m : List ℕ) → in_form f ≡ true → RunFits (run_of f m bs)
 unfolding run_of RunFits Fits Small StepFits
@@ -109,21 +107,21 @@ module _ (f : Framing) (m bs : List ℕ) where
   unfolding RunFits Fits
   framing-kept h = call-ind (λ (o : Out). in_form o.got.framing ≡ true) h h h (λ g w. (run_fits bs f m g).0)
 
-  small-message : (a : Answer) (n : ℕ) → Small a → a ≡ Message n → n ≤ most_body
+  small-message : (a : Result (Option ℕ) Refusal) (n : ℕ) → Small a → a ≡ Ok (Some n) → n ≤ most_body
   unfolding Small
   small-message a n s e = rw e at s
 
-  no-message : {X : Type 0} (r : Refusal) (n : ℕ) → Refused r ≡ Message n → X
+  no-message : {X : Type 0} (r : Refusal) (n : ℕ) → Err r ≡ Ok (Some n) → X
   no-message r n e = absurd (let z : ◌≡◌ {A = ℕ} 0 1 = cc in omega arith)
 
-  message-short : (n : ℕ) → (receive_of f m bs).got.answer ≡ Message n → n ≤ length m
+  message-short : (n : ℕ) → (receive_of f m bs).got.answer ≡ Ok (Some n) → n ≤ length m
   unfolding RunFits Fits
   message-short n =
-      call-ind (λ (o : Out). o.got.answer ≡ Message n → n ≤ length m) (no-message no.OutOfForm n) (no-message no.SmallBuffer n) (no-message no.Shut n)
+      call-ind (λ (o : Out). o.got.answer ≡ Ok (Some n) → n ≤ length m) (no-message no.OutOfForm n) (no-message no.SmallBuffer n) (no-message no.Shut n)
       (λ g w e. let l : n ≤ most_body = small-message (run_of f m bs).got.answer n (run_fits bs f m g).1 e in omega arith)
 
   -- as the code has it: by what was handed back
-  pub message-there : (r : Received) (n : ℕ) → r ≡ (receive_of f m bs).got → r.answer ≡ Message n → n ≤ length m
+  pub message-there : (r : Received) (n : ℕ) → r ≡ (receive_of f m bs).got → r.answer ≡ Ok (Some n) → n ≤ length m
   message-there r n e q = message-short n (ap (λ (x : Received). x.answer) (sym e) ∙ q)
 
 pub prefix-length : (n : ℕ) (l : List ℕ) → n ≤ length l → n ≡ length (take n l)
@@ -132,7 +130,7 @@ prefix-length n l h = simp length-take (omega arith)
 -- an end shuts a connection in form
 pub end-shuts : (f : Framing) → in_form f ≡ true → (end_of f).framing ≡ Shut
 unfolding end_of
-end-shuts f h = ap (λ (t : Bool). (cond (not t) (ended f (ends.Refused no.OutOfForm)) (end_in f)).framing) h ∙ over f
+end-shuts f h = ap (λ (t : Bool). (cond (not t) (ended f (Err no.OutOfForm)) (end_in f)).framing) h ∙ over f
   where
     over : (f : Framing) → (end_in f).framing ≡ Shut
     over Shut = refl

@@ -13,32 +13,31 @@ use Rattle.peer.proofs.Meaning.{bad-by-id, bad-by-place}
 use Rattle.stream.specs.declared.Framing.{Framing}
 use Rattle.stream.specs.declared.Framing.TheVariants.{Shut}
 use Rattle.stream.specs.declared.Ended as stream
-use Rattle.stream.specs.declared.Ending.TheVariants as ends
 use Rattle.stream.specs.Stream.{fresh, end_of}
 use Rattle.connections.specs.declared.Conn.{Conn}
 use Rattle.connections.specs.declared.Started.{Started}
 use Rattle.connections.specs.declared.Opened.{Opened}
 use Rattle.connections.specs.declared.Ended.{Ended}
-use Rattle.connections.specs.declared.Told.TheVariants.{Fine, Refused}
 use Rattle.connections.specs.Box.{own_fits, nobody, start_of, with_framing, open_of, conn_form, end_conn}
 use Rattle.connections.specs.Inner.{starts_shut}
+use Rattle.std.specs.Prelude.{Ok, Err}
 
 -- ---- start
 module _ (id addresses : List ℕ) where
   abbrev started : Peer → Started
-  started me = record { me = me; told = Fine }
+  started me = record { me = me; told = (Ok tt) }
 
   pub start_fine : (at : List ℕ) (me : Peer) → id_fits id ≡ true → at ≡ place_of id → me ≡ peer_of id at addresses → started me ≡ start_of id addresses
   unfolding start_of
   start_fine at me h e q = ap started (q ∙ ap (λ (x : List ℕ). peer_of id x addresses) e) ∙ sym (cond_yes (id_fits id) _ _ h)
 
-  pub start-refused : (me : Peer) → id_fits id ≡ false → me ≡ nobody → ◌≡◌ {A = Started} (record { me = me; told = Refused BadPeer }) (start_of id addresses)
+  pub start-refused : (me : Peer) → id_fits id ≡ false → me ≡ nobody → ◌≡◌ {A = Started} (record { me = me; told = Err BadPeer }) (start_of id addresses)
   unfolding start_of
-  start-refused me h q = ap (λ (x : Peer). record { me = x; told = Refused BadPeer }) q ∙ sym (cond_no (id_fits id) _ _ h)
+  start-refused me h q = ap (λ (x : Peer). record { me = x; told = Err BadPeer }) q ∙ sym (cond_no (id_fits id) _ _ h)
 
 -- ---- open
 pub shut-peer : (server asking : Bool) (p : Peer) (f : Framing) → p ≡ nobody → f ≡ Shut
-    → ◌≡◌ {A = Opened} (record { conn = record { peer = p; framing = f; server = server; asking = asking }; told = Refused BadPeer }) (starts_shut server asking)
+    → ◌≡◌ {A = Opened} (record { conn = record { peer = p; framing = f; server = server; asking = asking }; told = Err BadPeer }) (starts_shut server asking)
 shut-peer server asking p f e q = rw (e, q)
 
 module _ (me : Peer) (id : List ℕ) (server asking : Bool) (addresses : List ℕ) where
@@ -60,7 +59,7 @@ module _ (me : Peer) (id : List ℕ) (server asking : Bool) (addresses : List �
     open-ours h = open-refused (or_r (not (own_fits me)) (bad_peer me.place id) (bad-here true h))
 
     abbrev opened : Peer → Framing → Opened
-    opened p f = record { conn = record { peer = p; framing = f; server = server; asking = asking }; told = Fine }
+    opened p f = record { conn = record { peer = p; framing = f; server = server; asking = asking }; told = (Ok tt) }
 
     pub open-fine : (p : Peer) (f : Framing) → own_fits me ≡ true → same at me.place ≡ false → p ≡ peer_of id at addresses → f ≡ fresh
         → opened p f ≡ open_of me id server asking addresses
@@ -74,7 +73,7 @@ module _ (me : Peer) (c : Conn) where
   abbrev ended : Conn → stream.Ended → Ended
   ended c' e = record { conn = c'; answer = e.answer }
 
-  pub end_refused : conn_form me c ≡ false → ◌≡◌ {A = Ended} (record { conn = c; answer = ends.Refused OutOfForm }) (end_conn me c)
+  pub end_refused : conn_form me c ≡ false → ◌≡◌ {A = Ended} (record { conn = c; answer = Err OutOfForm }) (end_conn me c)
   unfolding end_conn
   end_refused h = sym (cond_no (conn_form me c) _ _ h)
 

@@ -7,7 +7,7 @@ ghost use Rattle.connections.specs.Inner.{starts_shut};
 
 use peer::Peer;
 use refusal::Refusal;
-use stream::{Ending, Framing};
+use stream::Framing;
 
 // A connection: its peer, where its framing stands, whether the peer is a server, and whether we are the side that asks.
 #[derive(Clone, Copy)]
@@ -18,29 +18,22 @@ pub struct Conn {
     pub asking: bool,
 }
 
-// Whether a start or an open was refused.
-#[derive(Drop)]
-pub enum Told {
-    Fine,
-    Refused(Refusal),
-}
-
 #[derive(Drop)]
 pub struct Started {
     pub me: Peer,
-    pub told: Told,
+    pub told: Result<(), Refusal>,
 }
 
 #[derive(Drop)]
 pub struct Opened {
     pub conn: Conn,
-    pub told: Told,
+    pub told: Result<(), Refusal>,
 }
 
 #[derive(Drop)]
 pub struct Ended {
     pub conn: Conn,
-    pub answer: Ending,
+    pub answer: Result<(), Refusal>,
 }
 
 // Whether the box handed in, or a connection's peer, has an id that a start gives, or an open.
@@ -69,11 +62,10 @@ pub fn start(id: &[u8], addresses: &[u8]) -> Started
 {
     if peer::id_fits(id) {
         let me = peer::peer_of(id, place::place_of(id), addresses);
-        let fine = Told::Fine;
-        return Started { me, told: fine };
+        return Started { me, told: Ok(()) };
     }
     let me = no_peer();
-    let told = Told::Refused(Refusal::BadPeer);
+    let told = Err(Refusal::BadPeer);
     Started { me, told }
 }
 
@@ -89,10 +81,9 @@ fn refuse_open(server: bool, asking: bool) -> Opened
         server,
         asking,
     };
-    let refused = Told::Refused(Refusal::BadPeer);
     Opened {
         conn,
-        told: refused,
+        told: Err(Refusal::BadPeer),
     }
 }
 
@@ -119,8 +110,7 @@ pub fn open(me: Peer, id: &[u8], server: bool, asking: bool, addresses: &[u8]) -
         server,
         asking,
     };
-    let told = Told::Fine;
-    Opened { conn, told }
+    Opened { conn, told: Ok(()) }
 }
 
 // Whether a connection is in form. A shut one is. Of its peer that goes by id and place: its addresses are judged where they are used.
@@ -161,8 +151,10 @@ pub fn end(me: Peer, conn: Conn) -> Ended
     ensures { result ≡ end_conn me conn }
 {
     if !conn_form(me, conn) {
-        let answer = Ending::Refused(Refusal::OutOfForm);
-        return Ended { conn, answer };
+        return Ended {
+            conn,
+            answer: Err(Refusal::OutOfForm),
+        };
     }
     let f = conn.framing;
     let e = stream::end(f);

@@ -1,1 +1,2 @@
 mod Going
+mod Taking

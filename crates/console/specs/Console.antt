@@ -4,10 +4,12 @@ use Rattle.peer.specs.declared.Peer.{Peer}
 use Rattle.replies.specs.Lent.{Lent, lent}
 use Rattle.node.specs.Node.{Link, linked, Out, receive_of}
 use Rattle.node.specs.declared.Answer.{Answer}
-use Rattle.node.specs.declared.Answer.TheVariants.{Reply, Heard, Refused, More}
+use Rattle.node.specs.declared.Answer.TheVariants.{Reply, Heard, More}
 use Rattle.console.specs.declared.Turn.{Turn}
 use Rattle.console.specs.declared.After.{After}
 use Rattle.console.specs.declared.After.TheVariants.{On, End, Stop}
+use Rattle.std.specs.Prelude.{Ok, Err, Result}
+use Rattle.refusal.specs.declared.Refusal.{Refusal}
 
 abbrev pub goes_on : After → Bool
 goes_on On = true
@@ -21,11 +23,11 @@ Sent End = ⊥
 Sent Stop = Unit {0}
 
 -- what comes after an answer: a refusal stops the run
-abbrev pub Follows : Answer → After → Type 0
-Follows (Reply n) a = Sent a
-Follows (Heard n f) a = a ≡ On
-Follows (Refused r) a = a ≡ Stop
-Follows More a = a ≡ On
+abbrev pub Follows : Result Answer Refusal → After → Type 0
+Follows (Ok (Reply n)) a = Sent a
+Follows (Ok (Heard n f)) a = a ≡ On
+Follows (Err r) a = a ≡ Stop
+Follows (Ok More) a = a ≡ On
 
 -- ---- a piece, call after call
 -- where a run stands in a piece: the connection, what the box is lent, and the bytes that no call has taken yet
@@ -51,11 +53,11 @@ calls me s zero = s
 calls me s (suc n) = leaves (calls me s n) (called me (calls me s n))
 
 -- and none of them was refused
-abbrev pub passes : Answer → Bool
-passes (Reply n) = true
-passes (Heard n f) = true
-passes (Refused r) = false
-passes More = true
+abbrev pub passes : Result Answer Refusal → Bool
+passes (Ok (Reply n)) = true
+passes (Ok (Heard n f)) = true
+passes (Err r) = false
+passes (Ok More) = true
 
 unfoldable pub all_pass : Peer → Stand → ℕ → Bool
 all_pass me s zero = true

@@ -12,7 +12,6 @@ use refusal::Refusal;
 use std::env::{Env, FillError};
 use std::io;
 use std::io::{ErrorKind, Print, Read};
-use stream::Ending;
 
 // The largest piece, and the one that is read where no argument says another.
 pub const PIECE: usize = 4096;
@@ -88,26 +87,24 @@ fn failed(e: &io::Error) -> bool {
 }
 
 // Writes all of the bytes, in as many writes as that takes. An error where one fails or takes nothing: then some may have been written. A proved loop has
-// to end, so the turns are counted down from a number that no run uses up.
+// to end, so the turns go up to a number that no run reaches. The library's `write_all` would give up where signals interrupt many writes.
 fn put<P: Print>(to: &P, bytes: &[u8]) -> io::Result<()> {
-    let mut done: usize = 0;
-    let mut turns = u64::MAX;
-    while done < bytes.len() {
-        match to.write_some(&bytes[done..]) {
+    let mut rest = bytes;
+    for _ in 0..u64::MAX {
+        if rest.is_empty() {
+            return Ok(());
+        }
+        match to.write_some(rest) {
             Ok(0) => return Err(io::Error::from(ErrorKind::WriteZero)),
-            Ok(n) => done = onward(done, n, bytes.len()),
+            Ok(n) => rest = &rest[n..],
             Err(e) => {
                 if failed(&e) {
                     return Err(e);
                 }
             }
         }
-        if turns == 0 {
-            return Err(io::Error::from(ErrorKind::Interrupted));
-        }
-        turns -= 1;
     }
-    Ok(())
+    Err(io::Error::from(ErrorKind::Interrupted))
 }
 
 fn say(rt: HostRuntime, text: &[u8]) {
@@ -229,17 +226,17 @@ fn send(rt: HostRuntime, reply: &[u8]) -> After
 }
 
 // What comes after an answer: its reply is written, its refusal told.
-fn deal(rt: HostRuntime, answer: Answer, reply: &[u8]) -> After
+fn deal(rt: HostRuntime, answer: Result<Answer, Refusal>, reply: &[u8]) -> After
     ensures { Follows answer result }
 {
     match answer {
-        Answer::Reply(n) => send(rt, front(reply, n)),
-        Answer::Heard(_, _) => After::On,
-        Answer::Refused(r) => {
+        Ok(Answer::Reply(n)) => send(rt, front(reply, n)),
+        Ok(Answer::Heard(_, _)) => After::On,
+        Err(r) => {
             tell(rt, r);
             After::Stop
         }
-        Answer::More => After::On,
+        Ok(Answer::More) => After::On,
     }
 }
 
@@ -277,8 +274,7 @@ fn stopped(conn: Conn, taken: usize) -> Turn
     }
 }
 
-// A piece, call after call until it is used up. Each call after which the run goes on takes a byte, so there are no more calls than bytes, and the
-// turns, by which the loop is seen to end, don't run out.
+// A piece, call after call until it is used up. Each call after which the run goes on takes a byte, so the loop ends.
 fn feed(
     rt: HostRuntime,
     me: Peer,
@@ -293,11 +289,7 @@ fn feed(
 {
     let mut c = conn;
     let mut from: usize = 0;
-    let mut turns = piece.len();
     while from < piece.len() {
-        if turns == 0 {
-            return stopped(c, from);
-        }
         let t = call(rt, me, c, buffer, &piece[from..], contacts, records, reply);
         c = t.conn;
         let a = t.after;
@@ -309,7 +301,6 @@ fn feed(
             };
         }
         from = onward(from, t.taken, piece.len());
-        turns -= 1;
     }
     Turn {
         conn: c,
@@ -382,7 +373,7 @@ fn read_once(
     }
 }
 
-// The whole input, until it ends or the run stops. Nothing says that an input ends, so the turns are counted down here too.
+// The whole input, until it ends or the run stops. Nothing says that an input ends, so the turns have such a limit here too.
 fn pump(
     rt: HostRuntime,
     me: Peer,
@@ -396,15 +387,13 @@ fn pump(
     ensures { goes_on result.after ≡ false }
 {
     let mut c = conn;
-    let mut turns = u64::MAX;
-    while 0 < turns {
+    for _ in 0..u64::MAX {
         let t = read_once(rt, me, c, size, buffer, contacts, records, reply);
         c = t.conn;
         let a = t.after;
         if !goes_on(a) {
             return t;
         }
-        turns -= 1;
     }
     stopped(c, 0)
 }
@@ -414,8 +403,8 @@ fn finish(rt: HostRuntime, me: Peer, conn: Conn) {
     let e = node::end(me, conn);
     let a = e.answer;
     match a {
-        Ending::Clean => (),
-        Ending::Refused(r) => tell(rt, r),
+        Ok(()) => (),
+        Err(r) => tell(rt, r),
     }
 }
 
@@ -453,8 +442,7 @@ fn number(text: &[u8]) -> usize
     ensures { result ≤ 9999 }
 {
     let mut n: usize = 0;
-    let mut i: usize = 0;
-    while i < text.len() {
+    for i in 0..text.len() {
         let d = text[i];
         if d < 48 {
             return 0;
@@ -466,7 +454,6 @@ fn number(text: &[u8]) -> usize
             return 0;
         }
         n = n * 10 + (d - 48) as usize;
-        i += 1;
     }
     n
 }

@@ -23,8 +23,6 @@ use Rattle.sightings.specs.declared.Sighting.{Sighting}
 use Rattle.sightings.specs.declared.Sighting.TheVariants as seen
 use Rattle.sightings.specs.declared.Settled.{Settled}
 use Rattle.sightings.specs.declared.Settled.TheVariants as settle
-use Rattle.sightings.specs.declared.Removed.{Removed}
-use Rattle.sightings.specs.declared.Removed.TheVariants as remove
 use Rattle.sightings.specs.Order.{held_at, free_at, tail_of}
 use Rattle.sightings.specs.Sightings.{held, newcomer, sighting_of, after_sighting, seen_table, fits, settlement_of, after_settling, settled_table, removal_of, after_removal, removed_table}
 use Rattle.sightings_kept.specs.Promises.{Fair, SameContact, AtTail, HeldSeen, NewSeen, HeadGone, StillFits, holds}
@@ -35,6 +33,8 @@ use Rattle.contact_calls.specs.Calls.{seen_call, seen_call_table, settle_call, s
 use Rattle.contact_calls.specs.Claims.{Admits, Neither13Nor14, SeenDoes, SettleDoes, RemoveDoes, Claims}
 use Rattle.contact_calls.proofs.Doubts.{doubt-told, doubt-leaves, doubt-does, doubt-form, seen-ignores, settle-ignores, marked-hidden}
 use Rattle.contact_calls.proofs.Theorems.{cleared-in-form, fair, seen-call-keeps, settle-call-keeps, removal-keeps}
+use Rattle.std.specs.Prelude.{Ok, Err, Result, ⊤}
+use Rattle.refusal.specs.declared.Refusal.{Refusal}
 
 -- ---- the number of a seen
 module _ (t ours id : List ℕ) (client : Bool) (addresses : List ℕ) where
@@ -55,14 +55,14 @@ module _ (t ours id : List ℕ) (client : Bool) (addresses : List ℕ) where
     seen-eighteen c = ap seen_number (cond_no (not (in_form t ours)) _ _ (ap not a.form) ∙ cond_no (bad_peer ours id) _ _ a.peer ∙ cond_yes client _ _ c)
 
     -- where it is no client, the number goes by the sighting
-    by-sighting : client ≡ false → (s : Sighting) → sighting_of t ours (peer_of id (place_of id) addresses) ≡ s → told ≡ seen_number s
+    by-sighting : client ≡ false → (s : Result Sighting Refusal) → sighting_of t ours (peer_of id (place_of id) addresses) ≡ s → told ≡ seen_number s
     unfolding seen_call
     by-sighting c s e =
         ap seen_number (cond_no (not (in_form t ours)) _ _ (ap not a.form) ∙ cond_no (bad_peer ours id) _ _ a.peer ∙ cond_no client _ _ c ∙ e)
 
     seen-moved : client ≡ false → held t (place_of id) ≡ true → told ≡ 64
     unfolding peer_of
-    seen-moved c h = by-sighting c (seen.Moved (held_at t (place_of id))) (held-never-refused t ours (peer_of id (place_of id) addresses) h)
+    seen-moved c h = by-sighting c ((Ok (seen.Moved (held_at t (place_of id))))) (held-never-refused t ours (peer_of id (place_of id) addresses) h)
 
     module _ (c : client ≡ false) (new : held t (place_of id) ≡ false) where
       seen-full : 20 ≤ holds t ours (bucket_of (place_of id) ours) → told ≡ 13
@@ -71,11 +71,11 @@ module _ (t ours id : List ℕ) (client : Bool) (addresses : List ℕ) where
 
       seen_none : holds t ours (bucket_of (place_of id) ours) < 20 → ((j : ℕ) → j < slots_of t → used (slot t j) ≡ true) → told ≡ 14
       unfolding peer_of
-      seen_none l all = by-sighting c (seen.Refused NoContactSlot) (none_left t ours (peer_of id (place_of id) addresses) a.form new l all)
+      seen_none l all = by-sighting c (Err NoContactSlot) (none_left t ours (peer_of id (place_of id) addresses) a.form new l all)
 
       seen-joined : holds t ours (bucket_of (place_of id) ours) < 20 → (j : ℕ) → j < slots_of t → used (slot t j) ≡ false → told ≡ 65
       unfolding peer_of
-      seen-joined l j lj free = by-sighting c (seen.Joined (free_at t)) (one_left t ours (peer_of id (place_of id) addresses) a.form new l j lj free)
+      seen-joined l j lj free = by-sighting c (Ok (seen.Joined (free_at t))) (one_left t ours (peer_of id (place_of id) addresses) a.form new l j lj free)
 
   -- ---- "a peer already held is never 13 or 14", and neither is a client
   never : (client ≡ false → Neither13Nor14 (seen_number (sighting_of t ours (peer_of id (place_of id) addresses)))) → Neither13Nor14 told
@@ -84,12 +84,12 @@ module _ (t ours id : List ℕ) (client : Bool) (addresses : List ℕ) where
       step (not (in_form t ours)) _ _ (λ _. (λ e. omega arith, λ e. omega arith))
       (λ _. step (bad_peer ours id) _ _ (λ _. (λ e. omega arith, λ e. omega arith)) (λ _. step client _ _ (λ _. (λ e. omega arith, λ e. omega arith)) last))
     where
-      step : (c : Bool) (r s : Sighting) → (c ≡ true → Neither13Nor14 (seen_number r)) → (c ≡ false → Neither13Nor14 (seen_number s)) → Neither13Nor14 (seen_number (cond c r s))
-      step = cond_ind (λ (r : Sighting). Neither13Nor14 (seen_number r))
+      step : (c : Bool) (r s : Result Sighting Refusal) → (c ≡ true → Neither13Nor14 (seen_number r)) → (c ≡ false → Neither13Nor14 (seen_number s)) → Neither13Nor14 (seen_number (cond c r s))
+      step = cond_ind (λ (r : Result Sighting Refusal). Neither13Nor14 (seen_number r))
 
   held-never : held t (place_of id) ≡ true → Neither13Nor14 told
   unfolding peer_of
-  held-never h = never (λ _. subst (λ (s : Sighting). Neither13Nor14 (seen_number s)) (sym (held-never-refused t ours (peer_of id (place_of id) addresses) h)) (λ e. omega arith, λ e. omega arith))
+  held-never h = never (λ _. subst (λ (s : Result Sighting Refusal). Neither13Nor14 (seen_number s)) (sym (held-never-refused t ours (peer_of id (place_of id) addresses) h)) (λ e. omega arith, λ e. omega arith))
 
   client-never : client ≡ true → Neither13Nor14 told
   client-never c = never (λ f. absurd (not-both client c f))
@@ -118,8 +118,8 @@ module _ (t ours head id : List ℕ) (client : Bool) (addresses : List ℕ) (ans
   module _ (a : Admits t ours head) (b : Admits t ours id) where
     -- the last answers
     judged : settle_call t ours head id client addresses answered
-        ≡ cond (not (fits t ours (place_of head) (place_of id))) (settle.Refused NoLongerFits)
-        (cond client (settle.Refused Client) (settlement_of t ours (place_of head) (peer_of id (place_of id) addresses) answered))
+        ≡ cond (not (fits t ours (place_of head) (place_of id))) (Err NoLongerFits)
+        (cond client (Err Client) (settlement_of t ours (place_of head) (peer_of id (place_of id) addresses) answered))
     unfolding settle_call
     judged = cond_no (not (in_form t ours)) _ _ (ap not a.form) ∙ cond_no (bad_peer ours head) _ _ a.peer ∙ cond_no (bad_peer ours id) _ _ b.peer
 
@@ -130,7 +130,7 @@ module _ (t ours head id : List ℕ) (client : Bool) (addresses : List ℕ) (ans
       fit : fits t ours (place_of head) (place_of id) ≡ true
       fit = still-fits t ours (place_of head) (place_of id) a.form s
 
-      fitting : settle_call t ours head id client addresses answered ≡ cond client (settle.Refused Client) (settlement_of t ours (place_of head) (peer_of id (place_of id) addresses) answered)
+      fitting : settle_call t ours head id client addresses answered ≡ cond client (Err Client) (settlement_of t ours (place_of head) (peer_of id (place_of id) addresses) answered)
       fitting = judged ∙ cond_no (not (fits t ours (place_of head) (place_of id))) _ _ (ap not fit)
 
       settle-client : client ≡ true → settled ≡ 18
@@ -170,23 +170,23 @@ module _ (t ours id : List ℕ) where
   remove-gone a h = ap remove_number (remove-last a ∙ cond_yes (held t (place_of id)) _ _ h)
 
 -- ---- a number under 64 leaves the table
-seen_same : (t o : List ℕ) (p : Peer) (r : Sighting) → seen_number r < 64 → after_sighting t o p r ≡ t
+seen_same : (t o : List ℕ) (p : Peer) (r : Result Sighting Refusal) → seen_number r < 64 → after_sighting t o p r ≡ t
 unfolding after_sighting
-seen_same t o p (seen.Moved i) l = absurd (omega arith)
-seen_same t o p (seen.Joined i) l = absurd (omega arith)
-seen_same t o p (seen.Probe h) l = refl
-seen_same t o p (seen.Refused r) l = refl
+seen_same t o p (Ok (seen.Moved i)) l = absurd (omega arith)
+seen_same t o p (Ok (seen.Joined i)) l = absurd (omega arith)
+seen_same t o p (Ok (seen.Probe h)) l = refl
+seen_same t o p (Err r) l = refl
 
-settle-same : (t o h : List ℕ) (p : Peer) (r : Settled) → settle_number r < 64 → after_settling t o h p r ≡ t
+settle-same : (t o h : List ℕ) (p : Peer) (r : Result Settled Refusal) → settle_number r < 64 → after_settling t o h p r ≡ t
 unfolding after_settling
-settle-same t o h p settle.Kept l = absurd (omega arith)
-settle-same t o h p settle.Swapped l = absurd (omega arith)
-settle-same t o h p (settle.Refused r) l = refl
+settle-same t o h p (Ok settle.Kept) l = absurd (omega arith)
+settle-same t o h p (Ok settle.Swapped) l = absurd (omega arith)
+settle-same t o h p (Err r) l = refl
 
-remove-same : (t o p : List ℕ) (r : Removed) → remove_number r < 64 → after_removal t o p r ≡ t
+remove-same : (t o p : List ℕ) (r : Result ⊤ Refusal) → remove_number r < 64 → after_removal t o p r ≡ t
 unfolding after_removal
-remove-same t o p remove.Gone l = absurd (omega arith)
-remove-same t o p (remove.Refused r) l = refl
+remove-same t o p (Ok tt) l = absurd (omega arith)
+remove-same t o p (Err r) l = refl
 
 seen-leaves : (t ours id : List ℕ) (client : Bool) (addresses : List ℕ) → seen_number (seen_call t ours id client addresses) < 64 → seen_call_table t ours id client addresses ≡ t
 unfolding seen_call_table
@@ -226,15 +226,15 @@ module _ (t ours id addresses : List ℕ) where
 
     -- a sighting
     module _ (y : in_form t ours ≡ true) (G : Fair ours peer) where
-      abbrev Does : Sighting → Type 0
+      abbrev Does : Result Sighting Refusal → Type 0
       Does s = SeenDoes t ours id addresses s (seen_table t ours peer)
 
-      answered : (s : Sighting) → sighting_of t ours peer ≡ s → Does s → Does (sighting_of t ours peer)
+      answered : (s : Result Sighting Refusal) → sighting_of t ours peer ≡ s → Does s → Does (sighting_of t ours peer)
       answered s e d = subst Does (sym e) d
 
       was-held : held t (place_of id) ≡ true → Does (sighting_of t ours peer)
       unfolding peer_of
-      was-held h = let k = (kept t ours y).moved peer G h in answered (seen.Moved (held_at t (place_of id))) k.0 (as-held _ _ k.1)
+      was-held h = let k = (kept t ours y).moved peer G h in answered ((Ok (seen.Moved (held_at t (place_of id))))) k.0 (as-held _ _ k.1)
 
       is-new : held t (place_of id) ≡ false → Does (sighting_of t ours peer)
       unfolding peer_of sighting_of newcomer
@@ -244,16 +244,16 @@ module _ (t ours id addresses : List ℕ) where
           full : leb 20 (tail_of t ours (bucket_of (place_of id) ours)) ≡ true → Does (sighting_of t ours peer)
           full f =
               let k = (kept t ours y).full peer h (omega (arith, leb-true 20 (tail_of t ours (bucket_of (place_of id) ours)) f, (kept t ours y).counted (bucket_of (place_of id) ours))) in
-              answered (seen.Probe k.0) k.1 (k.2, k.3, k.4)
+              answered (Ok (seen.Probe k.0)) k.1 (k.2, k.3, k.4)
 
           joined : leb 20 (tail_of t ours (bucket_of (place_of id) ours)) ≡ false → ltb (free_at t) (slots_of t) ≡ true → Does (sighting_of t ours peer)
           joined r f =
               let k = seen-new t ours peer G h (leb-false 20 (tail_of t ours (bucket_of (place_of id) ours)) r) (ltb-true (free_at t) (slots_of t) f) in
-              answered (seen.Joined (free_at t)) k.0 (as-new _ _ k.1)
+              answered (Ok (seen.Joined (free_at t))) k.0 (as-new _ _ k.1)
 
           none : leb 20 (tail_of t ours (bucket_of (place_of id) ours)) ≡ false → ltb (free_at t) (slots_of t) ≡ false → Does (sighting_of t ours peer)
           none r f = let e = cond_no (held t (place_of id)) _ _ h ∙ cond_no (leb 20 (tail_of t ours (bucket_of (place_of id) ours))) _ _ r ∙ cond_no (ltb (free_at t) (slots_of t)) _ _ f in
-              answered (seen.Refused NoContactSlot) e (no-slot-changes-nothing t ours peer e)
+              answered (Err NoContactSlot) e (no-slot-changes-nothing t ours peer e)
 
       sighting-does : Does (sighting_of t ours peer)
       sighting-does = ⊎_elim was-held is-new (either (held t (place_of id)))
@@ -264,10 +264,10 @@ module _ (t ours : List ℕ) (l : length ours ≡ 32) (b : Bytes ours) where
   seen-does id client addresses =
       step (not (in_form t ours)) _ _ (λ _. refl) (λ f. step (bad_peer ours id) _ _ (λ _. refl) (λ g. step client _ _ (λ _. refl) (λ _. taken (not-false _ f) g)))
     where
-      step : (c : Bool) (r s : Sighting) → (c ≡ true → SeenDoes t ours id addresses r (after_sighting t ours (peer_of id (place_of id) addresses) r))
+      step : (c : Bool) (r s : Result Sighting Refusal) → (c ≡ true → SeenDoes t ours id addresses r (after_sighting t ours (peer_of id (place_of id) addresses) r))
           → (c ≡ false → SeenDoes t ours id addresses s (after_sighting t ours (peer_of id (place_of id) addresses) s))
           → SeenDoes t ours id addresses (cond c r s) (after_sighting t ours (peer_of id (place_of id) addresses) (cond c r s))
-      step = cond_ind (λ (r : Sighting). SeenDoes t ours id addresses r (after_sighting t ours (peer_of id (place_of id) addresses) r))
+      step = cond_ind (λ (r : Result Sighting Refusal). SeenDoes t ours id addresses r (after_sighting t ours (peer_of id (place_of id) addresses) r))
 
       taken : in_form t ours ≡ true → bad_peer ours id ≡ false
           → SeenDoes t ours id addresses (sighting_of t ours (peer_of id (place_of id) addresses)) (seen_table t ours (peer_of id (place_of id) addresses))
@@ -283,37 +283,37 @@ module _ (t ours : List ℕ) (l : length ours ≡ 32) (b : Bytes ours) where
       (λ g. step (not (fits t ours (place_of head) (place_of id))) _ _ (λ _. refl)
       (λ h. step client _ _ (λ _. refl) (λ _. taken (not-false _ f) g (not-false _ h) answered)))))
     where
-      step : (c : Bool) (r s : Settled) → (c ≡ true → SettleDoes t ours head id addresses r (after_settling t ours (place_of head) (peer_of id (place_of id) addresses) r))
+      step : (c : Bool) (r s : Result Settled Refusal) → (c ≡ true → SettleDoes t ours head id addresses r (after_settling t ours (place_of head) (peer_of id (place_of id) addresses) r))
           → (c ≡ false → SettleDoes t ours head id addresses s (after_settling t ours (place_of head) (peer_of id (place_of id) addresses) s))
           → SettleDoes t ours head id addresses (cond c r s) (after_settling t ours (place_of head) (peer_of id (place_of id) addresses) (cond c r s))
-      step = cond_ind (λ (r : Settled). SettleDoes t ours head id addresses r (after_settling t ours (place_of head) (peer_of id (place_of id) addresses) r))
+      step = cond_ind (λ (r : Result Settled Refusal). SettleDoes t ours head id addresses r (after_settling t ours (place_of head) (peer_of id (place_of id) addresses) r))
 
       taken : in_form t ours ≡ true → bad_peer ours id ≡ false → fits t ours (place_of head) (place_of id) ≡ true → (a : Bool)
           → SettleDoes t ours head id addresses (settlement_of t ours (place_of head) (peer_of id (place_of id) addresses) a) (settled_table t ours (place_of head) (peer_of id (place_of id) addresses) a)
       taken y g h true =
           let k = (kept t ours y).kept (place_of head) (peer_of id (place_of id) addresses) (fits-still t ours (place_of head) (place_of id) y h) in
-          subst (λ (s : Settled). SettleDoes t ours head id addresses s (settled_table t ours (place_of head) (peer_of id (place_of id) addresses) true)) (sym k.0) k.1
+          subst (λ (s : Result Settled Refusal). SettleDoes t ours head id addresses s (settled_table t ours (place_of head) (peer_of id (place_of id) addresses) true)) (sym k.0) k.1
       taken y g h false =
           let k = (kept t ours y).swapped (place_of head) (peer_of id (place_of id) addresses) (fair ours id addresses l b g) (fits-still t ours (place_of head) (place_of id) y h) in
-          subst (λ (s : Settled). SettleDoes t ours head id addresses s (settled_table t ours (place_of head) (peer_of id (place_of id) addresses) false)) (sym k.0)
+          subst (λ (s : Result Settled Refusal). SettleDoes t ours head id addresses s (settled_table t ours (place_of head) (peer_of id (place_of id) addresses) false)) (sym k.0)
           (as-gone t ours id addresses g (place_of head) _ k.1)
 
 remove-does : (t ours id : List ℕ) → RemoveDoes t ours id (remove_call t ours id) (remove_call_table t ours id)
 unfolding remove_call_table remove_call after_removal removal_of removed_table
 remove-does t ours id = step (not (in_form t ours)) _ _ (λ _. refl) (λ f. step (bad_peer ours id) _ _ (λ _. refl) (λ _. ⊎_elim (gone (not-false _ f)) none (either (held t (place_of id)))))
   where
-    step : (c : Bool) (r s : Removed) → (c ≡ true → RemoveDoes t ours id r (after_removal t ours (place_of id) r)) → (c ≡ false → RemoveDoes t ours id s (after_removal t ours (place_of id) s))
+    step : (c : Bool) (r s : Result ⊤ Refusal) → (c ≡ true → RemoveDoes t ours id r (after_removal t ours (place_of id) r)) → (c ≡ false → RemoveDoes t ours id s (after_removal t ours (place_of id) s))
         → RemoveDoes t ours id (cond c r s) (after_removal t ours (place_of id) (cond c r s))
-    step = cond_ind (λ (r : Removed). RemoveDoes t ours id r (after_removal t ours (place_of id) r))
+    step = cond_ind (λ (r : Result ⊤ Refusal). RemoveDoes t ours id r (after_removal t ours (place_of id) r))
 
     Last : Type 0
     Last = RemoveDoes t ours id (removal_of t (place_of id)) (removed_table t ours (place_of id))
 
     gone : in_form t ours ≡ true → held t (place_of id) ≡ true → Last
-    gone y h = let k = (kept t ours y).gone (place_of id) h in subst (λ (r : Removed). RemoveDoes t ours id r (removed_table t ours (place_of id))) (sym k.0) k.1
+    gone y h = let k = (kept t ours y).gone (place_of id) h in subst (λ (r : Result ⊤ Refusal). RemoveDoes t ours id r (removed_table t ours (place_of id))) (sym k.0) k.1
 
     none : held t (place_of id) ≡ false → Last
-    none h = subst (λ (r : Removed). RemoveDoes t ours id r (after_removal t ours (place_of id) r)) (sym (cond_no (held t (place_of id)) _ _ h)) refl
+    none h = subst (λ (r : Result ⊤ Refusal). RemoveDoes t ours id r (after_removal t ours (place_of id) r)) (sym (cond_no (held t (place_of id)) _ _ h)) refl
 
 -- ---- a head that answered stays
 never-evicted : (t ours head id : List ℕ) (client : Bool) (addresses : List ℕ) (j : ℕ) → j < slots_of t
@@ -328,37 +328,37 @@ never-evicted t ours head id client addresses j l =
     same : SameContact (slot t j) (slot t j)
     same = record { same_id = refl; same_place = refl; same_addresses = refl; same_use = refl }
 
-    step : (c : Bool) (r s : Settled) → (c ≡ true → SameContact (slot (after_settling t ours (place_of head) (peer_of id (place_of id) addresses) r) j) (slot t j))
+    step : (c : Bool) (r s : Result Settled Refusal) → (c ≡ true → SameContact (slot (after_settling t ours (place_of head) (peer_of id (place_of id) addresses) r) j) (slot t j))
         → (c ≡ false → SameContact (slot (after_settling t ours (place_of head) (peer_of id (place_of id) addresses) s) j) (slot t j))
         → SameContact (slot (after_settling t ours (place_of head) (peer_of id (place_of id) addresses) (cond c r s)) j) (slot t j)
-    step = cond_ind (λ (r : Settled). SameContact (slot (after_settling t ours (place_of head) (peer_of id (place_of id) addresses) r) j) (slot t j))
+    step = cond_ind (λ (r : Result Settled Refusal). SameContact (slot (after_settling t ours (place_of head) (peer_of id (place_of id) addresses) r) j) (slot t j))
 
     taken : in_form t ours ≡ true → SameContact (slot (settled_table t ours (place_of head) (peer_of id (place_of id) addresses) true) j) (slot t j)
     taken y = (kept t ours y).unevicted (place_of head) (peer_of id (place_of id) addresses) j l
 
 -- ---- freed slots are used again
 -- 14 is for want of a slot
-fourteen : (t ours : List ℕ) (p : Peer) → seen_number (sighting_of t ours p) ≡ 14 → sighting_of t ours p ≡ seen.Refused NoContactSlot
+fourteen : (t ours : List ℕ) (p : Peer) → seen_number (sighting_of t ours p) ≡ 14 → sighting_of t ours p ≡ Err NoContactSlot
 unfolding sighting_of newcomer
 fourteen t ours p =
     step (held t p.place) _ _ (λ e. absurd (omega arith))
     (step (leb 20 (tail_of t ours (bucket_of p.place ours))) _ _ (λ e. absurd (omega arith)) (step (ltb (free_at t) (slots_of t)) _ _ (λ e. absurd (omega arith)) (λ _. refl)))
   where
-    For : Sighting → Type 0
-    For s = seen_number s ≡ 14 → s ≡ seen.Refused NoContactSlot
+    For : Result Sighting Refusal → Type 0
+    For s = seen_number s ≡ 14 → s ≡ Err NoContactSlot
 
-    step : (c : Bool) (r s : Sighting) → For r → For s → For (cond c r s)
+    step : (c : Bool) (r s : Result Sighting Refusal) → For r → For s → For (cond c r s)
     step c r s f g = cond_ind For c r s (λ _. f) (λ _. g)
 
 -- where nobody lacks a slot, nobody gets 14
-never-fourteen : (t ours id : List ℕ) (client : Bool) (addresses : List ℕ) → (sighting_of t ours (peer_of id (place_of id) addresses) ≡ seen.Refused NoContactSlot → ⊥) → seen_number (seen_call t ours id client addresses) ≡ 14 → ⊥
+never-fourteen : (t ours id : List ℕ) (client : Bool) (addresses : List ℕ) → (sighting_of t ours (peer_of id (place_of id) addresses) ≡ Err NoContactSlot → ⊥) → seen_number (seen_call t ours id client addresses) ≡ 14 → ⊥
 unfolding seen_call
 never-fourteen t ours id client addresses n =
     step (not (in_form t ours)) _ _ (λ _ e. omega arith)
     (λ _. step (bad_peer ours id) _ _ (λ _ e. omega arith) (λ _. step client _ _ (λ _ e. omega arith) (λ _ e. n (fourteen t ours (peer_of id (place_of id) addresses) e))))
   where
-    step : (c : Bool) (r s : Sighting) → (c ≡ true → seen_number r ≡ 14 → ⊥) → (c ≡ false → seen_number s ≡ 14 → ⊥) → seen_number (cond c r s) ≡ 14 → ⊥
-    step = cond_ind (λ (r : Sighting). seen_number r ≡ 14 → ⊥)
+    step : (c : Bool) (r s : Result Sighting Refusal) → (c ≡ true → seen_number r ≡ 14 → ⊥) → (c ≡ false → seen_number s ≡ 14 → ⊥) → seen_number (cond c r s) ≡ 14 → ⊥
+    step = cond_ind (λ (r : Result Sighting Refusal). seen_number r ≡ 14 → ⊥)
 
 used-again : (t ours id other : List ℕ) (client : Bool) (addresses : List ℕ) → remove_number (remove_call t ours id) ≡ 64
     → seen_number (seen_call (remove_call_table t ours id) ours other client addresses) ≡ 14 → ⊥
@@ -368,15 +368,15 @@ used-again t ours id other client addresses =
     (λ f. step (bad_peer ours id) _ _ (λ _ e. absurd (omega arith))
     (λ _. step (held t (place_of id)) _ _ (λ h _. taken (not-false _ f) h) (λ _ e. absurd (omega arith))))
   where
-    Again : Removed → Type 0
+    Again : Result ⊤ Refusal → Type 0
     Again r = remove_number r ≡ 64 → seen_number (seen_call (after_removal t ours (place_of id) r) ours other client addresses) ≡ 14 → ⊥
 
-    step : (c : Bool) (r s : Removed) → (c ≡ true → Again r) → (c ≡ false → Again s) → Again (cond c r s)
+    step : (c : Bool) (r s : Result ⊤ Refusal) → (c ≡ true → Again r) → (c ≡ false → Again s) → Again (cond c r s)
     step = cond_ind Again
 
-    taken : in_form t ours ≡ true → held t (place_of id) ≡ true → seen_number (seen_call (after_removal t ours (place_of id) remove.Gone) ours other client addresses) ≡ 14 → ⊥
+    taken : in_form t ours ≡ true → held t (place_of id) ≡ true → seen_number (seen_call (after_removal t ours (place_of id) (Ok tt)) ours other client addresses) ≡ 14 → ⊥
     taken y h =
-        subst (λ (r : Removed). seen_number (seen_call (after_removal t ours (place_of id) r) ours other client addresses) ≡ 14 → ⊥) ((kept t ours y).gone (place_of id) h).0
+        subst (λ (r : Result ⊤ Refusal). seen_number (seen_call (after_removal t ours (place_of id) r) ours other client addresses) ≡ 14 → ⊥) ((kept t ours y).gone (place_of id) h).0
         (never-fourteen (removed_table t ours (place_of id)) ours other client addresses ((kept t ours y).reused (place_of id) (peer_of other (place_of other) addresses) h))
 
 -- ---- a sighting beside a reply is a seen
@@ -399,25 +399,25 @@ module _ (t ours : List ℕ) (l : length ours ≡ 32) (b : Bytes ours) where
       ⊎_elim (λ y. settle-call-keeps t ours l b y head id client addresses answered) (λ f. absurd (n (settle-zero t ours head id client addresses answered f))) (either (in_form t ours))
 
   seen-given : (id : List ℕ) (client : Bool) (addresses : List ℕ) → Bytes (seen_call_table t ours id client addresses) → (i : ℕ)
-      → (seen_call t ours id client addresses ≡ seen.Moved i) ⊎ (seen_call t ours id client addresses ≡ seen.Joined i) → GivesFirst (seen_call_table t ours id client addresses) (place_of id) i
+      → (seen_call t ours id client addresses ≡ Ok (seen.Moved i)) ⊎ (seen_call t ours id client addresses ≡ Ok (seen.Joined i)) → GivesFirst (seen_call_table t ours id client addresses) (place_of id) i
   seen-given id client addresses w i =
-      ⊎_elim (λ e. at (seen.Moved i) e (λ z. omega arith) (does (seen.Moved i) e).tail) (λ e. at (seen.Joined i) e (λ z. omega arith) (does (seen.Joined i) e).tail)
+      ⊎_elim (λ e. at (Ok (seen.Moved i)) e (λ z. omega arith) (does (Ok (seen.Moved i)) e).tail) (λ e. at (Ok (seen.Joined i)) e (λ z. omega arith) (does (Ok (seen.Joined i)) e).tail)
     where
-      does : (o : Sighting) → seen_call t ours id client addresses ≡ o → SeenDoes t ours id addresses o (seen_call_table t ours id client addresses)
-      does o e = subst (λ (o : Sighting). SeenDoes t ours id addresses o (seen_call_table t ours id client addresses)) e (seen-does t ours l b id client addresses)
+      does : (o : Result Sighting Refusal) → seen_call t ours id client addresses ≡ o → SeenDoes t ours id addresses o (seen_call_table t ours id client addresses)
+      does o e = subst (λ (o : Result Sighting Refusal). SeenDoes t ours id addresses o (seen_call_table t ours id client addresses)) e (seen-does t ours l b id client addresses)
 
-      at : (o : Sighting) → seen_call t ours id client addresses ≡ o → (seen_number o ≡ 0 → ⊥) → AtTail ours (place_of id) i (seen_call_table t ours id client addresses)
+      at : (o : Result Sighting Refusal) → seen_call t ours id client addresses ≡ o → (seen_number o ≡ 0 → ⊥) → AtTail ours (place_of id) i (seen_call_table t ours id client addresses)
           → GivesFirst (seen_call_table t ours id client addresses) (place_of id) i
       at o e n a = (kept (seen_call_table t ours id client addresses) ours (seen-in-form id client addresses (λ z. n (sym (ap seen_number e) ∙ z)))).given w (place_of id) i a
 
   answerer-given : (head id : List ℕ) (client : Bool) (addresses : List ℕ) (answered : Bool) → Bytes (settle_call_table t ours head id client addresses answered)
-      → settle_call t ours head id client addresses answered ≡ settle.Kept → GivesFirst (settle_call_table t ours head id client addresses answered) (place_of head) (held_at t (place_of head))
+      → settle_call t ours head id client addresses answered ≡ Ok settle.Kept → GivesFirst (settle_call_table t ours head id client addresses answered) (place_of head) (held_at t (place_of head))
   answerer-given head id client addresses answered w e =
       (kept (settle_call_table t ours head id client addresses answered) ours (settle-in-form head id client addresses answered (λ z. kept-number (sym (ap settle_number e) ∙ z)))).given w (place_of head)
       (held_at t (place_of head))
-      (subst (λ (o : Settled). SettleDoes t ours head id addresses o (settle_call_table t ours head id client addresses answered)) e (settle-does t ours l b head id client addresses answered)).tail
+      (subst (λ (o : Result Settled Refusal). SettleDoes t ours head id addresses o (settle_call_table t ours head id client addresses answered)) e (settle-does t ours l b head id client addresses answered)).tail
     where
-      kept-number : settle_number settle.Kept ≡ 0 → ⊥
+      kept-number : settle_number (Ok settle.Kept) ≡ 0 → ⊥
       kept-number z = omega arith
 
 pub claims : Claims

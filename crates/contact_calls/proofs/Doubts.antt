@@ -14,17 +14,15 @@ use Rattle.contacts.proofs.Claims as contacts
 use Rattle.peer.specs.declared.Peer.{Peer}
 use Rattle.peer.specs.Peers.{bad_peer, peer_of}
 use Rattle.sightings.specs.declared.Sighting.{Sighting}
-use Rattle.sightings.specs.declared.Sighting.TheVariants as seen
 use Rattle.sightings.specs.declared.Settled.{Settled}
-use Rattle.sightings.specs.declared.Settled.TheVariants as settle
-use Rattle.sightings.specs.declared.Doubted.{Doubted}
-use Rattle.sightings.specs.declared.Doubted.TheVariants as doubt
 use Rattle.sightings.specs.Order.{held_at}
 use Rattle.sightings.specs.Sightings.{held, fits, settlement_of, marking_of, after_marking, marked_table}
 use Rattle.sightings_kept.proofs.Doubts.{doubt-marks-one, doubt-ignored, doubt-fits, doubt-settles}
 use Rattle.sightings_kept.proofs.Forms.{doubt-keeps}
 use Rattle.contact_calls.specs.Calls.{seen_call, settle_call, doubt_call, doubt_call_table, doubt_number}
 use Rattle.contact_calls.specs.Claims.{Admits, DoubtTold, DoubtDoes}
+use Rattle.std.specs.Prelude.{Ok, Err, Result, ⊤}
+use Rattle.refusal.specs.declared.Refusal.{Refusal}
 
 module _ (t ours id : List ℕ) where
   -- ---- the number
@@ -42,19 +40,19 @@ module _ (t ours id : List ℕ) where
   }
 
   -- ---- the table: a refusal leaves it, and else it is in form and the contact, which is held, is marked
-  pub doubt-either : (P : Doubted → List ℕ → Type 0) → ((r : Doubted) → doubt_number r < 64 → P r t) → (in_form t ours ≡ true → held t (place_of id) ≡ true → P doubt.Marked (marked_table t (place_of id)))
+  pub doubt-either : (P : Result ⊤ Refusal → List ℕ → Type 0) → ((r : Result ⊤ Refusal) → doubt_number r < 64 → P r t) → (in_form t ours ≡ true → held t (place_of id) ≡ true → P (Ok tt) (marked_table t (place_of id)))
       → P (doubt_call t ours id) (doubt_call_table t ours id)
   unfolding doubt_call_table doubt_call after_marking marking_of marked_table
   doubt-either P left taken =
-      step (not (in_form t ours)) _ _ (λ _. left (doubt.Refused OutOfForm) (omega arith))
-      (λ f. step (bad_peer ours id) _ _ (λ _. left (doubt.Refused BadPeer) (omega arith))
-      (λ _. step (held t (place_of id)) _ _ (λ h. marks (not-false _ f) h) (λ _. left (doubt.Refused NoLongerFits) (omega arith))))
+      step (not (in_form t ours)) _ _ (λ _. left (Err OutOfForm) (omega arith))
+      (λ f. step (bad_peer ours id) _ _ (λ _. left (Err BadPeer) (omega arith))
+      (λ _. step (held t (place_of id)) _ _ (λ h. marks (not-false _ f) h) (λ _. left (Err NoLongerFits) (omega arith))))
     where
-      step : (c : Bool) (r s : Doubted) → (c ≡ true → P r (after_marking t (place_of id) r)) → (c ≡ false → P s (after_marking t (place_of id) s)) → P (cond c r s) (after_marking t (place_of id) (cond c r s))
-      step = cond_ind (λ (r : Doubted). P r (after_marking t (place_of id) r))
+      step : (c : Bool) (r s : Result ⊤ Refusal) → (c ≡ true → P r (after_marking t (place_of id) r)) → (c ≡ false → P s (after_marking t (place_of id) s)) → P (cond c r s) (after_marking t (place_of id) (cond c r s))
+      step = cond_ind (λ (r : Result ⊤ Refusal). P r (after_marking t (place_of id) r))
 
-      marks : in_form t ours ≡ true → held t (place_of id) ≡ true → P doubt.Marked (after_marking t (place_of id) doubt.Marked)
-      marks y h = subst (λ (r : Doubted). P doubt.Marked (after_marking t (place_of id) r)) (doubt-marks-one t (place_of id) h).0 (taken y h)
+      marks : in_form t ours ≡ true → held t (place_of id) ≡ true → P (Ok tt) (after_marking t (place_of id) (Ok tt))
+      marks y h = subst (λ (r : Result ⊤ Refusal). P (Ok tt) (after_marking t (place_of id) r)) (doubt-marks-one t (place_of id) h).0 (taken y h)
 
   pub doubt-leaves : doubt_number (doubt_call t ours id) < 64 → doubt_call_table t ours id ≡ t
   doubt-leaves = doubt-either (λ r u. doubt_number r < 64 → u ≡ t) (λ r _ _. refl) (λ _ _ l. absurd (omega arith))
@@ -62,9 +60,9 @@ module _ (t ours id : List ℕ) where
   pub doubt-does : DoubtDoes t id (doubt_call t ours id) (doubt_call_table t ours id)
   doubt-does = doubt-either (DoubtDoes t id) refused (λ _ h. (doubt-marks-one t (place_of id) h).1)
     where
-      refused : (r : Doubted) → doubt_number r < 64 → DoubtDoes t id r t
-      refused doubt.Marked l = absurd (omega arith)
-      refused (doubt.Refused r) l = refl
+      refused : (r : Result ⊤ Refusal) → doubt_number r < 64 → DoubtDoes t id r t
+      refused (Ok tt) l = absurd (omega arith)
+      refused (Err r) l = refl
 
   pub doubt-form : in_form t ours ≡ true → in_form (doubt_call_table t ours id) ours ≡ true
   doubt-form = doubt-either (λ _ u. in_form t ours ≡ true → in_form u ours ≡ true) (λ _ _ y. y) (λ y _ _. doubt-keeps t ours (place_of id) y)
@@ -74,7 +72,7 @@ module _ (t ours id : List ℕ) where
   unfolding seen_call
   seen-ignores other client addresses =
       doubt-either (λ _ u. seen_call u ours other client addresses ≡ seen_call t ours other client addresses) (λ _ _. refl)
-      (λ y _. ap₂ (λ (f : Bool) (s : Sighting). cond (not f) (seen.Refused OutOfForm) (cond (bad_peer ours other) (seen.Refused BadPeer) (cond client (seen.Refused Client) s)))
+      (λ y _. ap₂ (λ (f : Bool) (s : Result Sighting Refusal). cond (not f) (Err OutOfForm) (cond (bad_peer ours other) (Err BadPeer) (cond client (Err Client) s)))
       (doubt-keeps t ours (place_of id) y ∙ sym y) (doubt-ignored t (place_of id) ours (peer_of other (place_of other) addresses)))
 
   pub settle-ignores : (head other : List ℕ) (client : Bool) (addresses : List ℕ) (answered : Bool)
@@ -88,11 +86,11 @@ module _ (t ours id : List ℕ) where
       newcomer : Peer
       newcomer = peer_of other (place_of other) addresses
 
-      judged : Bool → Bool → Settled → Settled
+      judged : Bool → Bool → Result Settled Refusal → Result Settled Refusal
       judged f g last =
-          cond (not f) (settle.Refused OutOfForm)
-          (cond (bad_peer ours head) (settle.Refused BadPeer)
-          (cond (bad_peer ours other) (settle.Refused BadPeer) (cond (not g) (settle.Refused NoLongerFits) (cond client (settle.Refused Client) last))))
+          cond (not f) (Err OutOfForm)
+          (cond (bad_peer ours head) (Err BadPeer)
+          (cond (bad_peer ours other) (Err BadPeer) (cond (not g) (Err NoLongerFits) (cond client (Err Client) last))))
 
   -- ---- who is marked isn't given
   pub marked-hidden : (x : List ℕ) → doubt_number (doubt_call t ours id) ≡ 64 → Gives (doubt_call_table t ours id) x (held_at t (place_of id)) → ⊥

@@ -12,14 +12,12 @@ use Rattle.sightings.specs.declared.Sighting.{Sighting}
 use Rattle.sightings.specs.declared.Sighting.TheVariants as seen
 use Rattle.sightings.specs.declared.Settled.{Settled}
 use Rattle.sightings.specs.declared.Settled.TheVariants as settle
-use Rattle.sightings.specs.declared.Removed.{Removed}
-use Rattle.sightings.specs.declared.Removed.TheVariants as remove
-use Rattle.sightings.specs.declared.Doubted.{Doubted}
-use Rattle.sightings.specs.declared.Doubted.TheVariants as doubt
 use Rattle.sightings.specs.Order.{is_head, held_at}
 use Rattle.sightings.specs.Sightings.{held, sighting_of, seen_table}
 use Rattle.sightings_kept.specs.Promises.{SameContact, HeldSeen, NewSeen, Freed, HeadKept, HeadGone, StillFits, OnlyMarked, holds}
 use Rattle.contact_calls.specs.Calls.{seen_call, seen_call_table, settle_call, settle_call_table, remove_call, remove_call_table, doubt_call, doubt_call_table, seen_number, settle_number, remove_number, doubt_number}
+use Rattle.std.specs.Prelude.{Ok, Err, Result, ⊤}
+use Rattle.refusal.specs.declared.Refusal.{Refusal}
 
 -- ---- the number that a host is told: RULES, Refusals, "given exactly when". In each record the cases leave none out
 
@@ -74,25 +72,25 @@ Neither13Nor14 n = (n ≡ 13 → ⊥) × (n ≡ 14 → ⊥)
 
 -- ---- what each answer makes of the table t: u. In each, nobody else's id, place, addresses, order or mark of doubt changes
 -- "takes the new addresses if any is usable (..; the first four usable)"; a newcomer has the id that was handed in
-abbrev pub SeenDoes : List ℕ → List ℕ → List ℕ → List ℕ → Sighting → List ℕ → Type 0
-SeenDoes t ours id addresses (seen.Moved i) u = HeldSeen t ours (place_of id) (kept_of addresses) i u
-SeenDoes t ours id addresses (seen.Joined i) u = NewSeen t ours (place_of id) id (kept_of addresses) i u
+abbrev pub SeenDoes : List ℕ → List ℕ → List ℕ → List ℕ → Result Sighting Refusal → List ℕ → Type 0
+SeenDoes t ours id addresses (Ok (seen.Moved i)) u = HeldSeen t ours (place_of id) (kept_of addresses) i u
+SeenDoes t ours id addresses (Ok (seen.Joined i)) u = NewSeen t ours (place_of id) id (kept_of addresses) i u
 -- "its head is named for a probe"
-SeenDoes t ours id addresses (seen.Probe h) u = (h < slots_of t) × (is_head ours (bucket_of (place_of id) ours) (slot t h) ≡ true) × (u ≡ t)
-SeenDoes t ours id addresses (seen.Refused r) u = u ≡ t
+SeenDoes t ours id addresses (Ok (seen.Probe h)) u = (h < slots_of t) × (is_head ours (bucket_of (place_of id) ours) (slot t h) ≡ true) × (u ≡ t)
+SeenDoes t ours id addresses (Err r) u = u ≡ t
 
-abbrev pub SettleDoes : List ℕ → List ℕ → List ℕ → List ℕ → List ℕ → Settled → List ℕ → Type 0
-SettleDoes t ours head id addresses settle.Kept u = HeadKept t ours (place_of head) u
-SettleDoes t ours head id addresses settle.Swapped u = HeadGone t ours (place_of head) (place_of id) id (kept_of addresses) u
-SettleDoes t ours head id addresses (settle.Refused r) u = u ≡ t
+abbrev pub SettleDoes : List ℕ → List ℕ → List ℕ → List ℕ → List ℕ → Result Settled Refusal → List ℕ → Type 0
+SettleDoes t ours head id addresses (Ok settle.Kept) u = HeadKept t ours (place_of head) u
+SettleDoes t ours head id addresses (Ok settle.Swapped) u = HeadGone t ours (place_of head) (place_of id) id (kept_of addresses) u
+SettleDoes t ours head id addresses (Err r) u = u ≡ t
 
-abbrev pub RemoveDoes : List ℕ → List ℕ → List ℕ → Removed → List ℕ → Type 0
-RemoveDoes t ours id remove.Gone u = Freed t ours (place_of id) (held_at t (place_of id)) u
-RemoveDoes t ours id (remove.Refused r) u = u ≡ t
+abbrev pub RemoveDoes : List ℕ → List ℕ → List ℕ → Result ⊤ Refusal → List ℕ → Type 0
+RemoveDoes t ours id (Ok tt) u = Freed t ours (place_of id) (held_at t (place_of id)) u
+RemoveDoes t ours id (Err r) u = u ≡ t
 
-abbrev pub DoubtDoes : List ℕ → List ℕ → Doubted → List ℕ → Type 0
-DoubtDoes t id doubt.Marked u = OnlyMarked t (held_at t (place_of id)) u
-DoubtDoes t id (doubt.Refused r) u = u ≡ t
+abbrev pub DoubtDoes : List ℕ → List ℕ → Result ⊤ Refusal → List ℕ → Type 0
+DoubtDoes t id (Ok tt) u = OnlyMarked t (held_at t (place_of id)) u
+DoubtDoes t id (Err r) u = u ≡ t
 
 -- ---- the claims
 pub record Claims : Type 0 where
@@ -136,9 +134,9 @@ pub record Claims : Type 0 where
   pub hidden : (t ours id x : List ℕ) → doubt_number (doubt_call t ours id) ≡ 64 → Gives (doubt_call_table t ours id) x (held_at t (place_of id)) → ⊥
   -- "being seen, or answering a probe, clears the mark": it is the first for its own place. Lent memory has bytes alone
   pub seen_given : (t ours id : List ℕ) (client : Bool) (addresses : List ℕ) → length ours ≡ 32 → Bytes ours → Bytes (seen_call_table t ours id client addresses) → (i : ℕ)
-      → (seen_call t ours id client addresses ≡ seen.Moved i) ⊎ (seen_call t ours id client addresses ≡ seen.Joined i) → GivesFirst (seen_call_table t ours id client addresses) (place_of id) i
+      → (seen_call t ours id client addresses ≡ Ok (seen.Moved i)) ⊎ (seen_call t ours id client addresses ≡ Ok (seen.Joined i)) → GivesFirst (seen_call_table t ours id client addresses) (place_of id) i
   pub answerer_given : (t ours head id : List ℕ) (client : Bool) (addresses : List ℕ) (answered : Bool) → length ours ≡ 32 → Bytes ours
-      → Bytes (settle_call_table t ours head id client addresses answered) → settle_call t ours head id client addresses answered ≡ settle.Kept
+      → Bytes (settle_call_table t ours head id client addresses answered) → settle_call t ours head id client addresses answered ≡ Ok settle.Kept
       → GivesFirst (settle_call_table t ours head id client addresses answered) (place_of head) (held_at t (place_of head))
   -- "memory once cleared" is in form, and each call keeps it so; seen and settle, where ours is a place
   pub cleared : (t ours : List ℕ) → ((k : ℕ) → get_or t k 0 ≡ 0) → in_form t ours ≡ true

@@ -3,58 +3,60 @@
 // changes nothing. Every public function takes any bytes.
 ghost use Rattle.std.specs.Prelude.{◌≡◌};
 ghost use Rattle.contact_calls.specs.Calls.{seen_call, seen_call_table, settle_call, settle_call_table, remove_call, remove_call_table, doubt_call, doubt_call_table};
-ghost use Rattle.contact_calls.specs.Inner.{Judges, client_outcome};
+ghost use Rattle.contact_calls.specs.Inner.{judged, admitted, client_outcome};
 
 use refusal::Refusal;
-pub use sightings::{Doubted, Removed, Settled, Sighting};
+pub use sightings::{Settled, Sighting};
 
-// An id that has been judged: whether refusal 12 applies, and its place where it doesn't.
-#[derive(Drop)]
-struct Judged {
-    place: [u8; 32],
-    bad: bool,
-}
-
-// The length is looked at first, so that no long id is hashed.
-fn judge(ours: &[u8], id: &[u8]) -> Judged
-    ensures { Judges ours.now id.now result }
+// The place of an id that refusal 12 lets in. The length is looked at first, so that no long id is hashed.
+fn judge(ours: &[u8], id: &[u8]) -> Result<[u8; 32], Refusal>
+    ensures { result ≡ judged ours.now id.now }
 {
     if !peer::id_fits(id) {
-        let none = [0u8; 32];
-        return Judged {
-            place: none,
-            bad: true,
-        };
+        return Err(Refusal::BadPeer);
     }
     let place = place::place_of(id);
-    let bad = octets::same_bytes(&place, ours);
-    Judged { place, bad }
+    if octets::same_bytes(&place, ours) {
+        return Err(Refusal::BadPeer);
+    }
+    Ok(place)
 }
 
-fn client_outcome(fit: bool) -> Settled
+// What every call begins with: the table's form is tested, refusal 0, and then an id is judged, 12.
+fn admit(table: &[u8], ours: &[u8], id: &[u8]) -> Result<[u8; 32], Refusal>
+    ensures { result ≡ admitted table.now ours.now id.now }
+{
+    if !contacts::in_form(table, ours) {
+        return Err(Refusal::OutOfForm);
+    }
+    judge(ours, id)
+}
+
+// A newcomer that is a client is never taken, and 15 comes before 18.
+fn client_outcome(fit: bool) -> Result<Settled, Refusal>
     ensures { result ≡ client_outcome fit }
 {
-    if fit {
-        return Settled::Refused(Refusal::Client);
-    }
-    Settled::Refused(Refusal::NoLongerFits)
+    Err(if fit {
+        Refusal::Client
+    } else {
+        Refusal::NoLongerFits
+    })
 }
 
 // A peer is seen: its id, whether it is a client, and its addresses (each a length of two bytes, the lowest first, and its bytes).
-pub fn seen(table: &mut [u8], ours: &[u8], id: &[u8], client: bool, addresses: &[u8]) -> Sighting
+pub fn seen(
+    table: &mut [u8],
+    ours: &[u8],
+    id: &[u8],
+    client: bool,
+    addresses: &[u8],
+) -> Result<Sighting, Refusal>
     ensures { (result ≡ seen_call table.old ours.now id.now client addresses.now) × (table.new ≡ seen_call_table table.old ours.now id.now client addresses.now) }
 {
-    if !contacts::in_form(table, ours) {
-        return Sighting::Refused(Refusal::OutOfForm);
-    }
-    let judged = judge(ours, id);
-    if judged.bad {
-        return Sighting::Refused(Refusal::BadPeer);
-    }
+    let place = admit(table, ours, id)?;
     if client {
-        return Sighting::Refused(Refusal::Client);
+        return Err(Refusal::Client);
     }
-    let place = judged.place;
     sightings::seen(table, ours, peer::peer_of(id, place, addresses))
 }
 
@@ -67,60 +69,35 @@ pub fn settle(
     client: bool,
     addresses: &[u8],
     answered: bool,
-) -> Settled
+) -> Result<Settled, Refusal>
     ensures { (result ≡ settle_call table.old ours.now head.now id.now client addresses.now answered) × (table.new ≡ settle_call_table table.old ours.now head.now id.now client addresses.now answered) }
 {
-    if !contacts::in_form(table, ours) {
-        return Settled::Refused(Refusal::OutOfForm);
-    }
-    let old = judge(ours, head);
-    if old.bad {
-        return Settled::Refused(Refusal::BadPeer);
-    }
-    let new = judge(ours, id);
-    if new.bad {
-        return Settled::Refused(Refusal::BadPeer);
-    }
-    let from = old.place;
-    let place = new.place;
+    let from = admit(table, ours, head)?;
+    let newcomer = judge(ours, id)?;
     if client {
-        return client_outcome(sightings::still_fits(table, ours, &from, &place));
+        return client_outcome(sightings::still_fits(table, ours, &from, &newcomer));
     }
     sightings::settle(
         table,
         ours,
         &from,
-        peer::peer_of(id, place, addresses),
+        peer::peer_of(id, newcomer, addresses),
         answered,
     )
 }
 
 // A contact is removed.
-pub fn remove(table: &mut [u8], ours: &[u8], id: &[u8]) -> Removed
+pub fn remove(table: &mut [u8], ours: &[u8], id: &[u8]) -> Result<(), Refusal>
     ensures { (result ≡ remove_call table.old ours.now id.now) × (table.new ≡ remove_call_table table.old ours.now id.now) }
 {
-    if !contacts::in_form(table, ours) {
-        return Removed::Refused(Refusal::OutOfForm);
-    }
-    let judged = judge(ours, id);
-    if judged.bad {
-        return Removed::Refused(Refusal::BadPeer);
-    }
-    let place = judged.place;
-    sightings::remove(table, ours, &place)
+    let leaving = admit(table, ours, id)?;
+    sightings::remove(table, ours, &leaving)
 }
 
 // A contact is marked as doubtful.
-pub fn doubt(table: &mut [u8], ours: &[u8], id: &[u8]) -> Doubted
+pub fn doubt(table: &mut [u8], ours: &[u8], id: &[u8]) -> Result<(), Refusal>
     ensures { (result ≡ doubt_call table.old ours.now id.now) × (table.new ≡ doubt_call_table table.old ours.now id.now) }
 {
-    if !contacts::in_form(table, ours) {
-        return Doubted::Refused(Refusal::OutOfForm);
-    }
-    let judged = judge(ours, id);
-    if judged.bad {
-        return Doubted::Refused(Refusal::BadPeer);
-    }
-    let place = judged.place;
-    sightings::doubt(table, &place)
+    let doubtful = admit(table, ours, id)?;
+    sightings::doubt(table, &doubtful)
 }

@@ -49,12 +49,10 @@ fn addresses_fit(s: &[u8], count: usize) -> bool
     requires { (length s.now ≡ slot_size) × (count ≤ most_addresses) }
     ensures { result ≡ all count (address_fits s.now) }
 {
-    let mut k: usize = 0;
-    while k < count {
+    for k in 0..count {
         if !address_fits(s, k) {
             return false;
         }
-        k += 1;
     }
     true
 }
@@ -106,22 +104,18 @@ fn collect(table: &[u8], ours: &[u8], n: usize, at: &mut [u16]) -> bool
     ensures held { result ≡ true → Indexed table.now ours.now n at.new }
     ensures broken { result ≡ false → in_form table.now ours.now ≡ false }
 {
-    let mut i: usize = 0;
-    while i < n {
+    for i in 0..n {
         let s = slot_at(table, i);
-        if s[0] < 1 {
-            i += 1;
-            continue;
+        if s[0] != 0 {
+            let k = key_of(s, ours);
+            if INDEX <= k {
+                return false;
+            }
+            if at[k] != 0 {
+                return false;
+            }
+            at[k] = (i + 1) as u16;
         }
-        let k = key_of(s, ours);
-        if INDEX <= k {
-            return false;
-        }
-        if at[k] != 0 {
-            return false;
-        }
-        i += 1;
-        at[k] = i as u16;
     }
     true
 }
@@ -183,12 +177,10 @@ fn alone(table: &[u8], mine: &[u8], at: &[u16], k: usize, m: usize) -> bool
     ensures { result ≡ all m (other_before table.now mine.now at.now k) }
 {
     let w = words_of(mine);
-    let mut d: usize = 0;
-    while d < m {
+    for d in 0..m {
         if !other_place(table, mine, w, at[k - (d + 1)]) {
             return false;
         }
-        d += 1;
     }
     true
 }
@@ -216,12 +208,10 @@ fn entries_fit(table: &[u8], at: &[u16]) -> bool
     requires { (length at.now ≡ index_size) × ((j : ℕ) → get_or at.now j 0 ≤ slots_of table.now) }
     ensures { result ≡ all index_size (entry_fits table.now at.now) }
 {
-    let mut k: usize = 0;
-    while k < INDEX {
+    for k in 0..INDEX {
         if !entry_fits(table, at, k) {
             return false;
         }
-        k += 1;
     }
     true
 }

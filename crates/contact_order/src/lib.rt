@@ -118,12 +118,10 @@ pub fn held_at(table: &[u8], p: &[u8]) -> usize
 {
     let n = contacts::slots(table);
     let first = octets::word(p, 0);
-    let mut i: usize = 0;
-    while i < n {
+    for i in 0..n {
         if is_at(table, p, first, i) {
             return i;
         }
-        i += 1;
     }
     n
 }
@@ -133,12 +131,10 @@ pub fn free_at(table: &[u8]) -> usize
     ensures { result ≡ free_at table.now }
 {
     let n = contacts::slots(table);
-    let mut i: usize = 0;
-    while i < n {
+    for i in 0..n {
         if mark_at(table, i) == 0 {
             return i;
         }
-        i += 1;
     }
     n
 }
@@ -148,12 +144,10 @@ pub fn head_at(table: &[u8], ours: &[u8], b: usize) -> usize
     ensures { result ≡ head_at table.now ours.now b }
 {
     let n = contacts::slots(table);
-    let mut i: usize = 0;
-    while i < n {
+    for i in 0..n {
         if is_head(table, ours, b, i) {
             return i;
         }
-        i += 1;
     }
     n
 }
@@ -165,10 +159,8 @@ pub fn tail_of(table: &[u8], ours: &[u8], b: usize) -> u8
     let n = contacts::slots(table);
     let sieve = sieve_of(ours, b);
     let mut top: u8 = 0;
-    let mut i: usize = 0;
-    while i < n {
+    for i in 0..n {
         top = higher(table, ours, b, sieve, i, top);
-        i += 1;
     }
     top
 }
@@ -197,10 +189,8 @@ fn close_up(table: &mut [u8], ours: &[u8], b: usize, m: usize)
 {
     let n = contacts::slots(table);
     let sieve = sieve_of(ours, b);
-    let mut i: usize = 0;
-    while i < n {
+    for i in 0..n {
         lower(table, ours, b, sieve, m, i);
-        i += 1;
     }
 }
 

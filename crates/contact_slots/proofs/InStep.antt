@@ -23,10 +23,6 @@ use Rattle.sightings.specs.declared.Sighting.{Sighting}
 use Rattle.sightings.specs.declared.Sighting.TheVariants as seen
 use Rattle.sightings.specs.declared.Settled.{Settled}
 use Rattle.sightings.specs.declared.Settled.TheVariants as settle
-use Rattle.sightings.specs.declared.Removed.{Removed}
-use Rattle.sightings.specs.declared.Removed.TheVariants as remove
-use Rattle.sightings.specs.declared.Doubted.{Doubted}
-use Rattle.sightings.specs.declared.Doubted.TheVariants as doubt
 use Rattle.sightings.specs.Sightings.{after_sighting, after_settling, after_removal, after_marking}
 use Rattle.contact_calls.specs.Calls.{seen_call, seen_call_table, settle_call, settle_call_table, remove_call, remove_call_table, doubt_call, doubt_call_table}
 use Rattle.host_calls.specs.Hosts.{seen_after, settle_after, remove_after, doubt_after}
@@ -35,6 +31,8 @@ use Rattle.contact_slots.specs.Slots.{slot_bytes, contact_in, table_bytes, conta
 use Rattle.contact_slots.specs.Promises.{AllWhole, InStep}
 use Rattle.contact_slots.proofs.Rows.{table_more}
 use Rattle.contact_slots.proofs.Back.{size_back}
+use Rattle.std.specs.Prelude.{Ok, Err, Result, ⊤}
+use Rattle.refusal.specs.declared.Refusal.{Refusal}
 
 -- ---- no call changes a table's length
 abbrev Same : List ℕ → List ℕ → Type 0
@@ -64,28 +62,28 @@ module _ (t : List ℕ) where
 
   -- ---- the calls
   module _ (o : List ℕ) (p : Peer) where
-    seen-after : (a : Sighting) → Same t (after_sighting t o p a)
+    seen-after : (a : Result Sighting Refusal) → Same t (after_sighting t o p a)
     unfolding after_sighting
-    seen-after (seen.Moved i) = renew-same o i p
-    seen-after (seen.Joined i) = join-same t o i p refl
-    seen-after (seen.Probe h) = refl
-    seen-after (seen.Refused r) = refl
+    seen-after (Ok (seen.Moved i)) = renew-same o i p
+    seen-after (Ok (seen.Joined i)) = join-same t o i p refl
+    seen-after (Ok (seen.Probe h)) = refl
+    seen-after (Err r) = refl
 
-    settle-after : (head : List ℕ) (a : Settled) → Same t (after_settling t o head p a)
+    settle-after : (head : List ℕ) (a : Result Settled Refusal) → Same t (after_settling t o head p a)
     unfolding after_settling join
-    settle-after head settle.Kept = move_same o (held_at t head)
-    settle-after head settle.Swapped = join-same (dropped t o (held_at t head)) o (free_at (dropped t o (held_at t head))) p (dropped-same o (held_at t head))
-    settle-after head (settle.Refused r) = refl
+    settle-after head (Ok settle.Kept) = move_same o (held_at t head)
+    settle-after head (Ok settle.Swapped) = join-same (dropped t o (held_at t head)) o (free_at (dropped t o (held_at t head))) p (dropped-same o (held_at t head))
+    settle-after head (Err r) = refl
 
-  remove-after : (o h : List ℕ) (a : Removed) → Same t (after_removal t o h a)
+  remove-after : (o h : List ℕ) (a : Result ⊤ Refusal) → Same t (after_removal t o h a)
   unfolding after_removal
-  remove-after o h remove.Gone = dropped-same o (held_at t h)
-  remove-after o h (remove.Refused r) = refl
+  remove-after o h (Ok tt) = dropped-same o (held_at t h)
+  remove-after o h (Err r) = refl
 
-  doubt-after : (h : List ℕ) (a : Doubted) → Same t (after_marking t h a)
+  doubt-after : (h : List ℕ) (a : Result ⊤ Refusal) → Same t (after_marking t h a)
   unfolding after_marking
-  doubt-after h doubt.Marked = doubt-same-at (held_at t h)
-  doubt-after h (doubt.Refused r) = refl
+  doubt-after h (Ok tt) = doubt-same-at (held_at t h)
+  doubt-after h (Err r) = refl
 
   seen_same : (me : Peer) (id : List ℕ) (client : Bool) (addresses : List ℕ) → Same t (seen_after me t id client addresses)
   unfolding seen_after seen_call_table

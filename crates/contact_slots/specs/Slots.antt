@@ -7,15 +7,11 @@ use Rattle.flat.specs.Flat.{peer_in}
 use Rattle.refusal.specs.declared.Refusal.TheVariants.{OutOfForm}
 use Rattle.peer.specs.declared.Peer.{Peer}
 use Rattle.sightings.specs.declared.Sighting.{Sighting}
-use Rattle.sightings.specs.declared.Sighting.TheVariants as seen
 use Rattle.sightings.specs.declared.Settled.{Settled}
-use Rattle.sightings.specs.declared.Settled.TheVariants as settle
-use Rattle.sightings.specs.declared.Removed.{Removed}
-use Rattle.sightings.specs.declared.Removed.TheVariants as remove
-use Rattle.sightings.specs.declared.Doubted.{Doubted}
-use Rattle.sightings.specs.declared.Doubted.TheVariants as doubt
 use Rattle.host_calls.specs.Hosts.{seen_of, settle_of, remove_of, doubt_of}
 use Rattle.contact_slots.specs.declared.Contact.{Contact}
+use Rattle.std.specs.Prelude.{Err, Result, ⊤}
+use Rattle.refusal.specs.declared.Refusal.{Refusal}
 
 -- ---- one contact
 -- its mark, its rank in its bucket plus 1, is its slot's first byte, 0 where the slot is free; the second says whether it is doubtful
@@ -54,14 +50,14 @@ unfoldable pub contact_from : ℕ → List ℕ → ℕ → Contact → Contact
 contact_from n room i c = cond (enough n room) (contact_in (slot room i)) c
 
 -- ---- the calls on the n contacts in a room, which are host_calls' on their bytes: 0 where the room is too short for them
-unfoldable pub seen_in : Peer → List ℕ → ℕ → List ℕ → Bool → List ℕ → Sighting
-seen_in me room n id client addresses = cond (enough n room) (seen_of me (table_in n room) id client addresses) (seen.Refused OutOfForm)
+unfoldable pub seen_in : Peer → List ℕ → ℕ → List ℕ → Bool → List ℕ → Result Sighting Refusal
+seen_in me room n id client addresses = cond (enough n room) (seen_of me (table_in n room) id client addresses) (Err OutOfForm)
 
-unfoldable pub settle_in : Peer → List ℕ → ℕ → List ℕ → List ℕ → Bool → List ℕ → Bool → Settled
-settle_in me room n head id client addresses answered = cond (enough n room) (settle_of me (table_in n room) head id client addresses answered) (settle.Refused OutOfForm)
+unfoldable pub settle_in : Peer → List ℕ → ℕ → List ℕ → List ℕ → Bool → List ℕ → Bool → Result Settled Refusal
+settle_in me room n head id client addresses answered = cond (enough n room) (settle_of me (table_in n room) head id client addresses answered) (Err OutOfForm)
 
-unfoldable pub remove_in : Peer → List ℕ → ℕ → List ℕ → Removed
-remove_in me room n id = cond (enough n room) (remove_of me (table_in n room) id) (remove.Refused OutOfForm)
+unfoldable pub remove_in : Peer → List ℕ → ℕ → List ℕ → Result ⊤ Refusal
+remove_in me room n id = cond (enough n room) (remove_of me (table_in n room) id) (Err OutOfForm)
 
-unfoldable pub doubt_in : Peer → List ℕ → ℕ → List ℕ → Doubted
-doubt_in me room n id = cond (enough n room) (doubt_of me (table_in n room) id) (doubt.Refused OutOfForm)
+unfoldable pub doubt_in : Peer → List ℕ → ℕ → List ℕ → Result ⊤ Refusal
+doubt_in me room n id = cond (enough n room) (doubt_of me (table_in n room) id) (Err OutOfForm)

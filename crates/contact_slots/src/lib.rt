@@ -6,7 +6,7 @@ ghost use Rattle.contacts.specs.Table.{slot_size, slot, put_slot};
 ghost use Rattle.host_calls.specs.Hosts.{seen_after, settle_after, remove_after, doubt_after};
 ghost use Rattle.contact_slots.specs.Slots.{slot_bytes, contact_in, enough, table_in, with_table, contact_from, seen_in, settle_in, remove_in, doubt_in};
 
-use contact_calls::{Doubted, Removed, Settled, Sighting};
+use contact_calls::{Settled, Sighting};
 pub use contacts::SLOT;
 use peer::Peer;
 use refusal::Refusal;
@@ -90,21 +90,21 @@ pub fn pick(room: &[u8], n: usize, i: usize, c: Contact) -> Contact
 
 // ---- the calls on the n contacts in the room: refusal 0 where it is too short for them
 
-pub fn remove_in(me: Peer, room: &mut [u8], n: usize, id: &[u8]) -> Removed
+pub fn remove_in(me: Peer, room: &mut [u8], n: usize, id: &[u8]) -> Result<(), Refusal>
     ensures { (result ≡ remove_in me room.old n id.now) × (room.new ≡ with_table n room.old (remove_after me (table_in n room.old) id.now)) }
 {
     if !has_slots(room, n) {
-        return Removed::Refused(Refusal::OutOfForm);
+        return Err(Refusal::OutOfForm);
     }
     let e = n * SLOT;
     host_calls::remove(me, &mut room[..e], id)
 }
 
-pub fn doubt_in(me: Peer, room: &mut [u8], n: usize, id: &[u8]) -> Doubted
+pub fn doubt_in(me: Peer, room: &mut [u8], n: usize, id: &[u8]) -> Result<(), Refusal>
     ensures { (result ≡ doubt_in me room.old n id.now) × (room.new ≡ with_table n room.old (doubt_after me (table_in n room.old) id.now)) }
 {
     if !has_slots(room, n) {
-        return Doubted::Refused(Refusal::OutOfForm);
+        return Err(Refusal::OutOfForm);
     }
     let e = n * SLOT;
     host_calls::doubt(me, &mut room[..e], id)
@@ -117,11 +117,11 @@ pub fn seen_in(
     id: &[u8],
     client: bool,
     addresses: &[u8],
-) -> Sighting
+) -> Result<Sighting, Refusal>
     ensures { (result ≡ seen_in me room.old n id.now client addresses.now) × (room.new ≡ with_table n room.old (seen_after me (table_in n room.old) id.now client addresses.now)) }
 {
     if !has_slots(room, n) {
-        return Sighting::Refused(Refusal::OutOfForm);
+        return Err(Refusal::OutOfForm);
     }
     let e = n * SLOT;
     host_calls::seen(me, &mut room[..e], id, client, addresses)
@@ -136,11 +136,11 @@ pub fn settle_in(
     client: bool,
     addresses: &[u8],
     answered: bool,
-) -> Settled
+) -> Result<Settled, Refusal>
     ensures { (result ≡ settle_in me room.old n head.now id.now client addresses.now answered) × (room.new ≡ with_table n room.old (settle_after me (table_in n room.old) head.now id.now client addresses.now answered)) }
 {
     if !has_slots(room, n) {
-        return Settled::Refused(Refusal::OutOfForm);
+        return Err(Refusal::OutOfForm);
     }
     let e = n * SLOT;
     host_calls::settle(me, &mut room[..e], head, id, client, addresses, answered)

@@ -7,19 +7,18 @@ ghost use Rattle.host_calls.specs.Hosts.{seen_after, settle_after, remove_after,
 ghost use Rattle.contact_slots.specs.Slots.{table_bytes};
 ghost use Rattle.contact_structs.specs.Structs.{contacts_after, room_after, seen_on, settle_on, remove_on, doubt_on};
 
-use contact_calls::{Doubted, Removed, Settled, Sighting};
+use contact_calls::{Settled, Sighting};
 use contact_slots::Contact;
 use peer::Peer;
+use refusal::Refusal;
 
 // Lays the contacts out in the room, as the table of their slots; a room that is too short stays as it is. It also says how many bytes they are.
 pub fn pack(t: &[Contact], room: &mut [u8])
     ensures { (room.new ≡ room_after t.now room.old (table_bytes t.now)) × (length (table_bytes t.now) ≡ length t.now * slot_size) }
 {
     let n = t.len();
-    let mut i: usize = 0;
-    while i < n {
+    for i in 0..n {
         contact_slots::lay(room, n, i, t[i]);
-        i += 1;
     }
 }
 
@@ -28,11 +27,9 @@ pub fn unpack(t: &mut [Contact], room: &[u8])
     ensures { t.new ≡ contacts_after t.old room.now room.now }
 {
     let n = t.len();
-    let mut i: usize = 0;
-    while i < n {
+    for i in 0..n {
         let c = t[i];
         t[i] = contact_slots::pick(room, n, i, c);
-        i += 1;
     }
 }
 
@@ -44,7 +41,7 @@ pub fn seen(
     id: &[u8],
     client: bool,
     addresses: &[u8],
-) -> Sighting
+) -> Result<Sighting, Refusal>
     ensures { (result ≡ seen_on me t.old room.old id.now client addresses.now) × (t.new ≡ contacts_after t.old room.old (seen_after me (table_bytes t.old) id.now client addresses.now)) × (room.new ≡ room_after t.old room.old (seen_after me (table_bytes t.old) id.now client addresses.now)) }
 {
     pack(t, room);
@@ -64,7 +61,7 @@ pub fn settle(
     client: bool,
     addresses: &[u8],
     answered: bool,
-) -> Settled
+) -> Result<Settled, Refusal>
     ensures { (result ≡ settle_on me t.old room.old head.now id.now client addresses.now answered) × (t.new ≡ contacts_after t.old room.old (settle_after me (table_bytes t.old) head.now id.now client addresses.now answered)) × (room.new ≡ room_after t.old room.old (settle_after me (table_bytes t.old) head.now id.now client addresses.now answered)) }
 {
     pack(t, room);
@@ -75,7 +72,7 @@ pub fn settle(
 }
 
 // Takes a contact out.
-pub fn remove(me: Peer, t: &mut [Contact], room: &mut [u8], id: &[u8]) -> Removed
+pub fn remove(me: Peer, t: &mut [Contact], room: &mut [u8], id: &[u8]) -> Result<(), Refusal>
     ensures { (result ≡ remove_on me t.old room.old id.now) × (t.new ≡ contacts_after t.old room.old (remove_after me (table_bytes t.old) id.now)) × (room.new ≡ room_after t.old room.old (remove_after me (table_bytes t.old) id.now)) }
 {
     pack(t, room);
@@ -86,7 +83,7 @@ pub fn remove(me: Peer, t: &mut [Contact], room: &mut [u8], id: &[u8]) -> Remove
 }
 
 // Marks a contact as doubtful.
-pub fn doubt(me: Peer, t: &mut [Contact], room: &mut [u8], id: &[u8]) -> Doubted
+pub fn doubt(me: Peer, t: &mut [Contact], room: &mut [u8], id: &[u8]) -> Result<(), Refusal>
     ensures { (result ≡ doubt_on me t.old room.old id.now) × (t.new ≡ contacts_after t.old room.old (doubt_after me (table_bytes t.old) id.now)) × (room.new ≡ room_after t.old room.old (doubt_after me (table_bytes t.old) id.now)) }
 {
     pack(t, room);

@@ -22,7 +22,7 @@ fn after_seen(
     ensures { result ≡ contacts_after pair room.old (seen_after me (table_bytes pair) id.now false addresses.now) }
 {
     let mut t = pair;
-    contact_structs::seen(me, &mut t, room, id, false, addresses);
+    let _ = contact_structs::seen(me, &mut t, room, id, false, addresses);
     t
 }
 

@@ -103,12 +103,10 @@ fn put(at: &mut [usize; limits::MOST_NEAR], p: usize, k: usize)
     ensures { at.new ≡ take most_near (take p at.old ++ k ∷ drop p at.old) }
 {
     let mut x = k;
-    let mut i = p;
-    while i < limits::MOST_NEAR {
+    for i in p..limits::MOST_NEAR {
         let y = at[i];
         at[i] = x;
         x = y;
-        i += 1;
     }
 }
 
@@ -154,12 +152,10 @@ fn pass(table: &[u8], target: &[u8]) -> Closest
     let end = slots(table);
     let mut at = [0usize; limits::MOST_NEAR];
     let mut n: usize = 0;
-    let mut k = 0;
-    while k < end {
+    for k in 0..end {
         if shown_at(table, k) {
             n = keep(table, target, &mut at, n, k);
         }
-        k += 1;
     }
     Closest { at, n }
 }

@@ -57,17 +57,17 @@ struct Answer {
     slot: usize,
 }
 
-fn answer_of(o: Sighting) -> Answer
+fn answer_of(o: Result<Sighting, Refusal>) -> Answer
     ensures { (result.code ≡ seen_number o) × (result.slot ≡ named_by o) }
 {
     match o {
-        Sighting::Moved(i) => Answer { code: 64, slot: i },
-        Sighting::Joined(i) => Answer { code: 65, slot: i },
-        Sighting::Probe(h) => Answer {
+        Ok(Sighting::Moved(i)) => Answer { code: 64, slot: i },
+        Ok(Sighting::Joined(i)) => Answer { code: 65, slot: i },
+        Ok(Sighting::Probe(h)) => Answer {
             code: refusal::number(Refusal::BucketFull),
             slot: h,
         },
-        Sighting::Refused(r) => Answer {
+        Err(r) => Answer {
             code: refusal::number(r),
             slot: 0,
         },

@@ -8,7 +8,7 @@
 // A letter for each call: m moved, j joined, k the head kept, w the head swapped, g gone; a capital letter is a refusal, A for 0 up.
 ghost use Rattle.std.specs.Prelude.{◌≤◌, ◌<◌};
 
-use contact_calls::{Removed, Settled, Sighting};
+use contact_calls::{Settled, Sighting};
 use refusal::Refusal;
 use std::io;
 use std::io::{Print, Stdout};
@@ -45,39 +45,39 @@ fn refused(r: Refusal) -> u8 {
     b'?'
 }
 
-fn tell_seen(o: Sighting) -> Told {
+fn tell_seen(o: Result<Sighting, Refusal>) -> Told {
     match o {
-        Sighting::Moved(i) => Told {
+        Ok(Sighting::Moved(i)) => Told {
             letter: b'm',
             slot: i,
         },
-        Sighting::Joined(i) => Told {
+        Ok(Sighting::Joined(i)) => Told {
             letter: b'j',
             slot: i,
         },
-        Sighting::Probe(h) => Told {
+        Ok(Sighting::Probe(h)) => Told {
             letter: b'N',
             slot: h,
         },
-        Sighting::Refused(r) => Told {
+        Err(r) => Told {
             letter: refused(r),
             slot: 0,
         },
     }
 }
 
-fn tell_settle(o: Settled) -> u8 {
+fn tell_settle(o: Result<Settled, Refusal>) -> u8 {
     match o {
-        Settled::Kept => b'k',
-        Settled::Swapped => b'w',
-        Settled::Refused(r) => refused(r),
+        Ok(Settled::Kept) => b'k',
+        Ok(Settled::Swapped) => b'w',
+        Err(r) => refused(r),
     }
 }
 
-fn tell_remove(o: Removed) -> u8 {
+fn tell_remove(o: Result<(), Refusal>) -> u8 {
     match o {
-        Removed::Gone => b'g',
-        Removed::Refused(r) => refused(r),
+        Ok(()) => b'g',
+        Err(r) => refused(r),
     }
 }
 
@@ -118,12 +118,10 @@ fn put_address(buf: &mut [u8], at: usize, n: u8, b: u8)
 fn put_list(buf: &mut [u8], x: u8) -> usize {
     let n = x % 6;
     let mut at: usize = 0;
-    let mut k: u8 = 0;
-    while k < n {
+    for k in 0..n {
         let size = below_140((x as u32) * 7 + (k as u32) * 31);
         put_address(buf, at, size, below_256((x as u32) + (k as u32)));
         at = at + 2 + (size as usize);
-        k += 1;
     }
     at
 }
@@ -262,11 +260,9 @@ fn put_letter(line: &mut [u8], i: usize, letter: u8) {
 fn hundred(to: Stdout, table: &mut [u8], ours: &[u8], start: Run) -> io::Result<Run> {
     let mut out = [0u8; 100];
     let mut run = start;
-    let mut i: usize = 0;
-    while i < 100 {
+    for i in 0..100 {
         run = step(table, ours, run);
         put_letter(&mut out, i, run.letter);
-        i += 1;
     }
     say(to, &out)?;
     say(to, b"\n")?;
@@ -317,14 +313,12 @@ fn tell_full(to: Stdout, joined: u8, head: usize) -> io::Result<()> {
 // Peers of bucket 0 are seen until one is turned away.
 fn fill_bucket(to: Stdout, table: &mut [u8], ours: &[u8]) -> io::Result<()> {
     let mut joined: u8 = 0;
-    let mut id: u8 = 0;
-    while id < 200 {
+    for id in 0..200 {
         let told = see_near(table, ours, id);
         if told.letter == b'N' {
             return tell_full(to, joined, told.slot);
         }
         joined = one_more(joined, told.letter);
-        id += 1;
     }
     Ok(())
 }
@@ -402,10 +396,8 @@ fn crowd_step(table: &mut [u8], ours: &[u8], tally: &mut [usize], before: u32) -
 
 fn thousand(table: &mut [u8], ours: &[u8], tally: &mut [usize], start: u32) -> u32 {
     let mut seed = start;
-    let mut i: usize = 0;
-    while i < 1000 {
+    for _ in 0..1000 {
         seed = crowd_step(table, ours, tally, seed);
-        i += 1;
     }
     seed
 }
@@ -437,12 +429,10 @@ fn crowd(to: Stdout, ours: &[u8]) -> io::Result<()> {
     let mut table = [0u8; 118272];
     let mut tally = [0usize; 128];
     let mut seed: u32 = 88172645;
-    let mut k: usize = 0;
-    while k < 6 {
+    for _ in 0..6 {
         seed = thousand(&mut table, ours, &mut tally, seed);
         tell_tally(to, &tally)?;
         tell_table(to, &table)?;
-        k += 1;
     }
     Ok(())
 }
@@ -459,10 +449,8 @@ fn main(rt: HostRuntime) -> io::Result<()> {
         new: 0,
         letter: 0,
     };
-    let mut k: usize = 0;
-    while k < 30 {
+    for k in 1..31 {
         run = hundred(to, &mut table, &ours, run)?;
-        k += 1;
         tell_fifth(to, &table, k)?;
     }
     crowd(to, &ours)

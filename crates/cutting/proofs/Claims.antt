@@ -7,7 +7,6 @@ use Rattle.stream.specs.Stream.{fresh, is_shut, in_form, Out}
 use Rattle.cutting.specs.Frames.{frames}
 use Rattle.cutting.specs.World.{here, put_back, Line, call, called, joined, Fine, Turn, opens, ends, turned, Roomy}
 use Rattle.cutting.specs.Plain.{Wire, standing}
-use Rattle.stream.specs.declared.Ending.{Ending}
 use Rattle.cutting.specs.Claims.{OpenAndEnd, Cut, Later, FormKept, Bounded, Reading, Several, SeveralPlainly, Split, OneReceive, OwnReceive, Past, alone, opened, Reads, Anyone}
 use Rattle.stream.proofs.Steps.{call-runs}
 use Rattle.cutting.proofs.World.{play, handed-all, same_end, hand-split}
@@ -17,6 +16,8 @@ use Rattle.cutting.proofs.Plain.{read_out}
 use Rattle.cutting.proofs.Kept.{end-shuts, receive-form, receive-within, receive-message, end-form}
 use Rattle.cutting.proofs.Later.{later-stays}
 use Rattle.cutting.proofs.Past.{past-alike}
+use Rattle.std.specs.Prelude.{Result, ⊤}
+use Rattle.refusal.specs.declared.Refusal.{Refusal}
 
 pub cut : Cut
 cut P A B O L Peer Good Fits S i d f g ps qs e =
@@ -32,17 +33,17 @@ own-receive P A B O put stops act host Fits acts =
       hosts = λ a o g. tt;
     }
 
-turn-fine : {P A : Type 0} (tell : ℕ → P → A → ℕ → Ending → A) (i : ℕ) (b : Turn P) (l : Line P) (a : A) → Roomy b → Fine Anyone l → Fine Anyone (turned tell i b l a).line
+turn-fine : {P A : Type 0} (tell : ℕ → P → A → ℕ → Result ⊤ Refusal → A) (i : ℕ) (b : Turn P) (l : Line P) (a : A) → Roomy b → Fine Anyone l → Fine Anyone (turned tell i b l a).line
 turn-fine tell i (opens p m) l a x f = record { form = refl; room = x; peer = λ z. tt }
 turn-fine tell i ends l a x f = record { form = end-form l.framing f.form; room = f.room; peer = λ z. tt }
 
-turn-anew : {P A : Type 0} (tell : ℕ → P → A → ℕ → Ending → A) (i : ℕ) (b : Turn P) (l : Line P) (a : A) → in_form l.framing ≡ true
+turn-anew : {P A : Type 0} (tell : ℕ → P → A → ℕ → Result ⊤ Refusal → A) (i : ℕ) (b : Turn P) (l : Line P) (a : A) → in_form l.framing ≡ true
     → is_shut (turned tell i b l a).line.framing ≡ false → (turned tell i b l a).line.framing ≡ fresh
 turn-anew tell i (opens p m) l a f z = refl
 turn-anew tell i ends l a f z = absurd (true≢false (sym (ap is_shut (end-shuts l.framing f)) ∙ z))
 
 -- an act that doesn't look at the buffer
-module _ {P A : Type 0} (tell : ℕ → P → A → ℕ → Ending → A) (i : ℕ) (w : Wire P (Turn P)) (m : List ℕ) (a : A) where
+module _ {P A : Type 0} (tell : ℕ → P → A → ℕ → Result ⊤ Refusal → A) (i : ℕ) (w : Wire P (Turn P)) (m : List ℕ) (a : A) where
   turn-who : (b : Turn P) → (turned tell i b (standing w m) a).line.who ≡ (turned tell i b (standing w []) a).line.who
   turn-who (opens p n) = refl
   turn-who ends = refl

@@ -8,7 +8,6 @@ use native.Mathlib.Omega.{arith}
 use lib.ListN.{length, take, drop, length-drop, drop_of_length-le}
 use Rattle.limits.specs.Limits.{most_body}
 use Rattle.stream.specs.declared.Framing.TheVariants.{Shut}
-use Rattle.stream.specs.declared.Answer.TheVariants.{Message, Refused}
 use Rattle.stream.specs.Stream.{fresh, prefix_of, Out, out, run_of}
 use Rattle.cutting.specs.Frames.{Event, message, refused, Head, partly, whole, bad, head_of, Frames, followed, by_head, frames_from, frames, framing_of, half_of, puts}
 use Rattle.cutting.specs.World.{Did, Line, Shared}
@@ -16,6 +15,7 @@ use Rattle.cutting.specs.Claims.{alone, Reads}
 use Rattle.cutting.proofs.Heads.{Ran, head-run}
 use Rattle.cutting.proofs.Kept.{run_length}
 use Rattle.cutting.proofs.World.{lands, play, play-nil, play-shut, play-run}
+use Rattle.std.specs.Prelude.{Ok, Err, Some}
 
 module _ {A : Type 0} (put : A → Event → A) where
   abbrev Alone : Type 0
@@ -60,13 +60,13 @@ module _ {A : Type 0} (put : A → Event → A) where
       subst (Reads put h.state (record { events = []; shut = false; at = n; rest = bs })) (sym (ran-all m bs n h _ r.runs (omega arith)))
       (record { events = no-events h.state; framing = refl; taken = refl; half = r.there })
   by-head f m bs n h (bad k x) r w l ih =
-      let o : Out = out Shut k (Refused x) m in
+      let o : Out = out Shut k (Err x) m in
       subst (Reads put h.state (record { events = refused (n + k) x ∷ []; shut = true; at = n + k; rest = [] }))
       (sym (ran m bs n h o r ∙ play-shut (alone put) 0 (lead-to (start m n h) o) (drop k bs) refl))
       (record { events = one-event h.state (refused (n + k) x); framing = refl; taken = sym (add-zero (n + k)); half = refl })
   by-head f m bs n h (whole k v) r w l ih =
       let e : Event = message (n + (k + v)) (take v (drop k bs)) in
-      let o : Out = out fresh (k + v) (Message v) r.buffer in
+      let o : Out = out fresh (k + v) (Ok (Some v)) r.buffer in
       let d : length (drop (k + v) bs) ≡ length bs - (k + v) = length-drop (k + v) bs in
       let s : 1 ≤ k = r.some in
       let t : k + v ≤ length bs = r.fits in

@@ -11,18 +11,16 @@ use Rattle.octets.proofs.Bools.{cond_ind, and_i, and_l}
 use Rattle.limits.specs.Limits.{most_body}
 use Rattle.refusal.specs.declared.Refusal.{Refusal}
 use Rattle.refusal.specs.declared.Refusal.TheVariants as no
-use Rattle.stream.specs.declared.Ending.TheVariants as ends
 use Rattle.stream.specs.declared.Held.{Held}
 use Rattle.stream.specs.declared.Held.TheVariants.{Nothing, One, Two}
 use Rattle.stream.specs.declared.Framing.{Framing}
 use Rattle.stream.specs.declared.Framing.TheVariants.{Shut, Prefix, Body}
-use Rattle.stream.specs.declared.Answer.{Answer}
-use Rattle.stream.specs.declared.Answer.TheVariants.{Message, Refused, More}
 use Rattle.stream.specs.declared.Lead.{Lead}
-use Rattle.stream.specs.declared.Lead.TheVariants.{On, Length, Bad}
+use Rattle.stream.specs.declared.Lead.TheVariants.{On, Length}
 use Rattle.stream.specs.Stream.{is_shut, held_form, in_form, limited, minimal, prefix_step, Stepped, led, step_of, store_of, Out, after, run_of, stays, receive_of, ended, end_in, end_of}
 use Rattle.cutting.specs.World.{is_more}
 use Rattle.stream.proofs.Steps.{body-short, body-small}
+use Rattle.std.specs.Prelude.{Ok, Err, Some, None, Result, Option}
 
 pub shut-only : (f : Framing) → is_shut f ≡ true → f ≡ Shut
 shut-only Shut h = refl
@@ -30,10 +28,10 @@ shut-only (Prefix k) h = absurd (false≢true h)
 shut-only (Body want have) h = absurd (false≢true h)
 
 -- ---- form
-abbrev pub LeadForm : Lead → Type 0
-LeadForm (On h) = held_form h ≡ true
-LeadForm (Length n) = n ≤ most_body
-LeadForm (Bad r) = Unit {0}
+abbrev pub LeadForm : Result Lead Refusal → Type 0
+LeadForm (Ok (On h)) = held_form h ≡ true
+LeadForm (Ok (Length n)) = n ≤ most_body
+LeadForm (Err r) = Unit {0}
 
 limited-form : (n : ℕ) → LeadForm (limited n)
 unfolding limited
@@ -56,11 +54,11 @@ InForm s = in_form s.framing ≡ true
 pos_of : (n : ℕ) → eqb n 0 ≡ false → 0 < n
 pos_of n k = let h : n ≡ 0 → ⊥ = eqb-false n 0 k in omega arith
 
-led-form : (l : Lead) → LeadForm l → InForm (led l)
+led-form : (l : Result Lead Refusal) → LeadForm l → InForm (led l)
 unfolding InForm
-led-form (On h) g = g
-led-form (Length n) g = cond_ind InForm (eqb n 0) _ _ (λ h. refl) (λ h. and_i (leb n most_body) (ltb 0 n) (le-leb n most_body g) (lt-ltb 0 n (pos_of n h)))
-led-form (Bad r) g = refl
+led-form (Ok (On h)) g = g
+led-form (Ok (Length n)) g = cond_ind InForm (eqb n 0) _ _ (λ h. refl) (λ h. and_i (leb n most_body) (ltb 0 n) (le-leb n most_body g) (lt-ltb 0 n (pos_of n h)))
+led-form (Err r) g = refl
 
 pub step-form : (f : Framing) (b : ℕ) → in_form f ≡ true → in_form (step_of f b).framing ≡ true
 unfolding InForm
@@ -79,28 +77,28 @@ store_length (Body want have) m b = length-set m have b
 
 -- ---- a step with no event leaves the connection open
 Open : Stepped → Type 0
-Open s = s.answer ≡ More → is_shut s.framing ≡ false
+Open s = s.answer ≡ Ok None → is_shut s.framing ≡ false
 
-not_more : {P : Type 0} (a : Answer) → is_more a ≡ false → a ≡ More → P
+not_more : {P : Type 0} (a : Result (Option ℕ) Refusal) → is_more a ≡ false → a ≡ Ok None → P
 not_more a h e = absurd (false≢true (sym h ∙ ap is_more e))
 
-led-open : (l : Lead) → Open (led l)
+led-open : (l : Result Lead Refusal) → Open (led l)
 unfolding Open
-led-open (On h) = λ e. refl
-led-open (Length n) = cond_ind Open (eqb n 0) _ _ (λ h e. not_more (Message 0) refl e) (λ h e. refl)
-led-open (Bad r) = λ e. not_more (Refused r) refl e
+led-open (Ok (On h)) = λ e. refl
+led-open (Ok (Length n)) = cond_ind Open (eqb n 0) _ _ (λ h e. not_more (Ok (Some 0)) refl e) (λ h e. refl)
+led-open (Err r) = λ e. not_more (Err r) refl e
 
-pub step-open : (f : Framing) (b : ℕ) → is_shut f ≡ false → (step_of f b).answer ≡ More → is_shut (step_of f b).framing ≡ false
+pub step-open : (f : Framing) (b : ℕ) → is_shut f ≡ false → (step_of f b).answer ≡ Ok None → is_shut (step_of f b).framing ≡ false
 unfolding Open
 step-open Shut b h e = h
 step-open (Prefix k) b h e = led-open (prefix_step k b) e
-step-open (Body want have) b h e = cond_ind Open (eqb (suc have) want) _ _ (λ g q. not_more (Message want) refl q) (λ g q. refl) e
+step-open (Body want have) b h e = cond_ind Open (eqb (suc have) want) _ _ (λ g q. not_more (Ok (Some want)) refl q) (λ g q. refl) e
 
 -- ---- a run
-after-form : (a : Answer) (f : Framing) (m : List ℕ) (o : Out) → in_form f ≡ true → in_form o.got.framing ≡ true → in_form (after a f m o).got.framing ≡ true
-after-form (Message n) f m o h k = h
-after-form (Refused r) f m o h k = h
-after-form More f m o h k = k
+after-form : (a : Result (Option ℕ) Refusal) (f : Framing) (m : List ℕ) (o : Out) → in_form f ≡ true → in_form o.got.framing ≡ true → in_form (after a f m o).got.framing ≡ true
+after-form (Ok (Some n)) f m o h k = h
+after-form (Err r) f m o h k = h
+after-form (Ok None) f m o h k = k
 
 pub run-form : (bs : List ℕ) (f : Framing) (m : List ℕ) → in_form f ≡ true → in_form (run_of f m bs).got.framing ≡ true
 unfolding run_of
@@ -109,10 +107,10 @@ run-form (b ∷ bs) f m h =
     after-form (step_of f b).answer (step_of f b).framing (store_of f m b) (run_of (step_of f b).framing (store_of f m b) bs) (step-form f b h)
     (run-form bs (step_of f b).framing (store_of f m b) (step-form f b h))
 
-after-length : (a : Answer) (f : Framing) (m : List ℕ) (o : Out) (n : ℕ) → length m ≡ n → length o.buffer ≡ n → length (after a f m o).buffer ≡ n
-after-length (Message k) f m o n h g = h
-after-length (Refused r) f m o n h g = h
-after-length More f m o n h g = g
+after-length : (a : Result (Option ℕ) Refusal) (f : Framing) (m : List ℕ) (o : Out) (n : ℕ) → length m ≡ n → length o.buffer ≡ n → length (after a f m o).buffer ≡ n
+after-length (Ok (Some k)) f m o n h g = h
+after-length (Err r) f m o n h g = h
+after-length (Ok None) f m o n h g = g
 
 pub run_length : (bs : List ℕ) (f : Framing) (m : List ℕ) → length (run_of f m bs).buffer ≡ length m
 unfolding run_of
@@ -122,10 +120,10 @@ run_length (b ∷ bs) f m =
     (run_length bs (step_of f b).framing (store_of f m b) ∙ store_length f m b)
 
 -- no more is taken than is there, an event takes a byte at least, and with no event all the bytes are taken
-after-within : (a : Answer) (f : Framing) (m : List ℕ) (o : Out) (n : ℕ) → o.got.taken ≤ n → (after a f m o).got.taken ≤ suc n
-after-within (Message k) f m o n h = omega arith
-after-within (Refused r) f m o n h = omega arith
-after-within More f m o n h = omega arith
+after-within : (a : Result (Option ℕ) Refusal) (f : Framing) (m : List ℕ) (o : Out) (n : ℕ) → o.got.taken ≤ n → (after a f m o).got.taken ≤ suc n
+after-within (Ok (Some k)) f m o n h = omega arith
+after-within (Err r) f m o n h = omega arith
+after-within (Ok None) f m o n h = omega arith
 
 pub run-within : (bs : List ℕ) (f : Framing) (m : List ℕ) → (run_of f m bs).got.taken ≤ length bs
 unfolding run_of
@@ -133,21 +131,21 @@ run-within [] f m = omega arith
 run-within (b ∷ bs) f m =
     after-within (step_of f b).answer (step_of f b).framing (store_of f m b) (run_of (step_of f b).framing (store_of f m b) bs) (length bs) (run-within bs (step_of f b).framing (store_of f m b))
 
-after-some : (a : Answer) (f : Framing) (m : List ℕ) (o : Out) → 1 ≤ (after a f m o).got.taken
-after-some (Message n) f m o = omega arith
-after-some (Refused r) f m o = omega arith
-after-some More f m o = omega arith
+after-some : (a : Result (Option ℕ) Refusal) (f : Framing) (m : List ℕ) (o : Out) → 1 ≤ (after a f m o).got.taken
+after-some (Ok (Some n)) f m o = omega arith
+after-some (Err r) f m o = omega arith
+after-some (Ok None) f m o = omega arith
 
 pub run-some : (bs : List ℕ) (f : Framing) (m : List ℕ) → is_more (run_of f m bs).got.answer ≡ false → 1 ≤ (run_of f m bs).got.taken
 unfolding run_of
 run-some [] f m h = absurd (true≢false h)
 run-some (b ∷ bs) f m h = after-some (step_of f b).answer (step_of f b).framing (store_of f m b) (run_of (step_of f b).framing (store_of f m b) bs)
 
-after-all : (a : Answer) (f : Framing) (m : List ℕ) (o : Out) (n : ℕ) → is_more (after a f m o).got.answer ≡ true → (is_more o.got.answer ≡ true → n ≤ o.got.taken)
+after-all : (a : Result (Option ℕ) Refusal) (f : Framing) (m : List ℕ) (o : Out) (n : ℕ) → is_more (after a f m o).got.answer ≡ true → (is_more o.got.answer ≡ true → n ≤ o.got.taken)
     → suc n ≤ (after a f m o).got.taken
-after-all (Message k) f m o n h ih = absurd (false≢true h)
-after-all (Refused r) f m o n h ih = absurd (false≢true h)
-after-all More f m o n h ih = let g : n ≤ o.got.taken = ih h in omega arith
+after-all (Ok (Some k)) f m o n h ih = absurd (false≢true h)
+after-all (Err r) f m o n h ih = absurd (false≢true h)
+after-all (Ok None) f m o n h ih = let g : n ≤ o.got.taken = ih h in omega arith
 
 pub run-all : (bs : List ℕ) (f : Framing) (m : List ℕ) → is_more (run_of f m bs).got.answer ≡ true → length bs ≤ (run_of f m bs).got.taken
 unfolding run_of
@@ -156,19 +154,19 @@ run-all (b ∷ bs) f m h =
     after-all (step_of f b).answer (step_of f b).framing (store_of f m b) (run_of (step_of f b).framing (store_of f m b) bs) (length bs) h (run-all bs (step_of f b).framing (store_of f m b))
 
 -- a message is no longer than the largest
-Small : Answer → Type 0
-Small (Message n) = n ≤ most_body
-Small (Refused r) = Unit {0}
-Small More = Unit {0}
+Small : Result (Option ℕ) Refusal → Type 0
+Small (Ok (Some n)) = n ≤ most_body
+Small (Err r) = Unit {0}
+Small (Ok None) = Unit {0}
 
 SmallStep : Stepped → Type 0
 SmallStep s = Small s.answer
 
-led-small : (l : Lead) → SmallStep (led l)
+led-small : (l : Result Lead Refusal) → SmallStep (led l)
 unfolding Small SmallStep
-led-small (On h) = tt
-led-small (Length n) = cond_ind SmallStep (eqb n 0) _ _ (λ h. omega arith) (λ h. tt)
-led-small (Bad r) = tt
+led-small (Ok (On h)) = tt
+led-small (Ok (Length n)) = cond_ind SmallStep (eqb n 0) _ _ (λ h. omega arith) (λ h. tt)
+led-small (Err r) = tt
 
 step_small : (f : Framing) (b : ℕ) → in_form f ≡ true → Small (step_of f b).answer
 unfolding Small SmallStep
@@ -176,10 +174,10 @@ step_small Shut b g = tt
 step_small (Prefix h) b g = led-small (prefix_step h b)
 step_small (Body want have) b g = cond_ind SmallStep (eqb (suc have) want) _ _ (λ h. body-small want have g) (λ h. tt)
 
-after_small : (a : Answer) (f : Framing) (m : List ℕ) (o : Out) → Small a → Small o.got.answer → Small (after a f m o).got.answer
-after_small (Message n) f m o h k = h
-after_small (Refused r) f m o h k = h
-after_small More f m o h k = k
+after_small : (a : Result (Option ℕ) Refusal) (f : Framing) (m : List ℕ) (o : Out) → Small a → Small o.got.answer → Small (after a f m o).got.answer
+after_small (Ok (Some n)) f m o h k = h
+after_small (Err r) f m o h k = h
+after_small (Ok None) f m o h k = k
 
 run_small : (bs : List ℕ) (f : Framing) (m : List ℕ) → in_form f ≡ true → Small (run_of f m bs).got.answer
 unfolding run_of Small
@@ -188,7 +186,7 @@ run_small (b ∷ bs) f m h =
     after_small (step_of f b).answer (step_of f b).framing (store_of f m b) (run_of (step_of f b).framing (store_of f m b) bs) (step_small f b h)
     (run_small bs (step_of f b).framing (store_of f m b) (step-form f b h))
 
-pub message-fits : (f : Framing) (m bs : List ℕ) (n : ℕ) → in_form f ≡ true → (run_of f m bs).got.answer ≡ Message n → n ≤ most_body
+pub message-fits : (f : Framing) (m bs : List ℕ) (n : ℕ) → in_form f ≡ true → (run_of f m bs).got.answer ≡ Ok (Some n) → n ≤ most_body
 unfolding Small
 message-fits f m bs n h e = let s : Small (run_of f m bs).got.answer = run_small bs f m h in rw e at s
 
@@ -213,18 +211,18 @@ module _ (f : Framing) (m bs : List ℕ) where
   pub receive-within : (receive_of f m bs).got.taken ≤ length bs
   receive-within = receive-ind (λ (o : Out). o.got.taken ≤ length bs) (omega arith) (omega arith) (omega arith) (λ g w s. run-within bs f m)
 
-  pub receive-message : (n : ℕ) → (receive_of f m bs).got.answer ≡ Message n → (n ≤ most_body) × (most_body ≤ length m)
+  pub receive-message : (n : ℕ) → (receive_of f m bs).got.answer ≡ Ok (Some n) → (n ≤ most_body) × (most_body ≤ length m)
   receive-message n =
-      receive-ind (λ (o : Out). o.got.answer ≡ Message n → (n ≤ most_body) × (most_body ≤ length m)) (no-message no.OutOfForm) (no-message no.SmallBuffer) (no-message no.Shut)
+      receive-ind (λ (o : Out). o.got.answer ≡ Ok (Some n) → (n ≤ most_body) × (most_body ≤ length m)) (no-message no.OutOfForm) (no-message no.SmallBuffer) (no-message no.Shut)
       (λ g w s e. (message-fits f m bs n g e, w))
     where
-      no-message : {X : Type 0} (r : Refusal) → Refused r ≡ Message n → X
+      no-message : {X : Type 0} (r : Refusal) → Err r ≡ Ok (Some n) → X
       no-message r e = absurd (let z : ◌≡◌ {A = ℕ} 0 1 = cc in omega arith)
 
 -- an end shuts a connection in form
 pub end-shuts : (f : Framing) → in_form f ≡ true → (end_of f).framing ≡ Shut
 unfolding end_of
-end-shuts f h = ap (λ (t : Bool). (cond (not t) (ended f (ends.Refused no.OutOfForm)) (end_in f)).framing) h ∙ over f
+end-shuts f h = ap (λ (t : Bool). (cond (not t) (ended f (Err no.OutOfForm)) (end_in f)).framing) h ∙ over f
   where
     over : (f : Framing) → (end_in f).framing ≡ Shut
     over Shut = refl

@@ -13,12 +13,14 @@ use Rattle.limits.specs.Limits.{most_body}
 use Rattle.stream.specs.declared.Framing.{Framing}
 use Rattle.stream.specs.declared.Framing.TheVariants.{Shut, Prefix, Body}
 use Rattle.stream.specs.declared.Lead.{Lead}
-use Rattle.stream.specs.declared.Lead.TheVariants.{On, Length, Bad}
+use Rattle.stream.specs.declared.Lead.TheVariants.{On, Length}
 use Rattle.stream.specs.Stream.{is_shut, in_form, prefix_of, Out, run_of, receive_of}
 use Rattle.cutting.specs.Claims.{reach}
 use Rattle.stream.proofs.Runs.{leads, run-prefix, begun-some, body-part, body-whole}
 use Rattle.stream.proofs.Steps.{body-short, body-small, call-bad, call-shut, call-runs}
 use Rattle.cutting.proofs.Heads.{Sensible, prefix-sensible}
+use Rattle.std.specs.Prelude.{Ok, Err, Result}
+use Rattle.refusal.specs.declared.Refusal.{Refusal}
 
 abbrev Stays : List ℕ → Out → Type 0
 Stays m o = drop (reach o) o.buffer ≡ drop (reach o) m
@@ -45,11 +47,11 @@ body-stays want have m bs h s l = go (ltb (length bs) (want - have)) refl
         let t : length (take (suc n) bs) ≡ suc n = length-take-le (suc n) bs (omega arith) in
         subst (Stays m) (sym (body-whole want have n m bs w (omega arith))) (stored m have (take (suc n) bs) want (omega arith) (omega arith))
 
-lead-stays : (l : Lead) (k : ℕ) (m bs : List ℕ) → Sensible l k (length bs) → most_body ≤ length m → Stays m (leads l k m bs)
-lead-stays (On h) k m bs s w = refl
-lead-stays (Bad r) k m bs s w = refl
-lead-stays (Length zero) k m bs s w = refl
-lead-stays (Length (suc n)) k m bs s w =
+lead-stays : (l : Result Lead Refusal) (k : ℕ) (m bs : List ℕ) → Sensible l k (length bs) → most_body ≤ length m → Stays m (leads l k m bs)
+lead-stays (Ok (On h)) k m bs s w = refl
+lead-stays (Err r) k m bs s w = refl
+lead-stays (Ok (Length zero)) k m bs s w = refl
+lead-stays (Ok (Length (suc n))) k m bs s w =
     subst (Stays m) (sym (begun-some (suc n) k m bs (λ z. omega arith))) (body-stays (suc n) 0 m (drop k bs) (omega arith) s.2 w)
 
 run-stays : (f : Framing) (m bs : List ℕ) → in_form f ≡ true → is_shut f ≡ false → most_body ≤ length m → Stays m (run_of f m bs)

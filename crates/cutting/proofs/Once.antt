@@ -7,17 +7,17 @@ use native.Mathlib.Numerals.{one-add}
 use native.Mathlib.Omega.{arith}
 use lib.ListN.{length, take, drop, length-take, drop_of_length-le}
 use Rattle.stream.specs.declared.Framing.{Framing}
-use Rattle.stream.specs.declared.Answer.{Answer}
-use Rattle.stream.specs.declared.Answer.TheVariants.{Message, Refused, More}
 use Rattle.stream.specs.Stream.{is_shut, step_of, store_of, Out, shift, after, run_of}
 use Rattle.cutting.specs.World.{Did, Line, Shared, Called, Layer, answered, handed, called, Fine, Sound}
 use Rattle.cutting.proofs.World.{Well, lands, play, play-nil, play-shut, play-run, play-well, handed-play}
+use Rattle.std.specs.Prelude.{Ok, Err, Some, None, Result, Option}
+use Rattle.refusal.specs.declared.Refusal.{Refusal}
 
 -- a run stops where it stops, whatever comes after
-step_by : (f : Framing) (m : List ℕ) (b : ℕ) (a : Answer) → (step_of f b).answer ≡ a → (x : List ℕ)
+step_by : (f : Framing) (m : List ℕ) (b : ℕ) (a : Result (Option ℕ) Refusal) → (step_of f b).answer ≡ a → (x : List ℕ)
     → run_of f m (b ∷ x) ≡ after a (step_of f b).framing (store_of f m b) (run_of (step_of f b).framing (store_of f m b) x)
 unfolding run_of
-step_by f m b a e x = ap (λ (y : Answer). after y (step_of f b).framing (store_of f m b) (run_of (step_of f b).framing (store_of f m b) x)) e
+step_by f m b a e x = ap (λ (y : Result (Option ℕ) Refusal). after y (step_of f b).framing (store_of f m b) (run_of (step_of f b).framing (store_of f m b) x)) e
 
 pub run-taken : (bs : List ℕ) (f : Framing) (m : List ℕ) → run_of f m (take (run_of f m bs).got.taken bs) ≡ run_of f m bs
 unfolding run_of
@@ -36,12 +36,12 @@ run-taken (b ∷ bs) f m = go (step_of f b).answer refl (run-taken bs (step_of f
     first : (o : Out) → run_of f m (b ∷ bs) ≡ o → run_of f m (take (run_of f m (b ∷ bs)).got.taken (b ∷ bs)) ≡ run_of f m (take o.got.taken (b ∷ bs))
     first o e = ap (λ (x : Out). run_of f m (take x.got.taken (b ∷ bs))) e
 
-    go : (a : Answer) → (step_of f b).answer ≡ a → run_of f' m' (take k bs) ≡ run_of f' m' bs → run_of f m (take (run_of f m (b ∷ bs)).got.taken (b ∷ bs)) ≡ run_of f m (b ∷ bs)
-    go (Message n) e ih = first _ (step_by f m b (Message n) e bs) ∙ step_by f m b (Message n) e (take 0 bs) ∙ sym (step_by f m b (Message n) e bs)
-    go (Refused r) e ih = first _ (step_by f m b (Refused r) e bs) ∙ step_by f m b (Refused r) e (take 0 bs) ∙ sym (step_by f m b (Refused r) e bs)
-    go More e ih =
-        first _ (step_by f m b More e bs) ∙ ap (λ (n : ℕ). run_of f m (take n (b ∷ bs))) (one-add k)
-        ∙ step_by f m b More e (take k bs) ∙ ap (shift 1) ih ∙ sym (step_by f m b More e bs)
+    go : (a : Result (Option ℕ) Refusal) → (step_of f b).answer ≡ a → run_of f' m' (take k bs) ≡ run_of f' m' bs → run_of f m (take (run_of f m (b ∷ bs)).got.taken (b ∷ bs)) ≡ run_of f m (b ∷ bs)
+    go (Ok (Some n)) e ih = first _ (step_by f m b (Ok (Some n)) e bs) ∙ step_by f m b (Ok (Some n)) e (take 0 bs) ∙ sym (step_by f m b (Ok (Some n)) e bs)
+    go (Err r) e ih = first _ (step_by f m b (Err r) e bs) ∙ step_by f m b (Err r) e (take 0 bs) ∙ sym (step_by f m b (Err r) e bs)
+    go (Ok None) e ih =
+        first _ (step_by f m b (Ok None) e bs) ∙ ap (λ (n : ℕ). run_of f m (take n (b ∷ bs))) (one-add k)
+        ∙ step_by f m b (Ok None) e (take k bs) ∙ ap (shift 1) ih ∙ sym (step_by f m b (Ok None) e bs)
 
 module _ {P A B O : Type 0} (L : Layer P A B O) {Peer : P → Type 0} {Good : A → Type 0} {Fits : B → Type 0} (S : Sound L Peer Good Fits) where
   abbrev Here : Type 0

@@ -13,31 +13,31 @@ use Rattle.limits.specs.Limits.{most_body}
 use Rattle.refusal.specs.declared.Refusal.TheVariants as no
 use Rattle.stream.specs.declared.Framing.{Framing}
 use Rattle.stream.specs.declared.Framing.TheVariants.{Shut, Prefix, Body}
-use Rattle.stream.specs.declared.Answer.{Answer}
-use Rattle.stream.specs.declared.Answer.TheVariants.{Message, Refused, More}
 use Rattle.stream.specs.declared.Received.{Received}
 use Rattle.stream.specs.declared.Lead.{Lead}
-use Rattle.stream.specs.declared.Lead.TheVariants.{On, Length, Bad}
+use Rattle.stream.specs.declared.Lead.TheVariants.{On, Length}
 use Rattle.stream.specs.Stream.{fresh, is_shut, in_form, prefix_step, Stepped, stepped, led, step_of, store_of, Out, after, run_of, receive_of}
 use Rattle.cutting.specs.Claims.{body_so_far, body_of, body_in}
 use Rattle.stream.proofs.Steps.{body-short, body-small, call-bad, call-shut, call-runs}
 use Rattle.cutting.proofs.Kept.{step-form, store_length}
+use Rattle.std.specs.Prelude.{Ok, Err, Some, None, Result, Option}
+use Rattle.refusal.specs.declared.Refusal.{Refusal}
 
 -- a prefix byte has nothing of a body
 Bare : Stepped → Type 0
 Bare s = (m : List ℕ) → body_of s.answer s.framing m ≡ []
 
-led-bare : (l : Lead) → Bare (led l)
+led-bare : (l : Result Lead Refusal) → Bare (led l)
 unfolding Bare
-led-bare (On h) = λ m. refl
-led-bare (Length n) = cond_ind Bare (eqb n 0) _ _ (λ h m. refl) (λ h m. refl)
-led-bare (Bad r) = λ m. refl
+led-bare (Ok (On h)) = λ m. refl
+led-bare (Ok (Length n)) = cond_ind Bare (eqb n 0) _ _ (λ h m. refl) (λ h m. refl)
+led-bare (Err r) = λ m. refl
 
 -- a body byte adds itself to the half-read body
 body-adds : (want have b : ℕ) (m : List ℕ) → have < length m
     → body_of (step_of (Body want have) b).answer (step_of (Body want have) b).framing (set m have b) ≡ take have m ++ (b ∷ [])
 body-adds want have b m h =
-    cond_ind (λ (s : Stepped). body_of s.answer s.framing (set m have b) ≡ take have m ++ (b ∷ [])) (eqb (suc have) want) (stepped fresh (Message want)) (stepped (Body want (suc have)) More)
+    cond_ind (λ (s : Stepped). body_of s.answer s.framing (set m have b) ≡ take have m ++ (b ∷ [])) (eqb (suc have) want) (stepped fresh (Ok (Some want))) (stepped (Body want (suc have)) (Ok None))
     (λ e. ap (λ (k : ℕ). take k (set m have b)) (sym (eqb-true (suc have) want e)) ∙ take-suc-set m have b h)
     (λ e. take-suc-set m have b h)
 
@@ -54,10 +54,10 @@ step-body (Body want have) b m n g j k e =
 abbrev Alike : Out → Out → Type 0
 Alike o p = (o.got ≡ p.got) × (body_in o ≡ body_in p)
 
-after-alike : (a : Answer) (f : Framing) (m n : List ℕ) (o p : Out) → body_of a f m ≡ body_of a f n → (a ≡ More → Alike o p) → Alike (after a f m o) (after a f n p)
-after-alike (Message k) f m n o p h ih = (refl, h)
-after-alike (Refused r) f m n o p h ih = (refl, h)
-after-alike More f m n o p h ih = (ap {B = Received} (λ (r : Received). record { framing = r.framing; taken = 1 + r.taken; answer = r.answer }) (ih refl).0, (ih refl).1)
+after-alike : (a : Result (Option ℕ) Refusal) (f : Framing) (m n : List ℕ) (o p : Out) → body_of a f m ≡ body_of a f n → (a ≡ Ok None → Alike o p) → Alike (after a f m o) (after a f n p)
+after-alike (Ok (Some k)) f m n o p h ih = (refl, h)
+after-alike (Err r) f m n o p h ih = (refl, h)
+after-alike (Ok None) f m n o p h ih = (ap {B = Received} (λ (r : Received). record { framing = r.framing; taken = 1 + r.taken; answer = r.answer }) (ih refl).0, (ih refl).1)
 
 run-alike : (bs : List ℕ) (f : Framing) (m n : List ℕ) → in_form f ≡ true → most_body ≤ length m → most_body ≤ length n → take (body_so_far f) m ≡ take (body_so_far f) n
     → Alike (run_of f m bs) (run_of f n bs)
@@ -69,7 +69,7 @@ run-alike (b ∷ bs) f m n g j k e =
     let v : length (store_of f n b) ≡ length n = store_length f n b in
     after-alike (step_of f b).answer (step_of f b).framing (store_of f m b) (store_of f n b) (run_of (step_of f b).framing (store_of f m b) bs) (run_of (step_of f b).framing (store_of f n b) bs) h
     (λ q. run-alike bs (step_of f b).framing (store_of f m b) (store_of f n b) (step-form f b g) (omega arith) (omega arith)
-    (subst (λ (a : Answer). body_of a (step_of f b).framing (store_of f m b) ≡ body_of a (step_of f b).framing (store_of f n b)) q h))
+    (subst (λ (a : Result (Option ℕ) Refusal). body_of a (step_of f b).framing (store_of f m b) ≡ body_of a (step_of f b).framing (store_of f n b)) q h))
 
 pub past-alike : (f : Framing) (m n bs : List ℕ) → most_body ≤ length m → most_body ≤ length n → take (body_so_far f) m ≡ take (body_so_far f) n → Alike (receive_of f m bs) (receive_of f n bs)
 past-alike f m n bs j k e = go (in_form f) refl (is_shut f) refl

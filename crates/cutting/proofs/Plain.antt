@@ -13,8 +13,6 @@ use Rattle.limits.specs.Limits.{most_body}
 use Rattle.refusal.specs.declared.Refusal.{Refusal}
 use Rattle.stream.specs.declared.Framing.{Framing}
 use Rattle.stream.specs.declared.Framing.TheVariants.{Shut}
-use Rattle.stream.specs.declared.Answer.{Answer}
-use Rattle.stream.specs.declared.Answer.TheVariants.{Message, Refused, More}
 use Rattle.stream.specs.Stream.{fresh, is_shut, in_form, step_of, store_of, Out, out, shift, after, run_of}
 use Rattle.cutting.specs.Frames.{Event, message, refused, Head, partly, whole, bad, head_of, framing_of, half_of}
 use Rattle.cutting.specs.World.{Did, Sys, Mark, happened, set_at, here, put_back, Line, Shared, World, Layer, Call, hand, does, asks, Act, takes, acts, bytes, given, is_more, acted, calls, Fine, Sound, Ready, AllFit}
@@ -25,6 +23,7 @@ use Rattle.cutting.proofs.Kept.{shut-only, step-open, store_length}
 use Rattle.cutting.proofs.Heads.{Ran, head-run}
 use Rattle.cutting.proofs.Order.{Step, at, other, acts_of, step, run, marks, set_same}
 use Rattle.cutting.proofs.World.{taken, steps, given-steps, step_line, lands, rules, byte, byte-shut, byte-by, byte-well, calls-steps, run-order}
+use Rattle.std.specs.Prelude.{Ok, Err, Some, None, Result, Option}
 
 -- ---- what a connection is given
 module _ {B : Type 0} where
@@ -72,9 +71,9 @@ pending-none : (B : Type 0) → pending {B = B} [] ≡ []
 unfolding pending
 pending-none B = refl
 
-step_run : (f : Framing) (m : List ℕ) (b : ℕ) (bs : List ℕ) (a : Answer) → (step_of f b).answer ≡ a
+step_run : (f : Framing) (m : List ℕ) (b : ℕ) (bs : List ℕ) (a : Result (Option ℕ) Refusal) → (step_of f b).answer ≡ a
     → run_of f m (b ∷ bs) ≡ after a (step_of f b).framing (store_of f m b) (run_of (step_of f b).framing (store_of f m b) bs)
-step_run f m b bs a e = run-cons f m b bs ∙ ap (λ (x : Answer). after x (step_of f b).framing (store_of f m b) (run_of (step_of f b).framing (store_of f m b) bs)) e
+step_run f m b bs a e = run-cons f m b bs ∙ ap (λ (x : Result (Option ℕ) Refusal). after x (step_of f b).framing (store_of f m b) (run_of (step_of f b).framing (store_of f m b) bs)) e
 
 -- ---- a connection in the middle of a message, of which it has the bytes p
 pub record Mid (f : Framing) (m : List ℕ) (p : List ℕ) : Type 0 where
@@ -100,47 +99,47 @@ pub record IsPart (f : Framing) (m s : List ℕ) (h : Head) : Type 0 where
   pub framing : f ≡ framing_of s
   pub half : take (length (half_of s)) m ≡ half_of s
 
-the-message : (v u : ℕ) → Message v ≡ Message u → v ≡ u
+the-message : (v u : ℕ) → ◌≡◌ {A = Result (Option ℕ) Refusal} (Ok (Some v)) (Ok (Some u)) → v ≡ u
 the-message v u h = cc
 
-the-refusal : (v u : Refusal) → Refused v ≡ Refused u → v ≡ u
+the-refusal : (v u : Refusal) → ◌≡◌ {A = Result (Option ℕ) Refusal} (Err v) (Err u) → v ≡ u
 the-refusal v u h = cc
 
-apart : {X : Type 0} (a b : Answer) (f : Answer → ℕ) → f a ≡ 0 → f b ≡ 1 → a ≡ b → X
+apart : {X : Type 0} (a b : Result (Option ℕ) Refusal) (f : Result (Option ℕ) Refusal → ℕ) → f a ≡ 0 → f b ≡ 1 → a ≡ b → X
 apart a b f p q e = absurd (let z : ◌≡◌ {A = ℕ} 0 1 = sym p ∙ ap f e ∙ q in omega arith)
 
-abbrev is_message : Answer → ℕ
-is_message (Message n) = 1
-is_message (Refused r) = 0
-is_message More = 0
+abbrev is_message : Result (Option ℕ) Refusal → ℕ
+is_message (Ok (Some n)) = 1
+is_message (Err r) = 0
+is_message (Ok None) = 0
 
-abbrev is_refusal : Answer → ℕ
-is_refusal (Message n) = 0
-is_refusal (Refused r) = 1
-is_refusal More = 0
+abbrev is_refusal : Result (Option ℕ) Refusal → ℕ
+is_refusal (Ok (Some n)) = 0
+is_refusal (Err r) = 1
+is_refusal (Ok None) = 0
 
 -- s is the bytes before the next act
 module _ (f : Framing) (m s p : List ℕ) where
-  mid-more : (b : ℕ) → (step_of f b).answer ≡ More → Mid f m p → Mid (step_of f b).framing (store_of f m b) (p ++ (b ∷ []))
+  mid-more : (b : ℕ) → (step_of f b).answer ≡ Ok None → Mid f m p → Mid (step_of f b).framing (store_of f m b) (p ++ (b ∷ []))
   mid-more b e k =
       record {
         start = k.start;
         room = k.room;
-        runs = λ bs. ap (run_of fresh k.start) (append_assoc p (b ∷ []) bs) ∙ k.runs (b ∷ bs) ∙ ap (shift (length p)) (step_run f m b bs More e)
+        runs = λ bs. ap (run_of fresh k.start) (append_assoc p (b ∷ []) bs) ∙ k.runs (b ∷ bs) ∙ ap (shift (length p)) (step_run f m b bs (Ok None) e)
             ∙ shift-shift (length p) 1 (run_of (step_of f b).framing (store_of f m b) bs) ∙ ap (λ (j : ℕ). shift j (run_of (step_of f b).framing (store_of f m b) bs)) (sym (length-snoc p b));
       }
 
-  is-message : (b : ℕ) (rest : List ℕ) (v : ℕ) → s ≡ p ++ (b ∷ rest) → (step_of f b).answer ≡ Message v → Mid f m p → IsMessage f m s p b v (head_of s)
+  is-message : (b : ℕ) (rest : List ℕ) (v : ℕ) → s ≡ p ++ (b ∷ rest) → (step_of f b).answer ≡ Ok (Some v) → Mid f m p → IsMessage f m s p b v (head_of s)
   is-message b rest v l e q = go (head_of s) (head-run q.start s q.room)
     where
-      E : run_of fresh q.start s ≡ out (step_of f b).framing (length p + 1) (Message v) (store_of f m b)
-      E = ap (run_of fresh q.start) l ∙ q.runs (b ∷ rest) ∙ ap (shift (length p)) (step_run f m b rest (Message v) e)
+      E : run_of fresh q.start s ≡ out (step_of f b).framing (length p + 1) (Ok (Some v)) (store_of f m b)
+      E = ap (run_of fresh q.start) l ∙ q.runs (b ∷ rest) ∙ ap (shift (length p)) (step_run f m b rest (Ok (Some v)) e)
 
       go : (h : Head) → Ran q.start s (framing_of s) (half_of s) h → IsMessage f m s p b v h
-      go partly r = apart More (Message v) is_message refl refl (ap (λ (o : Out). o.got.answer) (sym r.runs ∙ E))
-      go (bad k x) r = apart (Refused x) (Message v) is_message refl refl (ap (λ (o : Out). o.got.answer) (sym r ∙ E))
+      go partly r = apart (Ok None) (Ok (Some v)) is_message refl refl (ap (λ (o : Out). o.got.answer) (sym r.runs ∙ E))
+      go (bad k x) r = apart (Err x) (Ok (Some v)) is_message refl refl (ap (λ (o : Out). o.got.answer) (sym r ∙ E))
       go (whole k u) r =
-          let F : out fresh (k + u) (Message u) r.buffer ≡ out (step_of f b).framing (length p + 1) (Message v) (store_of f m b) = sym r.runs ∙ E in
+          let F : out fresh (k + u) (Ok (Some u)) r.buffer ≡ out (step_of f b).framing (length p + 1) (Ok (Some v)) (store_of f m b) = sym r.runs ∙ E in
           let x : u ≡ v = the-message u v (ap (λ (o : Out). o.got.answer) F) in
           record {
             k = k;
@@ -150,17 +149,17 @@ module _ (f : Framing) (m s p : List ℕ) where
             anew = ap (λ (o : Out). o.got.framing) (sym F);
           }
 
-  is-refused : (b : ℕ) (rest : List ℕ) (x : Refusal) → s ≡ p ++ (b ∷ rest) → (step_of f b).answer ≡ Refused x → Mid f m p → IsRefused f p b x (head_of s)
+  is-refused : (b : ℕ) (rest : List ℕ) (x : Refusal) → s ≡ p ++ (b ∷ rest) → (step_of f b).answer ≡ Err x → Mid f m p → IsRefused f p b x (head_of s)
   is-refused b rest x l e q = go (head_of s) (head-run q.start s q.room)
     where
-      E : run_of fresh q.start s ≡ out (step_of f b).framing (length p + 1) (Refused x) (store_of f m b)
-      E = ap (run_of fresh q.start) l ∙ q.runs (b ∷ rest) ∙ ap (shift (length p)) (step_run f m b rest (Refused x) e)
+      E : run_of fresh q.start s ≡ out (step_of f b).framing (length p + 1) (Err x) (store_of f m b)
+      E = ap (run_of fresh q.start) l ∙ q.runs (b ∷ rest) ∙ ap (shift (length p)) (step_run f m b rest (Err x) e)
 
       go : (h : Head) → Ran q.start s (framing_of s) (half_of s) h → IsRefused f p b x h
-      go partly r = apart More (Refused x) is_refusal refl refl (ap (λ (o : Out). o.got.answer) (sym r.runs ∙ E))
-      go (whole k u) r = apart (Message u) (Refused x) is_refusal refl refl (ap (λ (o : Out). o.got.answer) (sym r.runs ∙ E))
+      go partly r = apart (Ok None) (Err x) is_refusal refl refl (ap (λ (o : Out). o.got.answer) (sym r.runs ∙ E))
+      go (whole k u) r = apart (Ok (Some u)) (Err x) is_refusal refl refl (ap (λ (o : Out). o.got.answer) (sym r.runs ∙ E))
       go (bad k y) r =
-          let F : out Shut k (Refused y) q.start ≡ out (step_of f b).framing (length p + 1) (Refused x) (store_of f m b) = sym r ∙ E in
+          let F : out Shut k (Err y) q.start ≡ out (step_of f b).framing (length p + 1) (Err x) (store_of f m b) = sym r ∙ E in
           record {
             k = k;
             head = ap (bad k) (the-refusal y x (ap (λ (o : Out). o.got.answer) F));
@@ -172,14 +171,14 @@ module _ (f : Framing) (m s p : List ℕ) where
   is-part : s ≡ p → Mid f m p → IsPart f m s (head_of s)
   is-part l q = go (head_of s) (head-run q.start s q.room)
     where
-      E : run_of fresh q.start s ≡ out f (length p + 0) More m
+      E : run_of fresh q.start s ≡ out f (length p + 0) (Ok None) m
       E = ap (run_of fresh q.start) (l ∙ sym (append-nil p)) ∙ q.runs [] ∙ ap (shift (length p)) (run-nil f m)
 
       go : (h : Head) → Ran q.start s (framing_of s) (half_of s) h → IsPart f m s h
-      go (whole k u) r = apart More (Message u) is_message refl refl (ap (λ (o : Out). o.got.answer) (sym E ∙ r.runs))
-      go (bad k y) r = apart More (Refused y) is_refusal refl refl (ap (λ (o : Out). o.got.answer) (sym E ∙ r))
+      go (whole k u) r = apart (Ok None) (Ok (Some u)) is_message refl refl (ap (λ (o : Out). o.got.answer) (sym E ∙ r.runs))
+      go (bad k y) r = apart (Ok None) (Err y) is_refusal refl refl (ap (λ (o : Out). o.got.answer) (sym E ∙ r))
       go partly r =
-          let F : out (framing_of s) (length s) More r.buffer ≡ out f (length p + 0) More m = sym r.runs ∙ E in
+          let F : out (framing_of s) (length s) (Ok None) r.buffer ≡ out f (length p + 0) (Ok None) m = sym r.runs ∙ E in
           record { head = refl; framing = ap (λ (o : Out). o.got.framing) (sym F); half = ap (λ (o : Out). take (length (half_of s)) o.buffer) (sym F) ∙ r.there }
 
 -- after an event the next message begins
@@ -277,11 +276,11 @@ module _ {P A B O : Type 0} (L : Layer P A B O) where
     by_next : (h : Head) → w.shut ≡ false → head_of s ≡ h → Goes (by_head L h i w d.shared.state) → Goes then
     by_next h e q g = subst Goes (sym (ap (λ (t : Bool). by_head L (cond t partly (head_of s)) i w d.shared.state) e ∙ ap (λ (x : Head). by_head L x i w d.shared.state) q)) g
 
-    event-message : (v : ℕ) → w.shut ≡ false → (step_of f b).answer ≡ Message v → Goes then
+    event-message : (v : ℕ) → w.shut ≡ false → (step_of f b).answer ≡ Ok (Some v) → Goes then
     event-message v h e =
         let q : IsMessage f d.line.buffer s p b v (head_of s) = is-message f d.line.buffer s p b (leading rest) v string e (r.mid h) in
-        let o : Out = out (step_of f b).framing 1 (Message v) m in
-        let D : did ≡ lands L i d o = byte-by L i d b (Message v) e (r.shut ∙ h) in
+        let o : Out = out (step_of f b).framing 1 (Ok (Some v)) m in
+        let D : did ≡ lands L i d o = byte-by L i d b (Ok (Some v)) e (r.shut ∙ h) in
         let place : d.line.taken ≡ w.taken + length p = placed h in
         let count : q.k + v ≡ length p + 1 = q.count in
         let pos : d.line.taken + 1 ≡ w.taken + (q.k + v) = omega arith in
@@ -301,11 +300,11 @@ module _ {P A B O : Type 0} (L : Layer P A B O) where
         by_next (whole q.k v) h q.head
         (ap (λ (x : Here). x.shared.state) D ∙ (λ j. L.put i (r.who j) d.shared.state (E j)), subst (λ (x : Here). Rel x.line X.line [] rest) (sym D) R)
 
-    event-refused : (x : Refusal) → w.shut ≡ false → (step_of f b).answer ≡ Refused x → Goes then
+    event-refused : (x : Refusal) → w.shut ≡ false → (step_of f b).answer ≡ Err x → Goes then
     event-refused x h e =
         let q : IsRefused f p b x (head_of s) = is-refused f d.line.buffer s p b (leading rest) x string e (r.mid h) in
-        let o : Out = out (step_of f b).framing 1 (Refused x) m in
-        let D : did ≡ lands L i d o = byte-by L i d b (Refused x) e (r.shut ∙ h) in
+        let o : Out = out (step_of f b).framing 1 (Err x) m in
+        let D : did ≡ lands L i d o = byte-by L i d b (Err x) e (r.shut ∙ h) in
         let place : d.line.taken ≡ w.taken + length p = placed h in
         let count : q.k ≡ length p + 1 = q.count in
         let pos : d.line.taken + 1 ≡ w.taken + q.k = omega arith in
@@ -319,7 +318,7 @@ module _ {P A B O : Type 0} (L : Layer P A B O) where
     quiet-rel : is_more (step_of f b).answer ≡ true → (did.shared.state ≡ d.shared.state) × Rel did.line w (p ++ (b ∷ [])) rest
     quiet-rel n = go w.shut refl (step_of f b).answer refl
       where
-        go : (t : Bool) → w.shut ≡ t → (q : Answer) → (step_of f b).answer ≡ q → (did.shared.state ≡ d.shared.state) × Rel did.line w (p ++ (b ∷ [])) rest
+        go : (t : Bool) → w.shut ≡ t → (q : Result (Option ℕ) Refusal) → (step_of f b).answer ≡ q → (did.shared.state ≡ d.shared.state) × Rel did.line w (p ++ (b ∷ [])) rest
         go true h q e =
             let D : did ≡ d = byte-shut L i d b (r.shut ∙ h) in (
               ap (λ (y : Here). y.shared.state) D,
@@ -332,10 +331,10 @@ module _ {P A B O : Type 0} (L : Layer P A B O) where
                     mid = λ g. absurd (true≢false (sym h ∙ g));
                   }),
             )
-        go false h (Message v) e = absurd (true≢false (sym n ∙ ap is_more e))
-        go false h (Refused x) e = absurd (true≢false (sym n ∙ ap is_more e))
-        go false h More e =
-            let D : did ≡ record { line = step_line L d.line b; shared = d.shared } = byte-by L i d b More e (r.shut ∙ h) in
+        go false h (Ok (Some v)) e = absurd (true≢false (sym n ∙ ap is_more e))
+        go false h (Err x) e = absurd (true≢false (sym n ∙ ap is_more e))
+        go false h (Ok None) e =
+            let D : did ≡ record { line = step_line L d.line b; shared = d.shared } = byte-by L i d b (Ok None) e (r.shut ∙ h) in
             let place : d.line.taken ≡ w.taken + length p = placed h in
             let n : length (p ++ (b ∷ [])) ≡ length p + 1 = length-snoc p b in
             let pos : d.line.taken + 1 ≡ w.taken + length (p ++ (b ∷ [])) = omega arith in (
@@ -357,11 +356,11 @@ module _ {P A B O : Type 0} (L : Layer P A B O) where
         shut-more : is_shut f ≡ true → is_more (step_of f b).answer ≡ true
         shut-more h = ap (λ (x : Framing). is_more (step_of x b).answer) (shut-only f h)
 
-        go : (t : Bool) → w.shut ≡ t → (q : Answer) → (step_of f b).answer ≡ q → Goes then
+        go : (t : Bool) → w.shut ≡ t → (q : Result (Option ℕ) Refusal) → (step_of f b).answer ≡ q → Goes then
         go true h q e = absurd (false≢true (sym n ∙ shut-more (r.shut ∙ h)))
-        go false h (Message v) e = event-message v h e
-        go false h (Refused x) e = event-refused x h e
-        go false h More e = absurd (false≢true (sym n ∙ ap is_more e))
+        go false h (Ok (Some v)) e = event-message v h e
+        go false h (Err x) e = event-refused x h e
+        go false h (Ok None) e = absurd (false≢true (sym n ∙ ap is_more e))
 
   -- ---- an act
   module _ {Peer : P → Type 0} {Fits : B → Type 0} (K : Blunt L Peer Fits) where

@@ -12,8 +12,6 @@ use Rattle.octets.proofs.Bools.{cond_ind, cond_yes, cond_no}
 use Rattle.limits.specs.Limits.{most_body}
 use Rattle.stream.specs.declared.Framing.{Framing}
 use Rattle.stream.specs.declared.Framing.TheVariants.{Shut}
-use Rattle.stream.specs.declared.Answer.{Answer}
-use Rattle.stream.specs.declared.Answer.TheVariants.{Message, Refused, More}
 use Rattle.stream.specs.Stream.{is_shut, in_form, step_of, store_of, Out, out, shift, run_of}
 use Rattle.cutting.specs.Frames.{message, refused}
 use Rattle.cutting.proofs.Order.{Step, at, other, acts_of, Rules, act, step, run, marks}
@@ -21,6 +19,8 @@ use Rattle.cutting.specs.World.{Did, Mark, happened, asked, here, put_back, Line
 use Rattle.octets.proofs.Lists.{cancel}
 use Rattle.cutting.proofs.Kept.{shut-only, step-form, step-open, store_length, run-form, run_length, run-within, run-some, run-all}
 use Rattle.cutting.proofs.Order.{here_back, back-back, back-here, order}
+use Rattle.std.specs.Prelude.{Ok, Err, Some, None, Result, Option}
+use Rattle.refusal.specs.declared.Refusal.{Refusal}
 
 -- the steps of a list of calls
 unfoldable pub taken : {B O : Type 0} → ℕ → List ℕ → List (Step (Act B) O) → List (Step (Act B) O)
@@ -112,7 +112,7 @@ module _ {P A B O : Type 0} (L : Layer P A B O) where
   unfolding byte
   byte-shut i d b h = let e : d.line.framing ≡ Shut = shut-only d.line.framing h in (λ k. act rules i (with_framing d (e k)) (takes b)) ∙ (λ k. with_framing d (sym e k))
 
-  pub byte-by : (i : ℕ) (d : Here) (b : ℕ) (a : Answer) → (step_of d.line.framing b).answer ≡ a → is_shut d.line.framing ≡ false
+  pub byte-by : (i : ℕ) (d : Here) (b : ℕ) (a : Result (Option ℕ) Refusal) → (step_of d.line.framing b).answer ≡ a → is_shut d.line.framing ≡ false
       → byte i d b ≡ lands i d (out (step_of d.line.framing b).framing 1 a (store_of d.line.framing d.line.buffer b))
   unfolding byte
   byte-by i d b a e h = ap picked e ∙ go a
@@ -123,20 +123,20 @@ module _ {P A B O : Type 0} (L : Layer P A B O) where
       m : List ℕ
       m = store_of d.line.framing d.line.buffer b
 
-      picked : Answer → Here
+      picked : Result (Option ℕ) Refusal → Here
       picked x = cond (is_more x) (record { line = moves d.line (takes b); shared = d.shared }) (lands i d (out f 1 x m))
 
-      go : (x : Answer) → picked x ≡ lands i d (out f 1 x m)
-      go (Message n) = refl
-      go (Refused r) = refl
-      go More = ap (λ (l : Line P). record { line = l; shared = d.shared }) (cond_no (is_shut d.line.framing) d.line (step_line d.line b) h)
+      go : (x : Result (Option ℕ) Refusal) → picked x ≡ lands i d (out f 1 x m)
+      go (Ok (Some n)) = refl
+      go (Err r) = refl
+      go (Ok None) = ap (λ (l : Line P). record { line = l; shared = d.shared }) (cond_no (is_shut d.line.framing) d.line (step_line d.line b) h)
 
   pub byte-open : (i : ℕ) (d : Here) (b : ℕ) → is_shut d.line.framing ≡ false → byte i d b ≡ lands i d (one d.line b)
   byte-open i d b h = byte-by i d b (step_of d.line.framing b).answer refl h
 
-  pub byte_more : (i : ℕ) (d : Here) (b : ℕ) → is_shut d.line.framing ≡ false → (step_of d.line.framing b).answer ≡ More
+  pub byte_more : (i : ℕ) (d : Here) (b : ℕ) → is_shut d.line.framing ≡ false → (step_of d.line.framing b).answer ≡ Ok None
       → byte i d b ≡ record { line = step_line d.line b; shared = d.shared }
-  byte_more i d b h e = byte-by i d b More e h
+  byte_more i d b h e = byte-by i d b (Ok None) e h
 
   pub play-shut : (i : ℕ) (d : Here) (bs : List ℕ) → is_shut d.line.framing ≡ true → play i d bs ≡ d
   unfolding play
@@ -149,7 +149,7 @@ module _ {P A B O : Type 0} (L : Layer P A B O) where
       let o = run_of d.line.framing d.line.buffer bs in
       play i d bs ≡ play i (lands i d o) (drop o.got.taken bs)
 
-  lands-nil : (i : ℕ) (d : Here) → d ≡ lands i d (out d.line.framing 0 More d.line.buffer)
+  lands-nil : (i : ℕ) (d : Here) → d ≡ lands i d (out d.line.framing 0 (Ok None) d.line.buffer)
   lands-nil i d = λ k. record { line = record { who = d.line.who; framing = d.line.framing; buffer = d.line.buffer; taken = sym (add-zero d.line.taken) k }; shared = d.shared }
 
   lands-later : (i : ℕ) (d : Here) (o : Out) (b : ℕ) (bs : List ℕ)
@@ -162,11 +162,11 @@ module _ {P A B O : Type 0} (L : Layer P A B O) where
   play-run [] i d h = lands-nil i d
   play-run (b ∷ bs) i d h = go (step_of d.line.framing b).answer refl (play-run bs i (record { line = step_line d.line b; shared = d.shared }))
     where
-      go : (a : Answer) → (step_of d.line.framing b).answer ≡ a
+      go : (a : Result (Option ℕ) Refusal) → (step_of d.line.framing b).answer ≡ a
           → (is_shut (step_of d.line.framing b).framing ≡ false → Runs i (record { line = step_line d.line b; shared = d.shared }) bs) → Runs i d (b ∷ bs)
-      go (Message n) e ih = rw (byte-open i d b h) (rw e refl)
-      go (Refused r) e ih = rw (byte-open i d b h) (rw e refl)
-      go More e ih =
+      go (Ok (Some n)) e ih = rw (byte-open i d b h) (rw e refl)
+      go (Err r) e ih = rw (byte-open i d b h) (rw e refl)
+      go (Ok None) e ih =
           rw (byte_more i d b h e)
           (rw e (ih (step-open d.line.framing b h e) ∙ lands-later i d (run_of (step_of d.line.framing b).framing (store_of d.line.framing d.line.buffer b) bs) b bs))
 
@@ -181,15 +181,15 @@ module _ {P A B O : Type 0} (L : Layer P A B O) where
       pub line : Fine Peer d.line
       pub good : Good d.shared.state
 
-    noted-good : (i : ℕ) (p : P) (a : A) (w : Answer) (n : ℕ) (m : List ℕ) → Peer p → Good a → Good (noted L.put i p a w n m)
-    noted-good i p a (Message k) n m h g = S.puts i p a (message n (take k m)) h g
-    noted-good i p a (Refused r) n m h g = S.puts i p a (refused n r) h g
-    noted-good i p a More n m h g = g
+    noted-good : (i : ℕ) (p : P) (a : A) (w : Result (Option ℕ) Refusal) (n : ℕ) (m : List ℕ) → Peer p → Good a → Good (noted L.put i p a w n m)
+    noted-good i p a (Ok (Some k)) n m h g = S.puts i p a (message n (take k m)) h g
+    noted-good i p a (Err r) n m h g = S.puts i p a (refused n r) h g
+    noted-good i p a (Ok None) n m h g = g
 
-    halted-form : (i : ℕ) (p : P) (a : A) (w : Answer) (n : ℕ) (m : List ℕ) (f : Framing) → in_form f ≡ true → in_form (halted L.stops i p a w n m f) ≡ true
-    halted-form i p a (Message k) n m f h = cond_ind (λ (x : Framing). in_form x ≡ true) (L.stops i p a (message n (take k m))) Shut f (λ e. refl) (λ e. h)
-    halted-form i p a (Refused r) n m f h = h
-    halted-form i p a More n m f h = h
+    halted-form : (i : ℕ) (p : P) (a : A) (w : Result (Option ℕ) Refusal) (n : ℕ) (m : List ℕ) (f : Framing) → in_form f ≡ true → in_form (halted L.stops i p a w n m f) ≡ true
+    halted-form i p a (Ok (Some k)) n m f h = cond_ind (λ (x : Framing). in_form x ≡ true) (L.stops i p a (message n (take k m))) Shut f (λ e. refl) (λ e. h)
+    halted-form i p a (Err r) n m f h = h
+    halted-form i p a (Ok None) n m f h = h
 
     lands-well : (i : ℕ) (d : Here) (o : Out) → Well d → is_shut d.line.framing ≡ false → in_form o.got.framing ≡ true → length o.buffer ≡ length d.line.buffer → Well (lands i d o)
     lands-well i d o w h f l =

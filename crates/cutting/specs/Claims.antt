@@ -3,13 +3,12 @@ use Rattle.std.specs.Prelude.{ℕ, ◌+◌, ◌≤◌, ◌≡◌, List, [], ◌+
 use Rattle.limits.specs.Limits.{most_body}
 use Rattle.stream.specs.declared.Framing.{Framing}
 use Rattle.stream.specs.declared.Framing.TheVariants.{Shut, Prefix, Body}
-use Rattle.stream.specs.declared.Ending.{Ending}
-use Rattle.stream.specs.declared.Answer.{Answer}
-use Rattle.stream.specs.declared.Answer.TheVariants.{Message, Refused, More}
 use Rattle.stream.specs.Stream.{fresh, is_shut, in_form, Out, receive_of, end_of}
 use Rattle.cutting.specs.Frames.{Event, Frames, frames, framing_of, half_of, puts}
 use Rattle.cutting.specs.World.{Did, put_back, Line, Shared, World, Layer, Call, hand, joined, given, answered, handed_all, call, calls, bare, turned, Roomy, Fine, Sound, Ready, AllFit}
 use Rattle.cutting.specs.Plain.{ReadOut, Blunt, plainly, unread}
+use Rattle.std.specs.Prelude.{Ok, Err, Some, None, Result, Option, ⊤}
+use Rattle.refusal.specs.declared.Refusal.{Refusal}
 
 -- ---- 1. Pieces cut anywhere, empty ones too, give what the whole string gives: whatever the layer above keeps of events, with their places
 -- and bodies, the final framing and the buffer
@@ -83,13 +82,13 @@ OwnReceive =
     → Sound (bare put stops act host) Anyone Anyone Fits
 
 -- and so it is with this crate's `open` and `end` as the acts: nothing is asked then but receive buffers that are large enough
-pub record Turns (P A O : Type 0) (put : ℕ → P → A → Event → A) (stops : ℕ → P → A → Event → Bool) (tell : ℕ → P → A → ℕ → Ending → A) (host : A → O → A) : Type 0 where
+pub record Turns (P A O : Type 0) (put : ℕ → P → A → Event → A) (stops : ℕ → P → A → Event → Bool) (tell : ℕ → P → A → ℕ → Result ⊤ Refusal → A) (host : A → O → A) : Type 0 where
   pub sound : Sound (bare put stops (turned tell) host) Anyone Anyone Roomy
   pub blunt : Blunt (bare put stops (turned tell) host) Anyone Roomy
 
 abbrev pub OpenAndEnd : Type 1
 OpenAndEnd =
-    (P A O : Type 0) (put : ℕ → P → A → Event → A) (stops : ℕ → P → A → Event → Bool) (tell : ℕ → P → A → ℕ → Ending → A) (host : A → O → A) → Turns P A O put stops tell host
+    (P A O : Type 0) (put : ℕ → P → A → Event → A) (stops : ℕ → P → A → Event → Bool) (tell : ℕ → P → A → ℕ → Result ⊤ Refusal → A) (host : A → O → A) → Turns P A O put stops tell host
 
 -- ---- 6. What stands past the half-read body in the buffer changes no answer and no body
 
@@ -99,10 +98,10 @@ body_so_far (Prefix h) = 0
 body_so_far (Body want have) = have
 
 -- what counts of the buffer after a call: a message's body, or the half-read one
-abbrev pub body_of : Answer → Framing → List ℕ → List ℕ
-body_of (Message n) f m = take n m
-body_of (Refused r) f m = []
-body_of More f m = take (body_so_far f) m
+abbrev pub body_of : Result (Option ℕ) Refusal → Framing → List ℕ → List ℕ
+body_of (Ok (Some n)) f m = take n m
+body_of (Err r) f m = []
+body_of (Ok None) f m = take (body_so_far f) m
 
 abbrev pub body_in : Out → List ℕ
 body_in o = body_of o.got.answer o.got.framing o.buffer
@@ -129,4 +128,4 @@ pub record FormKept : Type 0 where
 -- ---- 9. A call takes no more than is there, and a message is no longer than the buffer asked for: the layer above may cut both
 pub record Bounded : Type 0 where
   pub taken : (f : Framing) (m bs : List ℕ) → (receive_of f m bs).got.taken ≤ length bs
-  pub message : (f : Framing) (m bs : List ℕ) (n : ℕ) → (receive_of f m bs).got.answer ≡ Message n → (n ≤ most_body) × (most_body ≤ length m)
+  pub message : (f : Framing) (m bs : List ℕ) (n : ℕ) → (receive_of f m bs).got.answer ≡ Ok (Some n) → (n ≤ most_body) × (most_body ≤ length m)

@@ -5,9 +5,10 @@ use Rattle.stream.specs.declared.Held.TheVariants.{Nothing}
 use Rattle.stream.specs.declared.Framing.{Framing}
 use Rattle.stream.specs.declared.Framing.TheVariants.{Shut, Prefix, Body}
 use Rattle.stream.specs.declared.Lead.{Lead}
-use Rattle.stream.specs.declared.Lead.TheVariants.{On, Length, Bad}
+use Rattle.stream.specs.declared.Lead.TheVariants.{On, Length}
 use Rattle.stream.specs.declared.Prefixed.{Prefixed}
 use Rattle.stream.specs.Stream.{prefix_of}
+use Rattle.std.specs.Prelude.{Ok, Err, Result}
 
 -- an event with its place, the number of bytes taken when it came: a message with its body, or a refusal
 pub data Event : Type 0 where
@@ -23,10 +24,10 @@ pub data Head : Type 0 where
 abbrev pub prefix_at : List ℕ → Prefixed
 prefix_at bs = prefix_of Nothing bs
 
-abbrev pub head_by : Lead → ℕ → List ℕ → Head
-head_by (On h) k bs = partly
-head_by (Length n) k bs = cond (leb (k + n) (length bs)) (whole k n) partly
-head_by (Bad r) k bs = bad k r
+abbrev pub head_by : Result Lead Refusal → ℕ → List ℕ → Head
+head_by (Ok (On h)) k bs = partly
+head_by (Ok (Length n)) k bs = cond (leb (k + n) (length bs)) (whole k n) partly
+head_by (Err r) k bs = bad k r
 
 abbrev pub head_of : List ℕ → Head
 head_of bs = head_by (prefix_at bs).lead (prefix_at bs).taken bs
@@ -56,15 +57,15 @@ unfoldable pub frames : List ℕ → Frames
 frames bs = frames_from (suc (length bs)) 0 bs
 
 -- ---- how a connection stands that has read a part of a message, and what it has of the body
-abbrev pub part_framing : Lead → ℕ → List ℕ → Framing
-part_framing (On h) k bs = Prefix h
-part_framing (Length n) k bs = Body n (length bs - k)
-part_framing (Bad r) k bs = Shut
+abbrev pub part_framing : Result Lead Refusal → ℕ → List ℕ → Framing
+part_framing (Ok (On h)) k bs = Prefix h
+part_framing (Ok (Length n)) k bs = Body n (length bs - k)
+part_framing (Err r) k bs = Shut
 
-abbrev pub part_body : Lead → ℕ → List ℕ → List ℕ
-part_body (On h) k bs = []
-part_body (Length n) k bs = drop k bs
-part_body (Bad r) k bs = []
+abbrev pub part_body : Result Lead Refusal → ℕ → List ℕ → List ℕ
+part_body (Ok (On h)) k bs = []
+part_body (Ok (Length n)) k bs = drop k bs
+part_body (Err r) k bs = []
 
 abbrev pub framing_of : List ℕ → Framing
 framing_of bs = part_framing (prefix_at bs).lead (prefix_at bs).taken bs

@@ -3,11 +3,10 @@ use Rattle.std.specs.Prelude.{ℕ, zero, suc, ◌+◌, ◌≤◌, ◌≡◌, Lis
 use Rattle.limits.specs.Limits.{most_body}
 use Rattle.stream.specs.declared.Framing.{Framing}
 use Rattle.stream.specs.declared.Framing.TheVariants.{Shut}
-use Rattle.stream.specs.declared.Ending.{Ending}
-use Rattle.stream.specs.declared.Answer.{Answer}
-use Rattle.stream.specs.declared.Answer.TheVariants.{Message, Refused, More}
 use Rattle.stream.specs.Stream.{fresh, is_shut, in_form, Out, run_of, receive_of, end_of}
 use Rattle.cutting.specs.Frames.{Event, message, refused}
+use Rattle.std.specs.Prelude.{Ok, Err, Some, None, Result, Option, ⊤}
+use Rattle.refusal.specs.declared.Refusal.{Refusal}
 
 -- ---- lines and what they share
 
@@ -95,22 +94,22 @@ unfoldable pub joined : List (List ℕ) → List ℕ
 joined [] = []
 joined (p ∷ ps) = p ++ joined ps
 
-abbrev pub is_more : Answer → Bool
-is_more (Message n) = false
-is_more (Refused r) = false
-is_more More = true
+abbrev pub is_more : Result (Option ℕ) Refusal → Bool
+is_more (Ok (Some n)) = false
+is_more (Err r) = false
+is_more (Ok None) = true
 
 -- ---- what the framing's answer comes to, after so many bytes of the connection
 
-abbrev pub noted : {P A : Type 0} → (ℕ → P → A → Event → A) → ℕ → P → A → Answer → ℕ → List ℕ → A
-noted put i p a (Message n) at m = put i p a (message at (take n m))
-noted put i p a (Refused r) at m = put i p a (refused at r)
-noted put i p a More at m = a
+abbrev pub noted : {P A : Type 0} → (ℕ → P → A → Event → A) → ℕ → P → A → Result (Option ℕ) Refusal → ℕ → List ℕ → A
+noted put i p a (Ok (Some n)) at m = put i p a (message at (take n m))
+noted put i p a (Err r) at m = put i p a (refused at r)
+noted put i p a (Ok None) at m = a
 
-abbrev pub halted : {P A : Type 0} → (ℕ → P → A → Event → Bool) → ℕ → P → A → Answer → ℕ → List ℕ → Framing → Framing
-halted stops i p a (Message n) at m f = cond (stops i p a (message at (take n m))) Shut f
-halted stops i p a (Refused r) at m f = f
-halted stops i p a More at m f = f
+abbrev pub halted : {P A : Type 0} → (ℕ → P → A → Event → Bool) → ℕ → P → A → Result (Option ℕ) Refusal → ℕ → List ℕ → Framing → Framing
+halted stops i p a (Ok (Some n)) at m f = cond (stops i p a (message at (take n m))) Shut f
+halted stops i p a (Err r) at m f = f
+halted stops i p a (Ok None) at m f = f
 
 abbrev pub called : {P A : Type 0} → (ℕ → P → A → Event → A) → (ℕ → P → A → Event → Bool) → ℕ → Line P → A → Out → Called P A
 called put stops i l a o =
@@ -131,7 +130,7 @@ pub data Turn (P : Type 0) : Type 0 where
   opens : P → List ℕ → Turn P
   ends : Turn P
 
-abbrev pub turned : {P A : Type 0} → (ℕ → P → A → ℕ → Ending → A) → ℕ → Turn P → Line P → A → Did (Line P) A
+abbrev pub turned : {P A : Type 0} → (ℕ → P → A → ℕ → Result ⊤ Refusal → A) → ℕ → Turn P → Line P → A → Did (Line P) A
 turned tell i (opens p m) l a = record { line = record { who = p; framing = fresh; buffer = m; taken = 0 }; shared = a }
 turned tell i ends l a =
     let e = end_of l.framing in

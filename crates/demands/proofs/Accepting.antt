@@ -3,7 +3,6 @@ use Prim.Native.Nat.{ℕ, ◌+◌}
 use mathlib.Core.Path.{◌≡◌, refl, sym, ap, ap₂, ◌∙◌, subst}
 use mathlib.Core.Bool.{Bool, true, false, cond, not}
 use mathlib.Core.List.{List, [], ◌∷◌, append-nil}
-use mathlib.Core.Option.{Option, some}
 use native.Mathlib.Omega.{arith}
 use lib.ListN.{length, take, drop}
 use lib.Seq.{drop_at}
@@ -13,19 +12,13 @@ use Rattle.octets.proofs.Bools.{to-false, cond_yes, cond_no}
 use Rattle.refusal.specs.declared.Refusal.TheVariants.{BreaksRules, Shut as IsShut}
 use Rattle.peer.specs.declared.Peer.{Peer}
 use Rattle.recipe.specs.Recipe.{outranks}
-use Rattle.records.specs.declared.Answer as stored
-use Rattle.records.specs.declared.Answer.TheVariants as store
 use Rattle.records.specs.Store.{in_form, found, find_of, offer_answer, put_answer}
-use Rattle.records_history.specs.History.{Has, got, taken, Offer, accepts, offered, after, Accepted, Unbeaten}
+use Rattle.records_history.specs.History.{got, taken, Offer, accepts, offered, after, Accepted, Unbeaten}
 use Rattle.records_history.proofs.Kept.{found-is, got-found}
 use Rattle.records_history.proofs.Stays.{put_is, step-taken, holds_on, highest}
 use Rattle.message.specs.Message.{Record, Message, message_of}
 use Rattle.message.specs.View.{reading_of}
 use Rattle.message.specs.declared.Fields.{Fields}
-use Rattle.message.specs.declared.Reading.{Reading}
-use Rattle.message.specs.declared.Reading.TheVariants as reading
-use Rattle.stream.specs.declared.Answer as stream
-use Rattle.stream.specs.declared.Answer.TheVariants as framed
 use Rattle.stream.specs.Stream as streams
 use Rattle.stream.specs.Stream.{fresh, is_shut, run_of, receive_of as framed_of}
 use Rattle.stream.proofs.Steps.{call-runs}
@@ -36,18 +29,13 @@ use Rattle.cutting.proofs.World.{Well, play-all, handed-play}
 use Rattle.replies.specs.Lent.{Lent, with_records}
 use Rattle.message.specs.Kinds.{put_value}
 use Rattle.replies.specs.Replies.{put_value_reply}
-use Rattle.replies.specs.declared.Answered.{Answered}
-use Rattle.replies.specs.declared.Answered.TheVariants as told
 use Rattle.replies.specs.Verdicts.{Verdict, replies, refuses, echoed, put_verdict, Dealt, by_verdict}
 use Rattle.answer.specs.Answers.{verdict_of, by_reading, deal_of}
 use Rattle.answer_promises.specs.Promises.{Serves}
 use Rattle.answer_promises.proofs.Promised.{held-is-served}
 use Rattle.connections.specs.declared.Conn.{Conn}
 use Rattle.node.specs.declared.Answer.{Answer}
-use Rattle.node.specs.declared.Answer.TheVariants.{Reply, Heard, Refused, More}
-use Rattle.node.specs.declared.Gate.{Gate}
-use Rattle.node.specs.declared.Gate.TheVariants.{Closed}
-use Rattle.node.specs.declared.Sight.{Sight}
+use Rattle.node.specs.declared.Answer.TheVariants.{Reply, Heard, More}
 use Rattle.node.specs.Node.{linked, Dealing, by_answer, served, heard_as, heard, dealing_of, Out, by_event, taken_of, gate_of, unless, receive_of}
 use Rattle.demands.specs.Box.{Box, Who, conn_of, link_of, body_in, offer_by, offer_in, noted, Turn, Ask, put, Fits, dealing, happens, box, Own, Allowed, Good}
 use Rattle.demands.specs.Demands.{since, receive_on, completed, Sent, Accepts, typed, sent, Finds}
@@ -57,6 +45,9 @@ use Rattle.demands.proofs.Receives.{dealing-any, let_through, runs_as}
 use Rattle.demands.proofs.Kept.{MadeSince, made-lasting, Held, dealing-keeps}
 use Rattle.demands.proofs.Sound.{sound, sound-held}
 use Rattle.demands.proofs.Ready.{call-ready, calls-ready}
+use Rattle.std.specs.Prelude.{Ok, Err, Some, None, Result, Option, ⊤}
+use Rattle.refusal.specs.declared.Refusal.{Refusal}
+use Rattle.sightings.specs.declared.Sighting.{Sighting}
 
 -- ---- what is found
 module _ (me : Peer) (k key v : List ℕ) (f : in_form k ≡ true) where
@@ -64,10 +55,10 @@ module _ (me : Peer) (k key v : List ℕ) (f : in_form k ≡ true) where
   unfolding find_of
   found-by = cond_no (not (in_form k)) _ _ (ap not f)
 
-  pub finds-got : Finds me k key v → got k key ≡ Has v
-  finds-got h = (found-is k key (sym found-by ∙ h.find)).2 ∙ ap Has h.there
+  pub finds-got : Finds me k key v → got k key ≡ Some v
+  finds-got h = (found-is k key (sym found-by ∙ h.find)).2 ∙ ap Some h.there
 
-  pub got-finds : got k key ≡ Has v → Finds me k key v
+  pub got-finds : got k key ≡ Some v → Finds me k key v
   got-finds g =
       let w = got-found k key v g in
       record {
@@ -84,47 +75,47 @@ abbrev Replied : Verdict → Type 0
 Replied (replies m) = Unit {0}
 Replied (refuses r) = ⊥
 
-abbrev Told : Answered → Type 0
-Told (told.Reply n) = Unit {0}
-Told (told.Refused r) = ⊥
+abbrev Told : Result ℕ Refusal → Type 0
+Told (Ok n) = Unit {0}
+Told (Err r) = ⊥
 
-put-taken : (key : List ℕ) (r : Record) (k : List ℕ) → Replied (put_verdict key (some r) k) → (same r.key key ≡ true) × (offer_answer k key r.value ≡ store.Taken)
+put-taken : (key : List ℕ) (r : Record) (k : List ℕ) → Replied (put_verdict key (Some r) k) → (same r.key key ≡ true) × (offer_answer k key r.value ≡ Ok tt)
 unfolding put_verdict
 put-taken key r k h = go (same r.key key) refl (offer_answer k key r.value) refl h
   where
-    go : (b : Bool) → same r.key key ≡ b → (x : stored.Answer) → offer_answer k key r.value ≡ x
-        → Replied (cond b (echoed x (put_value_reply key r.value)) (refuses BreaksRules)) → (same r.key key ≡ true) × (offer_answer k key r.value ≡ store.Taken)
-    go true e store.Taken q z = (e, q)
-    go true e (store.Refused y) q z = absurd z
+    go : (b : Bool) → same r.key key ≡ b → (x : Result ⊤ Refusal) → offer_answer k key r.value ≡ x
+        → Replied (cond b (echoed x (put_value_reply key r.value)) (refuses BreaksRules)) → (same r.key key ≡ true) × (offer_answer k key r.value ≡ Ok tt)
+    go true e (Ok tt) q z = (e, q)
+    go true e (Err y) q z = absurd z
     go false e x q z = absurd z
 
 module _ (me : Peer) where
-  put-verdict : (who : Peer) (m : Message) (l : Lent) (r : Record) → m.kind ≡ put_value → m.held ≡ some r → verdict_of me who m l ≡ put_verdict m.key (some r) l.records
+  put-verdict : (who : Peer) (m : Message) (l : Lent) (r : Record) → m.kind ≡ put_value → m.held ≡ Some r → verdict_of me who m l ≡ put_verdict m.key (Some r) l.records
   unfolding verdict_of
   put-verdict who m l r e h = cond_yes _ _ _ (ap (λ (z : ℕ). eqb z put_value) e) ∙ ap (λ (x : Option Record). put_verdict m.key x l.records) h
 
-  no-heard : (j n : ℕ) (r : Reading) → heard_as j r ≡ Reply n → ⊥
-  no-heard j n (reading.Whole f) e = let z : ◌≡◌ {A = ℕ} 0 1 = cc in omega arith
-  no-heard j n (reading.Refused q) e = let z : ◌≡◌ {A = ℕ} 0 1 = cc in omega arith
+  no-heard : (j n : ℕ) (r : Result Fields Refusal) → heard_as j r ≡ Ok (Reply n) → ⊥
+  no-heard j n (Ok f) e = let z : ◌≡◌ {A = ℕ} 0 1 = cc in omega arith
+  no-heard j n (Err q) e = let z : ◌≡◌ {A = ℕ} 0 1 = cc in omega arith
 
-  was-told : (x : Answered) (d : Dealt) (c : Conn) (l : Lent) (n : ℕ) → (by_answer x d.left me c l).answer ≡ Reply n → Told x
-  was-told (told.Reply j) d c l n e = tt
-  was-told (told.Refused r) d c l n e = let z : ◌≡◌ {A = ℕ} 0 1 = cc in omega arith
+  was-told : (x : Result ℕ Refusal) (d : Dealt) (c : Conn) (l : Lent) (n : ℕ) → (by_answer x d.left me c l).answer ≡ Ok (Reply n) → Told x
+  was-told (Ok j) d c l n e = tt
+  was-told (Err r) d c l n e = let z : ◌≡◌ {A = ℕ} 0 1 = cc in omega arith
 
   by-verdict : (v : Verdict) (next l : Lent) → Told (by_verdict v next l).told → Replied v
   by-verdict (replies m) next l h = tt
   by-verdict (refuses r) next l h = h
 
-  by-reading : (r : Reading) (who : Peer) (m : Message) (l : Lent) → Told (by_reading r me who m l).told → (f : Fields) × (r ≡ reading.Whole f) × Replied (verdict_of me who m l)
-  by-reading (reading.Refused q) who m l h = absurd h
-  by-reading (reading.Whole f) who m l h = (f, refl, by-verdict (verdict_of me who m l) _ l h)
+  by-reading : (r : Result Fields Refusal) (who : Peer) (m : Message) (l : Lent) → Told (by_reading r me who m l).told → (f : Fields) × (r ≡ Ok f) × Replied (verdict_of me who m l)
+  by-reading (Err q) who m l h = absurd h
+  by-reading (Ok f) who m l h = (f, refl, by-verdict (verdict_of me who m l) _ l h)
 
-  module _ (w : Who) (a : Box) (body : List ℕ) (n : ℕ) (e : (dealing me w a body).answer ≡ Reply n) where
+  module _ (w : Who) (a : Box) (body : List ℕ) (n : ℕ) (e : (dealing me w a body).answer ≡ Ok (Reply n)) where
     serves : w.asking ≡ false
     unfolding dealing_of heard
     serves = go w.asking refl e
       where
-        go : (b : Bool) → w.asking ≡ b → (cond b (heard body a.lent) (served me (conn_of w fresh) body a.lent)).answer ≡ Reply n → w.asking ≡ false
+        go : (b : Bool) → w.asking ≡ b → (cond b (heard body a.lent) (served me (conn_of w fresh) body a.lent)).answer ≡ Ok (Reply n) → w.asking ≡ false
         go true q h = absurd (no-heard (length body) n (reading_of body) h)
         go false q h = q
 
@@ -134,21 +125,21 @@ module _ (me : Peer) where
         let d : Dealt = deal_of me w.peer body a.lent in
         was-told d.told d (conn_of w fresh) a.lent n (ap (λ (x : Dealing). x.answer) (sym (cond_no w.asking _ _ serves)) ∙ e)
 
-    reads : (f : Fields) × (reading_of body ≡ reading.Whole f) × Replied (verdict_of me w.peer (message_of body) a.lent)
+    reads : (f : Fields) × (reading_of body ≡ Ok f) × Replied (verdict_of me w.peer (message_of body) a.lent)
     reads =
         by-reading (reading_of body) w.peer (message_of body) a.lent
         (subst (λ (d : Dealt). Told d.told) (deal-is me w.peer body a.lent) tells)
 
-    module _ (r : Record) (q : (message_of body).kind ≡ put_value) (h : (message_of body).held ≡ some r) where
+    module _ (r : Record) (q : (message_of body).kind ≡ put_value) (h : (message_of body).held ≡ Some r) where
       abbrev offer : Offer
       offer = record { key = (message_of body).key; value = r.value }
 
-      takes : (same r.key (message_of body).key ≡ true) × (offer_answer a.lent.records (message_of body).key r.value ≡ store.Taken)
+      takes : (same r.key (message_of body).key ≡ true) × (offer_answer a.lent.records (message_of body).key r.value ≡ Ok tt)
       takes = put-taken (message_of body).key r a.lent.records (subst Replied (put-verdict w.peer (message_of body) a.lent r q h) reads.2)
 
       offers : offer_in w body ≡ offer ∷ []
       offers =
-          cond_no w.asking _ _ serves ∙ ap₂ (λ (x : Reading) (y : Option Record). offer_by x (message_of body) y) reads.1 h
+          cond_no w.asking _ _ serves ∙ ap₂ (λ (x : Result Fields Refusal) (y : Option Record). offer_by x (message_of body) y) reads.1 h
           ∙ cond_yes _ _ _ (ap (λ (z : ℕ). eqb z put_value) q) ∙ cond_yes _ _ _ takes.0
 
       accepted : in_form a.lent.records ≡ true → accepts a.lent.records offer ≡ true
@@ -159,13 +150,13 @@ module _ (me : Peer) where
       unfolding after
       one k o = refl
 
-      noted-records : (i at : ℕ) (x : Answer) (s : Sight) (b : List ℕ) (l : Lent) (os : List Offer) → (noted i at x s b l os a).lent.records ≡ l.records
-      noted-records i at (Reply j) s b l os = refl
-      noted-records i at (Heard j f) s b l os = refl
-      noted-records i at (Refused z) s b l os = refl
-      noted-records i at More s b l os = refl
+      noted-records : (i at : ℕ) (x : Result Answer Refusal) (s : Option (Result Sighting Refusal)) (b : List ℕ) (l : Lent) (os : List Offer) → (noted i at x s b l os a).lent.records ≡ l.records
+      noted-records i at (Ok (Reply j)) s b l os = refl
+      noted-records i at (Ok (Heard j f)) s b l os = refl
+      noted-records i at (Err z) s b l os = refl
+      noted-records i at (Ok More) s b l os = refl
 
-      message-got : Allowed me w → Good me a → (i at : ℕ) → got (happens me i w a (message at body)).lent.records (message_of body).key ≡ Has r.value
+      message-got : Allowed me w → Good me a → (i at : ℕ) → got (happens me i w a (message at body)).lent.records (message_of body).key ≡ Some r.value
       message-got p g i at =
           let d : Dealing = dealing me w a body in
           let c = dealing-keeps me (λ k os. Unit {0}) (record { on = λ k os ps x. tt }) w a body p g in
@@ -177,7 +168,7 @@ module _ (me : Peer) where
   pub hand-state : (w : Own me) (s : World Who Box Ask) → Ready (Allowed me) (Good me) s → (i : ℕ) (p : List ℕ) → is_shut (s.lines i).framing ≡ false
       → let l = s.lines i in
       let q = run_of l.framing l.buffer p in
-      (x : stream.Answer) → q.got.answer ≡ x → q.got.taken ≡ length p
+      (x : Result (Option ℕ) Refusal) → q.got.answer ≡ x → q.got.taken ≡ length p
       → (call (box me) s (hand i p)).shared.state ≡ layer.noted (happens me) i l.who s.shared.state x (l.taken + length p) q.buffer
   unfolding call
   hand-state w s r i p not-shut x e t =
@@ -198,58 +189,58 @@ module _ (me : Peer) where
     abbrev q : streams.Out
     q = run_of l.framing l.buffer p
 
-    abbrev event : stream.Answer → Out
+    abbrev event : Result (Option ℕ) Refusal → Out
     event x = by_event x me (linked (conn_of l.who q.got.framing) q.buffer) q.got.taken a.lent
 
     not-shut : is_shut l.framing ≡ false
     unfolding receive_of
     not-shut = to-false (is_shut l.framing) (λ e. closed (gate-shut me l a (r.lines i) e r.good))
       where
-        closed : gate_of me (link_of l) a.lent ≡ Closed IsShut → ⊥
+        closed : gate_of me (link_of l) a.lent ≡ Err IsShut → ⊥
         closed e =
-            let y : Refused IsShut ≡ Reply h.size =
-            ap (λ (g : Gate). (unless g (link_of l) a.lent (taken_of me (link_of l) p a.lent)).got.answer) (sym e) ∙ h.reply in
+            let y : Err IsShut ≡ (Ok (Reply h.size)) =
+            ap (λ (g : Result ⊤ Refusal). (unless g (link_of l) a.lent (taken_of me (link_of l) p a.lent)).got.answer) (sym e) ∙ h.reply in
             let z : ◌≡◌ {A = ℕ} 0 1 = cc in omega arith
 
     runs : framed_of l.framing l.buffer p ≡ q
     runs = call-runs l.framing l.buffer p (r.lines i).form (r.lines i).room not-shut
 
-    gives : (x : stream.Answer) → q.got.answer ≡ x → receive_on me s i p ≡ event x
+    gives : (x : Result (Option ℕ) Refusal) → q.got.answer ≡ x → receive_on me s i p ≡ event x
     gives x e =
         let_through me l p a.lent (gate-open me w l a (r.lines i) not-shut r.good)
         ∙ runs_as me l p a.lent q runs ∙ ap event e
 
-    answers : (x : stream.Answer) → q.got.answer ≡ x → (event x).got.answer ≡ Reply h.size
+    answers : (x : Result (Option ℕ) Refusal) → q.got.answer ≡ x → (event x).got.answer ≡ Ok (Reply h.size)
     answers x e = ap (λ (o : Out). o.got.answer) (sym (gives x e)) ∙ h.reply
 
-    sent-got : got (call (box me) s (hand i p)).shared.state.lent.records key ≡ Has v
+    sent-got : got (call (box me) s (hand i p)).shared.state.lent.records key ≡ Some v
     sent-got = go q.got.answer refl
       where
-        go : (x : stream.Answer) → q.got.answer ≡ x → got (call (box me) s (hand i p)).shared.state.lent.records key ≡ Has v
-        go framed.More e = absurd (let y = answers framed.More e in let z : ◌≡◌ {A = ℕ} 0 1 = cc in omega arith)
-        go (framed.Refused x) e = absurd (let y = answers (framed.Refused x) e in let z : ◌≡◌ {A = ℕ} 0 1 = cc in omega arith)
-        go (framed.Message n) e =
+        go : (x : Result (Option ℕ) Refusal) → q.got.answer ≡ x → got (call (box me) s (hand i p)).shared.state.lent.records key ≡ Some v
+        go (Ok None) e = absurd (let y = answers (Ok None) e in let z : ◌≡◌ {A = ℕ} 0 1 = cc in omega arith)
+        go (Err x) e = absurd (let y = answers (Err x) e in let z : ◌≡◌ {A = ℕ} 0 1 = cc in omega arith)
+        go (Ok (Some n)) e =
             let body : List ℕ = take n q.buffer in
             let at : ℕ = l.taken + length p in
-            let o = gives (framed.Message n) e in
+            let o = gives (Ok (Some n)) e in
             let t : q.got.taken ≡ length p = ap (λ (x : Out). x.got.taken) (sym o) ∙ h.all in
-            let y : (dealing me l.who a (take n q.buffer)).answer ≡ Reply h.size =
-            ap (λ (x : Dealing). x.answer) (sym (dealing-any me l.who q.got.framing (take n q.buffer) a.lent)) ∙ answers (framed.Message n) e in
+            let y : (dealing me l.who a (take n q.buffer)).answer ≡ (Ok (Reply h.size)) =
+            ap (λ (x : Dealing). x.answer) (sym (dealing-any me l.who q.got.framing (take n q.buffer) a.lent)) ∙ answers (Ok (Some n)) e in
             let m : completed me s i p ≡ message_of (take n q.buffer) =
-            ap₂ (λ (x : stream.Answer) (b : List ℕ). message_of (body_in x b)) (ap (λ (x : streams.Out). x.got.answer) runs ∙ e) (ap (λ (x : Out). x.buffer) o) in
+            ap₂ (λ (x : Result (Option ℕ) Refusal) (b : List ℕ). message_of (body_in x b)) (ap (λ (x : streams.Out). x.got.answer) runs ∙ e) (ap (λ (x : Out). x.buffer) o) in
             let k : (message_of (take n q.buffer)).key ≡ key = ap (λ (x : Message). x.key) (sym m) ∙ h.under in
-            ap (λ (x : Box). got x.lent.records key) (hand-state w s r i p not-shut (framed.Message n) e t) ∙ ap (got (happens me i l.who a (message at body)).lent.records) (sym k)
+            ap (λ (x : Box). got x.lent.records key) (hand-state w s r i p not-shut (Ok (Some n)) e t) ∙ ap (got (happens me i l.who a (message at body)).lent.records) (sym k)
             ∙ message-got l.who a body h.size y h.what (ap (λ (x : Message). x.kind) (sym m) ∙ h.kind) (ap (λ (x : Message). x.held) (sym m) ∙ h.held)
             ((r.lines i).peer not-shut) r.good i at
-            ∙ ap Has h.says
+            ∙ ap Some h.says
 
   -- ---- any call that accepts a record
   module _ (w : Own me) (s : World Who Box Ask) (r : Ready (Allowed me) (Good me) s) where
-    typed-got : (key v : List ℕ) → put_answer s.shared.state.lent.records key v ≡ store.Taken → got (call (box me) s (asks (put key v))).shared.state.lent.records key ≡ Has v
+    typed-got : (key v : List ℕ) → put_answer s.shared.state.lent.records key v ≡ Ok tt → got (call (box me) s (asks (put key v))).shared.state.lent.records key ≡ Some v
     unfolding call accepts offered taken
     typed-got key v e = step-taken key s.shared.state.lent.records (record { key = key; value = v }) refl (ap taken e)
 
-    accepted-got : (key v : List ℕ) (c : Call Turn Ask) → Accepts me s key v c → got (call (box me) s c).shared.state.lent.records key ≡ Has v
+    accepted-got : (key v : List ℕ) (c : Call Turn Ask) → Accepts me s key v c → got (call (box me) s c).shared.state.lent.records key ≡ Some v
     accepted-got key v c (typed q e) = ap (λ (x : Call Turn Ask). got (call (box me) s x).shared.state.lent.records key) q ∙ typed-got key v e
     accepted-got key v c (sent i p q h) = ap (λ (x : Call Turn Ask). got (call (box me) s x).shared.state.lent.records key) q ∙ sent-got w s r i p key v h
 
@@ -272,7 +263,7 @@ module _ (me : Peer) where
     form : (cs : List (Call Turn Ask)) → AllFit Fits cs → in_form (calls (box me) s cs).shared.state.lent.records ≡ true
     form cs f = (calls-ready (box me) (sound me w) cs s r f).good.records
 
-    got-lasts : (cs : List (Call Turn Ask)) → AllFit Fits cs → (key v : List ℕ) → got s.shared.state.lent.records key ≡ Has v
+    got-lasts : (cs : List (Call Turn Ask)) → AllFit Fits cs → (key v : List ℕ) → got s.shared.state.lent.records key ≡ Some v
         → Unbeaten key v s.shared.state.lent.records (since s (calls (box me) s cs)) → Finds me (calls (box me) s cs).shared.state.lent.records key v
     got-lasts cs f key v g u =
         got-finds me _ key v (form cs f)

@@ -5,7 +5,6 @@ use mathlib.Core.Path.{◌≡◌, refl, sym, ap, ap₂, ◌∙◌, subst}
 use mathlib.Core.Logic.{⊎_elim}
 use mathlib.Core.Bool.{true, false}
 use mathlib.Core.List.{List, [], ◌∷◌, ◌++◌, append_assoc, append-nil}
-use mathlib.Core.Option.{Option, none, some}
 use native.Mathlib.Omega.{arith}
 use lib.ListN.{length, take, drop, length-take}
 use lib.Seq.{drop_at}
@@ -19,19 +18,13 @@ use Rattle.refusal.specs.declared.Refusal.{Refusal}
 use Rattle.refusal.specs.declared.Refusal.TheVariants.{NoRecordSlot}
 use Rattle.peer.specs.declared.Peer.{Peer}
 use Rattle.records.specs.Store.{in_form, put_answer, put_after}
-use Rattle.records.specs.declared.Answer as stored
-use Rattle.records.specs.declared.Answer.TheVariants as store
 use Rattle.recipe.specs.Recipe.{is_recipe}
 use Rattle.records_history.specs.History.{Offer, got, offered, after}
 use Rattle.records_history.specs.Agree.{NoRecords, SameSet, HoldSame, IsOffered, Highest, Never11 as NoOffer11}
 use Rattle.records_history.proofs.Agree.{never-more, through, agreement}
 use Rattle.message.specs.Message.{Record, Message, message_of, well_message, decode}
 use Rattle.message.specs.View.{reading_of}
-use Rattle.message.specs.declared.Reading.{Reading}
-use Rattle.message.specs.declared.Reading.TheVariants as reading
 use Rattle.message.proofs.Views.{read_whole, whole-read}
-use Rattle.stream.specs.declared.Answer as stream
-use Rattle.stream.specs.declared.Answer.TheVariants as framed
 use Rattle.stream.specs.Stream as streams
 use Rattle.stream.specs.Stream.{fresh, is_shut, run_of, receive_of as framed_of}
 use Rattle.stream.proofs.Steps.{call-runs}
@@ -44,13 +37,11 @@ use Rattle.cutting.proofs.Kept.{message-fits}
 use Rattle.replies.specs.Lent.{Lent, with_records}
 use Rattle.message.specs.Kinds.{put_value}
 use Rattle.replies.specs.Replies.{put_value_reply}
-use Rattle.replies.specs.declared.Answered.TheVariants as told
 use Rattle.replies.specs.Verdicts.{Dealt, by_verdict, echoed}
 use Rattle.answer.specs.Answers.{deal_of}
 use Rattle.answer_promises.proofs.Promised.{sent-as-typed}
-use Rattle.node.specs.declared.Sight.{Sight}
 use Rattle.node.specs.declared.Answer.{Answer}
-use Rattle.node.specs.declared.Answer.TheVariants.{Reply, Heard, Refused, More}
+use Rattle.node.specs.declared.Answer.TheVariants.{Reply, Heard, More}
 use Rattle.node.specs.Node.{Dealing}
 use Rattle.node_promises.proofs.Doing.{message-done}
 use Rattle.demands.specs.Box as box
@@ -64,6 +55,9 @@ use Rattle.demands.proofs.Kept.{after_more, dealing-keeps}
 use Rattle.demands.proofs.Sound.{sound}
 use Rattle.demands.proofs.Ready.{calls-ready}
 use Rattle.demands.proofs.Accepting.{got-finds, finds-got, hand-state}
+use Rattle.std.specs.Prelude.{Ok, Err, Some, None, Result, Option, ⊤}
+use Rattle.message.specs.declared.Fields.{Fields}
+use Rattle.sightings.specs.declared.Sighting.{Sighting}
 
 -- ---- what a message offers
 -- nothing, or the one record that it sends
@@ -73,10 +67,10 @@ module _ (w : Who) (body : List ℕ) where
   unfolding decode
   offer-ind P nothing one = cond_ind P w.asking [] _ (λ e. nothing) (λ e. read e (reading_of body) refl (message_of body).held refl)
     where
-      read : w.asking ≡ false → (x : Reading) → reading_of body ≡ x → (h : Option Record) → (message_of body).held ≡ h → P (offer_by x (message_of body) h)
-      read side (reading.Refused r) e h q = nothing
-      read side (reading.Whole f) e none q = nothing
-      read side (reading.Whole f) e (some r) q =
+      read : w.asking ≡ false → (x : Result Fields Refusal) → reading_of body ≡ x → (h : Option Record) → (message_of body).held ≡ h → P (offer_by x (message_of body) h)
+      read side (Err r) e h q = nothing
+      read side (Ok f) e None q = nothing
+      read side (Ok f) e (Some r) q =
           let x = read_whole body f e in
           cond_ind P (eqb (message_of body).kind put_value) _ [] (λ k. cond_ind P (same r.key (message_of body).key) _ []
           (λ s. one (message_of body).key r.value x.short (record {
@@ -85,7 +79,7 @@ module _ (w : Who) (body : List ℕ) where
             reads = cond_yes (well_message body) _ _ x.well;
             kind = eqb-true _ _ k;
             under = refl;
-            held = q ∙ ap (λ (z : List ℕ). some (record { key = z; value = r.value })) (same-eq r.key (message_of body).key s);
+            held = q ∙ ap (λ (z : List ℕ). Some (record { key = z; value = r.value })) (same-eq r.key (message_of body).key s);
           })) (λ s. nothing)) (λ k. nothing)
 
   pub sends-offer : (key value : List ℕ) → length body ≤ most_body → Sends w body key value → offer_in w body ≡ record { key = key; value = value } ∷ []
@@ -93,25 +87,25 @@ module _ (w : Who) (body : List ℕ) where
       let d : message_of body ≡ s.says = decoded body s.says s.reads in
       let k : (message_of body).kind ≡ put_value = ap (λ (m : Message). m.kind) d ∙ s.kind in
       let u : (message_of body).key ≡ key = ap (λ (m : Message). m.key) d ∙ s.under in
-      let h : (message_of body).held ≡ some (record { key = key; value = value }) = ap (λ (m : Message). m.held) d ∙ s.held in
+      let h : (message_of body).held ≡ Some (record { key = key; value = value }) = ap (λ (m : Message). m.held) d ∙ s.held in
       cond_no w.asking [] _ s.side
-      ∙ ap₂ (λ (x : Reading) (y : Option Record). offer_by x (message_of body) y) (whole-read body s.says l s.reads (omega (arith, s.kind))).0 h
+      ∙ ap₂ (λ (x : Result Fields Refusal) (y : Option Record). offer_by x (message_of body) y) (whole-read body s.says l s.reads (omega (arith, s.kind))).0 h
       ∙ cond_yes _ _ _ (ap (λ (z : ℕ). eqb z put_value) k) ∙ cond_yes _ _ _ (same-yes key (message_of body).key (sym u))
       ∙ ap (λ (z : List ℕ). record { key = z; value = value } ∷ []) u
 
 -- ---- a message that isn't answered 11 offers nothing that the store answers so
 module _ (me : Peer) (w : Who) (a : Box) (body : List ℕ) (g : Good me a) where
-  dealt-11 : (key value : List ℕ) → length body ≤ most_body → Sends w body key value → put_answer a.lent.records key value ≡ store.Refused NoRecordSlot
-      → (dealing me w a body).answer ≡ Refused NoRecordSlot
+  dealt-11 : (key value : List ℕ) → length body ≤ most_body → Sends w body key value → put_answer a.lent.records key value ≡ Err NoRecordSlot
+      → (dealing me w a body).answer ≡ Err NoRecordSlot
   dealt-11 key value l s e =
       let says : Message = s.says in
-      let d : (deal_of me w.peer body a.lent).told ≡ told.Refused NoRecordSlot =
+      let d : (deal_of me w.peer body a.lent).told ≡ Err NoRecordSlot =
       ap (λ (x : Dealt). x.told)
       (sent-as-typed me w.peer body a.lent says (record { key = key; value = value }) l s.reads s.kind s.held (sym s.under) g.records
-      ∙ ap (λ (x : stored.Answer). by_verdict (echoed x (put_value_reply says.key value)) (with_records a.lent (put_after a.lent.records says.key value)) a.lent) (ap (λ (z : List ℕ). put_answer a.lent.records z value) s.under ∙ e)) in
+      ∙ ap (λ (x : Result ⊤ Refusal). by_verdict (echoed x (put_value_reply says.key value)) (with_records a.lent (put_after a.lent.records says.key value)) a.lent) (ap (λ (z : List ℕ). put_answer a.lent.records z value) s.under ∙ e)) in
       ap (λ (x : Dealing). x.answer) (message-done.refuses me (conn_of w fresh) body a.lent NoRecordSlot s.side d)
 
-  dealing-never : ((dealing me w a body).answer ≡ Refused NoRecordSlot → ⊥) → NoOffer11 a.lent.records (offer_in w body)
+  dealing-never : ((dealing me w a body).answer ≡ Err NoRecordSlot → ⊥) → NoOffer11 a.lent.records (offer_in w body)
   unfolding NoOffer11
   dealing-never h = offer-ind w body (NoOffer11 a.lent.records) tt (λ key value l s. ((λ e. h (dealt-11 key value l s e)), tt))
 
@@ -153,17 +147,17 @@ module _ (me : Peer) (own : Own me) (s : Box) where
   unfolding after NoOffer11
   line a b e t g l o r = on a b (e ∷ []) [] t g l (o ∙ sym (append-nil a.offers)) r (λ n. tt)
 
-  noted-tidy : (i at : ℕ) (x : Answer) (y : Sight) (body : List ℕ) (l : Lent) (os : List Offer) (a : Box) → Tidy me s a → Good me (noted i at x y body l os a)
-      → l.records ≡ after a.lent.records os → ((x ≡ Refused NoRecordSlot → ⊥) → NoOffer11 a.lent.records os) → Tidy me s (noted i at x y body l os a)
+  noted-tidy : (i at : ℕ) (x : Result Answer Refusal) (y : Option (Result Sighting Refusal)) (body : List ℕ) (l : Lent) (os : List Offer) (a : Box) → Tidy me s a → Good me (noted i at x y body l os a)
+      → l.records ≡ after a.lent.records os → ((x ≡ Err NoRecordSlot → ⊥) → NoOffer11 a.lent.records os) → Tidy me s (noted i at x y body l os a)
   unfolding Never11
-  noted-tidy i at (Reply n) y body l os a t g r q = on a _ _ os t g refl refl r (λ _. q (λ e. let w : ◌≡◌ {A = ℕ} 0 1 = cc in omega arith))
-  noted-tidy i at (Heard n f) y body l os a t g r q = on a _ _ os t g refl refl r (λ _. q (λ e. let w : ◌≡◌ {A = ℕ} 0 1 = cc in omega arith))
-  noted-tidy i at (Refused j) y body l os a t g r q =
+  noted-tidy i at (Ok (Reply n)) y body l os a t g r q = on a _ _ os t g refl refl r (λ _. q (λ e. let w : ◌≡◌ {A = ℕ} 0 1 = cc in omega arith))
+  noted-tidy i at (Ok (Heard n f)) y body l os a t g r q = on a _ _ os t g refl refl r (λ _. q (λ e. let w : ◌≡◌ {A = ℕ} 0 1 = cc in omega arith))
+  noted-tidy i at (Err j) y body l os a t g r q =
       on a _ (box.event i at (box.refused j) ∷ []) os t g refl refl r (λ n. q (λ e. n.0 (agree.message i at (ap (λ (x : Refusal). box.event i at (box.refused x)) (the e)))))
     where
-      the : {u v : Refusal} → Refused u ≡ Refused v → u ≡ v
+      the : {u v : Refusal} → ◌≡◌ {A = Result Answer Refusal} (Err u) (Err v) → u ≡ v
       the e = cc
-  noted-tidy i at More y body l os a t g r q = on a _ [] os t g (sym (append-nil a.log)) refl r (λ _. q (λ e. let w : ◌≡◌ {A = ℕ} 0 1 = cc in omega arith))
+  noted-tidy i at (Ok More) y body l os a t g r q = on a _ [] os t g (sym (append-nil a.log)) refl r (λ _. q (λ e. let w : ◌≡◌ {A = ℕ} 0 1 = cc in omega arith))
 
   S : Sound (box.box me) (Allowed me) (Good me) Fits
   S = sound me own
@@ -184,7 +178,7 @@ module _ (me : Peer) (own : Own me) (s : Box) where
   unfolding after offered Never11 NoOffer11
   asking-tidy a (box.put key value) t =
       on a _ (box.called (box.put_gave (put_answer a.lent.records key value)) ∷ []) (record { key = key; value = value } ∷ []) t (S.hosts a (box.put key value) t.good) refl refl refl
-      (λ n. ((λ e. n.0 (agree.typed (ap (λ (x : stored.Answer). box.called (box.put_gave x)) e))), tt))
+      (λ n. ((λ e. n.0 (agree.typed (ap (λ (x : Result ⊤ Refusal). box.called (box.put_gave x)) e))), tt))
   asking-tidy a (box.find key) t = line a _ _ t (S.hosts a (box.find key) t.good) refl refl refl
   asking-tidy a (box.seen id client addresses) t = line a _ _ t (S.hosts a (box.seen id client addresses) t.good) refl refl refl
   asking-tidy a (box.settle head id client addresses answered) t = line a _ _ t (S.hosts a (box.settle head id client addresses answered) t.good) refl refl refl
@@ -294,12 +288,12 @@ module _ (me : Peer) (s : World Who Box Ask) where
   turned i (box.opens id server side addresses m) = none-added s.shared.state.offers _ refl
   turned i box.ends = none-added s.shared.state.offers _ refl
 
-module _ (i at : ℕ) (s : Sight) (body : List ℕ) (m : Lent) (os : List Offer) (a : Box) where
-  pub noted-offers : (x : Answer) → (noted i at x s body m os a).offers ≡ a.offers ++ os
-  noted-offers (Reply n) = refl
-  noted-offers (Heard n f) = refl
-  noted-offers (Refused r) = refl
-  noted-offers More = refl
+module _ (i at : ℕ) (s : Option (Result Sighting Refusal)) (body : List ℕ) (m : Lent) (os : List Offer) (a : Box) where
+  pub noted-offers : (x : Result Answer Refusal) → (noted i at x s body m os a).offers ≡ a.offers ++ os
+  noted-offers (Ok (Reply n)) = refl
+  noted-offers (Ok (Heard n f)) = refl
+  noted-offers (Err r) = refl
+  noted-offers (Ok More) = refl
 
 module _ (me : Peer) (own : Own me) (s : World Who Box Ask) (r : Ready (Allowed me) (Good me) s) where
   -- ---- a piece that one receive takes whole
@@ -317,23 +311,23 @@ module _ (me : Peer) (own : Own me) (s : World Who Box Ask) (r : Ready (Allowed 
       runs : framed_of l.framing l.buffer p ≡ q
       runs = call-runs l.framing l.buffer p (r.lines i).form (r.lines i).room going
 
-      state : (x : stream.Answer) → q.got.answer ≡ x
+      state : (x : Result (Option ℕ) Refusal) → q.got.answer ≡ x
           → handed.shared.state ≡ layer.noted (happens me) i l.who s.shared.state x (l.taken + length p) q.buffer
       state x e = hand-state me own s r i p going x e (ap (λ (o : streams.Out). o.got.taken) (sym runs) ∙ all)
 
       -- a message adds what it offers
-      message-adds : (n : ℕ) → q.got.answer ≡ framed.Message n → since s handed ≡ offer_in l.who (take n q.buffer)
+      message-adds : (n : ℕ) → q.got.answer ≡ Ok (Some n) → since s handed ≡ offer_in l.who (take n q.buffer)
       message-adds n e =
           let body : List ℕ = take n q.buffer in
           let d = dealing me l.who s.shared.state body in
           added s.shared.state.offers _ _
-          (ap (λ (x : Box). x.offers) (state (framed.Message n) e)
+          (ap (λ (x : Box). x.offers) (state (Ok (Some n)) e)
           ∙ noted-offers i (l.taken + length p) d.sight body d.left (offer_in l.who body) s.shared.state d.answer)
 
     sent : (key value : List ℕ) → Brings l p key value → since s handed ≡ record { key = key; value = value } ∷ []
     sent key value b =
         let going : is_shut l.framing ≡ false = whole_open l.framing l.buffer p b.size b.whole in
-        let a : q.got.answer ≡ framed.Message b.size = ap (λ (o : streams.Out). o.got.answer) (sym (runs going)) ∙ b.whole in
+        let a : q.got.answer ≡ (Ok (Some b.size)) = ap (λ (o : streams.Out). o.got.answer) (sym (runs going)) ∙ b.whole in
         let m : Sends l.who (take b.size q.buffer) key value = subst (λ (o : streams.Out). Sends l.who (take b.size o.buffer) key value) (runs going) b.sends in
         let fits : length (take b.size q.buffer) ≤ most_body =
         omega (arith, message-fits l.framing l.buffer p b.size (r.lines i).form a, length-take b.size q.buffer) in
@@ -346,7 +340,7 @@ module _ (me : Peer) (own : Own me) (s : World Who Box Ask) (r : Ready (Allowed 
         well : Well (box.box me) (sound me own) (here s i)
         well = record { line = r.lines i; good = r.good }
 
-        brings : (going : is_shut l.framing ≡ false) (k : ℕ) → q.got.answer ≡ framed.Message k → (key value : List ℕ) → Sends l.who (take k q.buffer) key value → Brings l p key value
+        brings : (going : is_shut l.framing ≡ false) (k : ℕ) → q.got.answer ≡ Ok (Some k) → (key value : List ℕ) → Sends l.who (take k q.buffer) key value → Brings l p key value
         brings going k e key value m =
             record {
               size = k;
@@ -354,11 +348,11 @@ module _ (me : Peer) (own : Own me) (s : World Who Box Ask) (r : Ready (Allowed 
               sends = subst (λ (o : streams.Out). Sends l.who (take k o.buffer) key value) (sym (runs going)) m;
             }
 
-        by_answer : (going : is_shut l.framing ≡ false) (x : stream.Answer) → q.got.answer ≡ x → since s handed ≡ []
-        by_answer going (framed.Message k) e =
+        by_answer : (going : is_shut l.framing ≡ false) (x : Result (Option ℕ) Refusal) → q.got.answer ≡ x → since s handed ≡ []
+        by_answer going (Ok (Some k)) e =
             message-adds going k e ∙ offer-ind l.who (take k q.buffer) (λ os. os ≡ []) refl (λ key value h m. absurd (n key value (brings going k e key value m)))
-        by_answer going (framed.Refused x) e = none-added s.shared.state.offers _ (ap (λ (x : Box). x.offers) (state going (framed.Refused x) e))
-        by_answer going framed.More e = none-added s.shared.state.offers _ (ap (λ (x : Box). x.offers) (state going framed.More e))
+        by_answer going (Err x) e = none-added s.shared.state.offers _ (ap (λ (x : Box). x.offers) (state going (Err x) e))
+        by_answer going (Ok None) e = none-added s.shared.state.offers _ (ap (λ (x : Box). x.offers) (state going (Ok None) e))
 
 -- ---- and stays
 since-start : (me : Peer) (own : Own me) (s : World Who Box Ask) → Ready (Allowed me) (Good me) s → (cs : List (Call Turn Ask)) → AllFit Fits cs

@@ -25,11 +25,11 @@ use Rattle.records_history.proofs.Stays.{cleared-form}
 use Rattle.stream.specs.Stream.{is_shut, in_form}
 use Rattle.cutting.specs.World.{World, Ready}
 use Rattle.connections.specs.declared.Started.{Started}
-use Rattle.connections.specs.declared.Told.TheVariants as node_told
 use Rattle.connections.specs.Box.{own_fits, nobody, start_of}
 use Rattle.demands.specs.Box.{Box, Who, Ask, Own, Allowed, Good}
 use Rattle.demands.specs.Demands.{Begun, Beginnings}
 use Rattle.demands.proofs.Hashing.{Known, Placed}
+use Rattle.std.specs.Prelude.{Ok, Err}
 
 -- ---- the start
 fits-own : (id place addresses : List ℕ) → id_fits id ≡ true → own_fits (peer_of id place addresses) ≡ true
@@ -47,17 +47,17 @@ own_of id addresses f =
       bytes = subst Bytes (sym (place_is id (place_of id) addresses)) (bytes-place_of id);
     }
 
-start-own : (id addresses : List ℕ) → (start_of id addresses).told ≡ node_told.Fine → Own (start_of id addresses).me
+start-own : (id addresses : List ℕ) → (start_of id addresses).told ≡ Ok tt → Own (start_of id addresses).me
 unfolding start_of
 start-own id addresses = go (id_fits id) (own_of id addresses)
   where
     yes : Started
-    yes = record { me = peer_of id (place_of id) addresses; told = node_told.Fine }
+    yes = record { me = peer_of id (place_of id) addresses; told = (Ok tt) }
 
     no : Started
-    no = record { me = nobody; told = node_told.Refused BadPeer }
+    no = record { me = nobody; told = Err BadPeer }
 
-    go : (b : Bool) → (b ≡ true → Own yes.me) → (cond b yes no).told ≡ node_told.Fine → Own (cond b yes no).me
+    go : (b : Bool) → (b ≡ true → Own yes.me) → (cond b yes no).told ≡ Ok tt → Own (cond b yes no).me
     go true h e = h refl
     go false h e = absurd (let z : ◌≡◌ {A = ℕ} 0 1 = cc in omega arith)
 

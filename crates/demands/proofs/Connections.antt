@@ -19,15 +19,14 @@ use Rattle.place.proofs.Buckets.{bucket-self}
 use Rattle.peer.specs.declared.Peer.{Peer}
 use Rattle.sightings_kept.specs.Promises.{Fair}
 use Rattle.stream.specs.declared.Framing.{Framing}
-use Rattle.stream.specs.declared.Answer.TheVariants as framed
 use Rattle.stream.specs.Stream as streams
 use Rattle.stream.specs.Stream.{is_shut, in_form, receive_of as framed_of}
 use Rattle.cutting.specs.World.{Line, Fine}
 use Rattle.connections.specs.declared.Conn.{Conn}
-use Rattle.node.specs.declared.Gate.TheVariants.{Open, Closed}
 use Rattle.connections.specs.Box.{own_fits, conn_form}
 use Rattle.node.specs.Node.{gate_of}
 use Rattle.demands.specs.Box.{Box, Who, conn_of, link_of, Own, Allowed, Good}
+use Rattle.std.specs.Prelude.{Ok, Err, Some}
 
 pub peer-form : (ours : List ℕ) (p : Peer) → Fair ours p → own_fits p ≡ true
 unfolding own_fits
@@ -61,29 +60,29 @@ module _ (me : Peer) where
   -- what is left of the tests where the first five pass
   gate-past : (l : Line Who) (a : Box) → Fine (Allowed me) l → Good me a
       → gate_of me (link_of l) a.lent
-      ≡ cond (is_shut l.framing) (Closed Shut) (cond (not (own_fits me)) (Closed BadPeer) Open)
+      ≡ cond (is_shut l.framing) (Err Shut) (cond (not (own_fits me)) (Err BadPeer) (Ok tt))
   unfolding gate_of
   gate-past l a f g =
       cond_no _ _ _ (ap not g.contacts) ∙ cond_no _ _ _ (ap not g.records) ∙ cond_no _ _ _ (ap not (conn-form l f))
       ∙ cond_no _ _ _ (le-ltb (length l.buffer) most_body f.room) ∙ cond_no _ _ _ (le-ltb (length a.lent.reply) least_reply g.room)
 
   pub gate-shut : (l : Line Who) (a : Box) → Fine (Allowed me) l → is_shut l.framing ≡ true → Good me a
-      → gate_of me (link_of l) a.lent ≡ Closed Shut
+      → gate_of me (link_of l) a.lent ≡ Err Shut
   gate-shut l a f o g = gate-past l a f g ∙ cond_yes _ _ _ o
 
   pub gate-open : Own me → (l : Line Who) (a : Box) → Fine (Allowed me) l → is_shut l.framing ≡ false → Good me a
-      → gate_of me (link_of l) a.lent ≡ Open
+      → gate_of me (link_of l) a.lent ≡ Ok tt
   gate-open w l a f o g = gate-past l a f g ∙ cond_no _ _ _ o ∙ cond_no _ _ _ (ap not w.fits)
 
 -- ---- a shut connection completes no message
-no-refusal : {r : Refusal} {n : ℕ} → framed.Refused r ≡ framed.Message n → ⊥
+no-refusal : {r : Refusal} {n : ℕ} → Err r ≡ Ok (Some n) → ⊥
 no-refusal e = let z : ◌≡◌ {A = ℕ} 0 1 = cc in omega arith
 
-pub whole_open : (f : Framing) (m bs : List ℕ) (n : ℕ) → (framed_of f m bs).got.answer ≡ framed.Message n → is_shut f ≡ false
+pub whole_open : (f : Framing) (m bs : List ℕ) (n : ℕ) → (framed_of f m bs).got.answer ≡ Ok (Some n) → is_shut f ≡ false
 unfolding framed_of
 whole_open f m bs n =
     cond_ind Opens (not (in_form f)) _ _ (λ x e. absurd (no-refusal e))
     (λ x. cond_ind Opens (ltb (length m) most_body) _ _ (λ y e. absurd (no-refusal e)) (λ y. cond_ind Opens (is_shut f) _ _ (λ z e. absurd (no-refusal e)) (λ z e. z)))
   where
     Opens : streams.Out → Type 0
-    Opens o = o.got.answer ≡ framed.Message n → is_shut f ≡ false
+    Opens o = o.got.answer ≡ Ok (Some n) → is_shut f ≡ false

@@ -19,7 +19,6 @@ use Rattle.sightings_kept.proofs.Tidied.{fair-tidied, hashed-tidied}
 use Rattle.contact_calls.specs.Calls.{seen_call, seen_call_table, settle_call, settle_call_table, remove_call, remove_call_table, doubt_call_table}
 use Rattle.sightings.specs.declared.Sighting.{Sighting}
 use Rattle.sightings.specs.declared.Settled.{Settled}
-use Rattle.sightings.specs.declared.Removed.{Removed}
 use Rattle.contact_calls.proofs.Doubts.{doubt-either}
 use Rattle.contact_calls.proofs.Theorems.{fair}
 use Rattle.stream.specs.Stream.{is_shut, fresh}
@@ -27,14 +26,11 @@ use Rattle.cutting.specs.Frames.{Event, message, refused as broken}
 use Rattle.cutting.proofs.Kept.{end-shuts}
 use Rattle.cutting.specs.World.{Line, World, Call, calls, Fine, Sound, Ready, AllFit}
 use Rattle.replies.specs.Lent.{Lent}
-use Rattle.replies.specs.declared.Answered.{Answered}
-use Rattle.replies.specs.declared.Answered.TheVariants as told
 use Rattle.replies.specs.Verdicts.{Dealt}
 use Rattle.answer.specs.Answers.{deal_of}
 use Rattle.answer.proofs.Serving.{deal-contacts}
-use Rattle.node.specs.declared.Sight.{Sight}
 use Rattle.node.specs.declared.Answer.{Answer}
-use Rattle.node.specs.declared.Answer.TheVariants.{Reply, Heard, Refused, More}
+use Rattle.node.specs.declared.Answer.TheVariants.{Reply, Heard, More}
 use Rattle.connections.specs.declared.Opened.{Opened}
 use Rattle.connections.specs.declared.Ended.{Ended}
 use Rattle.connections.specs.Box.{own_fits, open_of, conn_form, end_conn}
@@ -46,6 +42,8 @@ use Rattle.demands.specs.Box.{Box, Who, conn_of, who_in, offer_in, noted, Turn, 
 use Rattle.demands.proofs.Receives.{receives}
 use Rattle.demands.proofs.Sound.{sound}
 use Rattle.demands.proofs.Ready.{calls-ready}
+use Rattle.std.specs.Prelude.{Ok, Err, Result, Option, ⊤}
+use Rattle.refusal.specs.declared.Refusal.{Refusal}
 
 -- a peer as `open` gives it, at the hash of its id; memory in form, each contact at the hash of its id
 pub record Known (me : Peer) (w : Who) : Type 0 where
@@ -70,8 +68,8 @@ module _ (me : Peer) (w : Own me) (t : List ℕ) (y : contacts_form t me.place �
       p : Peer
       p = peer_of id (place_of id) addresses
 
-      step : (c : Bool) (r s : Sighting) → (c ≡ true → Hashed (after_sighting t me.place p r)) → (c ≡ false → Hashed (after_sighting t me.place p s)) → Hashed (after_sighting t me.place p (cond c r s))
-      step = cond_ind (λ (r : Sighting). Hashed (after_sighting t me.place p r))
+      step : (c : Bool) (r s : Result Sighting Refusal) → (c ≡ true → Hashed (after_sighting t me.place p r)) → (c ≡ false → Hashed (after_sighting t me.place p s)) → Hashed (after_sighting t me.place p (cond c r s))
+      step = cond_ind (λ (r : Result Sighting Refusal). Hashed (after_sighting t me.place p r))
 
       taken : bad_peer me.place id ≡ false → Hashed (seen_table t me.place p)
       taken g = seen-hashed t me.place p (fair me.place id addresses w.long w.bytes g) (made-hashed me.place id addresses g) y h
@@ -88,9 +86,9 @@ module _ (me : Peer) (w : Own me) (t : List ℕ) (y : contacts_form t me.place �
       p : Peer
       p = peer_of id (place_of id) addresses
 
-      step : (c : Bool) (r s : Settled) → (c ≡ true → Hashed (after_settling t me.place (place_of head) p r)) → (c ≡ false → Hashed (after_settling t me.place (place_of head) p s))
+      step : (c : Bool) (r s : Result Settled Refusal) → (c ≡ true → Hashed (after_settling t me.place (place_of head) p r)) → (c ≡ false → Hashed (after_settling t me.place (place_of head) p s))
           → Hashed (after_settling t me.place (place_of head) p (cond c r s))
-      step = cond_ind (λ (r : Settled). Hashed (after_settling t me.place (place_of head) p r))
+      step = cond_ind (λ (r : Result Settled Refusal). Hashed (after_settling t me.place (place_of head) p r))
 
       taken : bad_peer me.place id ≡ false → Hashed (settled_table t me.place (place_of head) p answered)
       taken g = settle-hashed t me.place p (fair me.place id addresses w.long w.bytes g) (made-hashed me.place id addresses g) y h (place_of head) answered
@@ -101,19 +99,19 @@ module _ (me : Peer) (w : Own me) (t : List ℕ) (y : contacts_form t me.place �
       step (not (contacts_form t me.place)) _ _ (λ f. h)
       (λ f. step (bad_peer me.place id) _ _ (λ g. h) (λ g. remove-hashed t me.place (place_of id) y h))
     where
-      step : (c : Bool) (r s : Removed) → (c ≡ true → Hashed (after_removal t me.place (place_of id) r)) → (c ≡ false → Hashed (after_removal t me.place (place_of id) s))
+      step : (c : Bool) (r s : Result ⊤ Refusal) → (c ≡ true → Hashed (after_removal t me.place (place_of id) r)) → (c ≡ false → Hashed (after_removal t me.place (place_of id) s))
           → Hashed (after_removal t me.place (place_of id) (cond c r s))
-      step = cond_ind (λ (r : Removed). Hashed (after_removal t me.place (place_of id) r))
+      step = cond_ind (λ (r : Result ⊤ Refusal). Hashed (after_removal t me.place (place_of id) r))
 
   doubt-call : (id : List ℕ) → Hashed (doubt_call_table t me.place id)
   doubt-call id = doubt-either t me.place id (λ _ u. Hashed u) (λ _ _. h) (λ _ _. doubt-hashed t (place_of id) h)
 
 -- ---- a message
 module _ (me : Peer) (l : Lent) (y : contacts_form l.contacts me.place ≡ true) (h : Hashed l.contacts) where
-  answer-hashed : (v : Who) → Known me v → (x : Answered) (after : Lent) → after.contacts ≡ l.contacts → Hashed (by_answer x after me (conn_of v fresh) l).left.contacts
+  answer-hashed : (v : Who) → Known me v → (x : Result ℕ Refusal) (after : Lent) → after.contacts ≡ l.contacts → Hashed (by_answer x after me (conn_of v fresh) l).left.contacts
   unfolding contacts_after
-  answer-hashed v k (told.Refused r) after e = subst Hashed (sym e) h
-  answer-hashed v k (told.Reply n) after e = cond_ind Hashed v.server _ _ (λ e. seen-hashed l.contacts me.place (tidied v.peer) (fair-tidied me.place v.peer k.allowed) (hashed-tidied v.peer k.hashed) y h) (λ e. h)
+  answer-hashed v k (Err r) after e = subst Hashed (sym e) h
+  answer-hashed v k (Ok n) after e = cond_ind Hashed v.server _ _ (λ e. seen-hashed l.contacts me.place (tidied v.peer) (fair-tidied me.place v.peer k.allowed) (hashed-tidied v.peer k.hashed) y h) (λ e. h)
 
   dealing-hashed : (v : Who) → Known me v → (body : List ℕ) → Hashed (dealing_of me (conn_of v fresh) body l).left.contacts
   unfolding dealing_of served heard
@@ -121,11 +119,11 @@ module _ (me : Peer) (l : Lent) (y : contacts_form l.contacts me.place ≡ true)
       let d = deal_of me v.peer body l in
       cond_ind (λ (x : Dealing). Hashed x.left.contacts) v.asking _ _ (λ e. h) (λ e. answer-hashed v k d.told d.left (deal-contacts me v.peer body l))
 
-noted-contacts : (i at : ℕ) (x : Answer) (s : Sight) (body : List ℕ) (l : Lent) (os : List Offer) (a : Box) → (noted i at x s body l os a).lent.contacts ≡ l.contacts
-noted-contacts i at (Reply n) s body l os a = refl
-noted-contacts i at (Heard n f) s body l os a = refl
-noted-contacts i at (Refused r) s body l os a = refl
-noted-contacts i at More s body l os a = refl
+noted-contacts : (i at : ℕ) (x : Result Answer Refusal) (s : Option (Result Sighting Refusal)) (body : List ℕ) (l : Lent) (os : List Offer) (a : Box) → (noted i at x s body l os a).lent.contacts ≡ l.contacts
+noted-contacts i at (Ok (Reply n)) s body l os a = refl
+noted-contacts i at (Ok (Heard n f)) s body l os a = refl
+noted-contacts i at (Err r) s body l os a = refl
+noted-contacts i at (Ok More) s body l os a = refl
 
 module _ (me : Peer) (w : Own me) where
   happens-placed : (i : ℕ) (v : Who) (a : Box) (e : Event) → Known me v → Placed me a → Hashed (happens me i v a e).lent.contacts

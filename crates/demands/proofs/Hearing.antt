@@ -17,9 +17,7 @@ use Rattle.wire.specs.Items.{minimal}
 use Rattle.wire_put.proofs.Digits.{minimal-three}
 use Rattle.message.specs.Message.{Message, encode, frame}
 use Rattle.message.specs.View.{fields_of}
-use Rattle.message.specs.declared.Reading.{Reading}
 use Rattle.pieces.specs.Writable.{writable}
-use Rattle.writer.specs.declared.Written.TheVariants as writer
 use Rattle.writer.specs.Writer.{answer_of, out_after}
 use Rattle.round_trip.proofs.RoundTrip.{fitting, round_trip}
 use Rattle.round_trip.proofs.Written.{read-written}
@@ -34,21 +32,24 @@ use Rattle.node.specs.Node.{Dealing, untouched, heard_as, heard as heard_of, dea
 use Rattle.demands.specs.Box.{event, heard, Box, Who, is_refused, offer_in, noted, Turn, Fits, Ask, dealing, happens, box, Own, Allowed, Good}
 use Rattle.demands.specs.Demands.{Writes, BoxToBox}
 use Rattle.demands.proofs.Sound.{sound}
+use Rattle.std.specs.Prelude.{Ok, Err, Result}
+use Rattle.message.specs.declared.Fields.{Fields}
+use Rattle.refusal.specs.declared.Refusal.{Refusal}
 
 -- ---- what is written
 frame-most : (body : List ℕ) → length body ≤ most_body → length (frame body) ≤ least_reply
 unfolding frame
 frame-most body h = omega (arith, length-append (minimal (length body)) body, minimal-three (length body) (omega arith))
 
-pub written : (y : List ℕ) (m : Message) (n : ℕ) → answer_of y m ≡ writer.Done n → Writes m y n
+pub written : (y : List ℕ) (m : Message) (n : ℕ) → answer_of y m ≡ Ok n → Writes m y n
 unfolding answer_of out_after
 written y m n e = go (ltb (length y) least_reply) refl (writable m) refl
   where
     go : (a : Bool) → ltb (length y) least_reply ≡ a → (b : Bool) → writable m ≡ b → Writes m y n
-    go true p b q = absurd (let x : writer.Refused SmallBuffer ≡ writer.Done n = rw p at e in let z : ◌≡◌ {A = ℕ} 0 1 = cc in omega arith)
-    go false p false q = absurd (let x : writer.Refused Unwritable ≡ writer.Done n = rw (p, q) at e in let z : ◌≡◌ {A = ℕ} 0 1 = cc in omega arith)
+    go true p b q = absurd (let x : Err SmallBuffer ≡ Ok n = rw p at e in let z : ◌≡◌ {A = ℕ} 0 1 = cc in omega arith)
+    go false p false q = absurd (let x : Err Unwritable ≡ Ok n = rw (p, q) at e in let z : ◌≡◌ {A = ℕ} 0 1 = cc in omega arith)
     go false p true q =
-        let x : writer.Done (length (frame (encode m))) ≡ writer.Done n = rw (p, q) at e in
+        let x : ◌≡◌ {A = Result ℕ Refusal} (Ok (length (frame (encode m)))) (Ok n) = rw (p, q) at e in
         let c : length (frame (encode m)) ≡ n = cc in
         let o : out_after y m ≡ sets y 0 (frame (encode m)) = rw (p, q) in
         let l : length (frame (encode m)) ≤ length y = omega (arith, frame-most (encode m) (fitting m q).body, ltb-false (length y) least_reply p) in
@@ -65,11 +66,11 @@ module _ (you : Peer) (w : Who) (a : Box) (h : w.asking ≡ true) (m : Message) 
   body = encode m
 
   -- a message that was written within the limits goes to the host
-  heard-dealing : dealing you w a body ≡ untouched (Heard (length body) (fields_of body)) a.lent
+  heard-dealing : dealing you w a body ≡ untouched (Ok (Heard (length body) (fields_of body))) a.lent
   unfolding dealing_of heard_of
   heard-dealing =
       cond_yes w.asking _ _ h
-      ∙ ap (λ (r : Reading). untouched (heard_as (length body) r) a.lent) (read-written m f)
+      ∙ ap (λ (r : Result Fields Refusal). untouched (heard_as (length body) r) a.lent) (read-written m f)
 
   abbrev noting : ℕ → ℕ → Dealing → Box
   noting i at d = noted i at d.answer d.sight body d.left (offer_in w body) a

@@ -25,20 +25,20 @@ use Rattle.stream.specs.Stream.{fresh}
 use Rattle.cutting.specs.Frames.{Event, message, refused as broken}
 use Rattle.cutting.specs.World.{Line}
 use Rattle.replies.specs.Lent.{Lent}
-use Rattle.replies.specs.declared.Answered.{Answered}
-use Rattle.replies.specs.declared.Answered.TheVariants as told
 use Rattle.replies.specs.Verdicts.{Dealt}
 use Rattle.answer.specs.Answers.{deal_of}
 use Rattle.connections.specs.declared.Conn.{Conn}
-use Rattle.node.specs.declared.Sight.{Sight}
 use Rattle.node.specs.declared.Answer.{Answer}
-use Rattle.node.specs.declared.Answer.TheVariants.{Reply, Heard, Refused, More}
+use Rattle.node.specs.declared.Answer.TheVariants.{Reply, Heard, More}
 use Rattle.connections.specs.Box.{own_fits}
 use Rattle.node.specs.Node.{Dealing, contacts_after, by_answer, served, heard, dealing_of}
 use Rattle.host_calls.specs.Hosts.{seen_after, settle_after, remove_after, doubt_after}
 use Rattle.demands.specs.Box as box
 use Rattle.demands.specs.Box.{Box, Who, conn_of, offer_by, offer_in, noted, Turn, Ask, dealing, happens, turning, asking, Own, Allowed, Good}
 use Rattle.demands.proofs.Deal.{Leaves, deal-leaves}
+use Rattle.std.specs.Prelude.{Ok, Err, Result, Option}
+use Rattle.refusal.specs.declared.Refusal.{Refusal}
+use Rattle.sightings.specs.declared.Sighting.{Sighting}
 
 pub after_more : (k : List ℕ) (os ps : List Offer) → after k (os ++ ps) ≡ after (after k os) ps
 unfolding after
@@ -80,11 +80,11 @@ module _ (me : Peer) (Q : List ℕ → List Offer → Type 0) (L : Lasting Q) wh
   unfolding contacts_after
   seen-after c t p h = cond_ind (λ (x : List ℕ). contacts_form x me.place ≡ true) c.server _ _ (λ e. seen-keeps t me.place (tidied c.peer) (fair-tidied me.place c.peer p) h) (λ e. h)
 
-  answer_keeps : (x : Answered) (d : Dealt) (c : Conn) (l : Lent) (os : List Offer) → Fair me.place c.peer → contacts_form l.contacts me.place ≡ true
+  answer_keeps : (x : Result ℕ Refusal) (d : Dealt) (c : Conn) (l : Lent) (os : List Offer) → Fair me.place c.peer → contacts_form l.contacts me.place ≡ true
       → records_form l.records ≡ true → Leaves l os d → Keeps l os (by_answer x d.left me c l)
-  answer_keeps (told.Refused r) d c l os p h g q =
+  answer_keeps (Err r) d c l os p h g q =
       record { contacts = ap (λ (t : List ℕ). contacts_form t me.place) q.contacts ∙ h; records = q.offers g; room = q.room }
-  answer_keeps (told.Reply n) d c l os p h g q = record { contacts = seen-after c l.contacts p h; records = q.offers g; room = q.room }
+  answer_keeps (Ok n) d c l os p h g q = record { contacts = seen-after c l.contacts p h; records = q.offers g; room = q.room }
 
   pub dealing-keeps : (w : Who) (a : Box) (body : List ℕ) → Allowed me w → Good me a → Keeps a.lent (offer_in w body) (dealing me w a body)
   unfolding dealing_of served heard after
@@ -107,12 +107,12 @@ module _ (me : Peer) (Q : List ℕ → List Offer → Type 0) (L : Lasting Q) wh
   logs : (a : Box) (e : box.Entry) → Held me Q a → Held me Q (box.logged a e)
   logs a e h = record { good = record { contacts = h.good.contacts; records = h.good.records; room = h.good.room }; offers = h.offers }
 
-  noted-held : (i at : ℕ) (x : Answer) (s : Sight) (body : List ℕ) (l : Lent) (os : List Offer) (a : Box) → contacts_form l.contacts me.place ≡ true
+  noted-held : (i at : ℕ) (x : Result Answer Refusal) (s : Option (Result Sighting Refusal)) (body : List ℕ) (l : Lent) (os : List Offer) (a : Box) → contacts_form l.contacts me.place ≡ true
       → records_form l.records ≡ true → least_reply ≤ length l.reply → Q l.records (a.offers ++ os) → Held me Q (noted i at x s body l os a)
-  noted-held i at (Reply n) s body l os a c r m e = record { good = record { contacts = c; records = r; room = m }; offers = e }
-  noted-held i at (Heard n f) s body l os a c r m e = record { good = record { contacts = c; records = r; room = m }; offers = e }
-  noted-held i at (Refused q) s body l os a c r m e = record { good = record { contacts = c; records = r; room = m }; offers = e }
-  noted-held i at More s body l os a c r m e = record { good = record { contacts = c; records = r; room = m }; offers = e }
+  noted-held i at (Ok (Reply n)) s body l os a c r m e = record { good = record { contacts = c; records = r; room = m }; offers = e }
+  noted-held i at (Ok (Heard n f)) s body l os a c r m e = record { good = record { contacts = c; records = r; room = m }; offers = e }
+  noted-held i at (Err q) s body l os a c r m e = record { good = record { contacts = c; records = r; room = m }; offers = e }
+  noted-held i at (Ok More) s body l os a c r m e = record { good = record { contacts = c; records = r; room = m }; offers = e }
 
   pub happens-held : (i : ℕ) (w : Who) (a : Box) (e : Event) → Allowed me w → Held me Q a → Held me Q (happens me i w a e)
   happens-held i w a (message at body) p h =

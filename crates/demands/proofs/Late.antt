@@ -20,18 +20,16 @@ use Rattle.cutting.specs.World.{Line}
 use Rattle.replies.specs.Lent.{Lent}
 use Rattle.connections.specs.declared.Conn.{Conn}
 use Rattle.connections.specs.Box.{own_fits, conn_form}
-use Rattle.node.specs.declared.Answer.TheVariants.{Refused}
-use Rattle.node.specs.declared.Gate.{Gate}
-use Rattle.node.specs.declared.Gate.TheVariants.{Open, Closed}
 use Rattle.node.specs.Node.{Link, linked, Out, gate_of, receive_of}
 use Rattle.node_promises.proofs.Keeping.{form-framing}
 use Rattle.demands.specs.Box.{Who, conn_of, who_in}
 use Rattle.demands.proofs.Receives.{let_through, runs_as}
 use Rattle.demands.proofs.Refusals.{Raised, AnswerRaised, run-raised, event-raised}
+use Rattle.std.specs.Prelude.{Ok, Err, Result, ⊤}
 
 -- what an open gate says of the connection, its buffer and whether it is shut
 gate-passed : (a b c d e f g : Bool)
-    → cond a (Closed OutOfForm) (cond b (Closed OutOfForm) (cond c (Closed OutOfForm) (cond d (Closed SmallBuffer) (cond e (Closed SmallBuffer) (cond f (Closed Shut) (cond g (Closed BadPeer) Open)))))) ≡ Open
+    → ◌≡◌ {A = Result ⊤ Refusal} (cond a (Err OutOfForm) (cond b (Err OutOfForm) (cond c (Err OutOfForm) (cond d (Err SmallBuffer) (cond e (Err SmallBuffer) (cond f (Err Shut) (cond g (Err BadPeer) (Ok tt)))))))) (Ok tt)
     → (c ≡ false) × (d ≡ false) × (f ≡ false)
 gate-passed true b c d e f g h = absurd (let z : ◌≡◌ {A = ℕ} 0 1 = cc in omega arith)
 gate-passed false true c d e f g h = absurd (let z : ◌≡◌ {A = ℕ} 0 1 = cc in omega arith)
@@ -41,7 +39,7 @@ gate-passed false false false false true f g h = absurd (let z : ◌≡◌ {A = 
 gate-passed false false false false false true g h = absurd (let z : ◌≡◌ {A = ℕ} 0 1 = cc in omega arith)
 gate-passed false false false false false false g h = (refl, refl, refl)
 
-module _ (me : Peer) (link : Link) (bs : List ℕ) (l : Lent) (open-gate : gate_of me link l ≡ Open) where
+module _ (me : Peer) (link : Link) (bs : List ℕ) (l : Lent) (open-gate : gate_of me link l ≡ Ok tt) where
   abbrev c : Conn
   c = link.conn
 
@@ -64,5 +62,5 @@ module _ (me : Peer) (link : Link) (bs : List ℕ) (l : Lent) (open-gate : gate_
       subst (λ (x : Out). AnswerRaised x.got.answer) (sym (let_through me line bs l open-gate ∙ runs_as me line bs l o runs))
       (event-raised me o.got.answer (linked (conn_of (who_in c) o.got.framing) o.buffer) o.got.taken l (run-raised bs c.framing m))
 
-  pub late : (r : Refusal) → (receive_of me link bs l).got.answer ≡ Refused r → Raised r
+  pub late : (r : Refusal) → (receive_of me link bs l).got.answer ≡ Err r → Raised r
   late r e = subst AnswerRaised e raised

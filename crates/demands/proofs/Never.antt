@@ -20,13 +20,7 @@ use Rattle.sightings.specs.declared.Sighting.{Sighting}
 use Rattle.sightings.specs.declared.Sighting.TheVariants as seen_answer
 use Rattle.sightings.specs.declared.Settled.{Settled}
 use Rattle.sightings.specs.declared.Settled.TheVariants as settle_answer
-use Rattle.sightings.specs.declared.Removed.{Removed}
-use Rattle.sightings.specs.declared.Removed.TheVariants as remove_answer
-use Rattle.sightings.specs.declared.Doubted.{Doubted}
-use Rattle.sightings.specs.declared.Doubted.TheVariants as doubt_answer
 use Rattle.contact_calls.specs.Calls.{seen_call, settle_call, remove_call, doubt_call}
-use Rattle.records.specs.declared.Found.{Found}
-use Rattle.records.specs.declared.Found.TheVariants as find_told
 use Rattle.records.specs.Store.{in_form as records_form, slots_of, slot_with, held_at, found, find_of}
 use Rattle.records_history.proofs.Stays.{never-0}
 use Rattle.lookup.specs.declared.Answer.{Answer as LookupAnswer}
@@ -40,21 +34,15 @@ use Rattle.lookup_runs.proofs.Theorems.{claims}
 use Rattle.stream.specs.declared.Framing.{Framing}
 use Rattle.stream.specs.declared.Framing.TheVariants.{Shut, Prefix, Body}
 use Rattle.stream.specs.declared.Held.TheVariants.{Nothing, One, Two}
-use Rattle.stream.specs.declared.Ending.{Ending}
-use Rattle.stream.specs.declared.Ending.TheVariants as ends
 use Rattle.stream.specs.declared.Ended as stream_end
 use Rattle.stream.specs.Stream as streams
 use Rattle.stream.specs.Stream.{is_shut, in_form, run_of, end_in, end_of}
 use Rattle.stream.proofs.Steps.{call-runs}
 use Rattle.cutting.specs.World.{Line, Fine}
 use Rattle.node.specs.declared.Answer.{Answer}
-use Rattle.node.specs.declared.Answer.TheVariants.{Refused}
 use Rattle.connections.specs.declared.Ended.{Ended}
 use Rattle.connections.specs.declared.Opened.{Opened}
-use Rattle.node.specs.declared.Gate.{Gate}
 use Rattle.host_calls.specs.declared.Nearby.{Nearby}
-use Rattle.connections.specs.declared.Told.{Told}
-use Rattle.connections.specs.declared.Told.TheVariants as node_told
 use Rattle.connections.specs.Box.{own_fits, open_of, end_conn}
 use Rattle.node.specs.Node.{linked, Out, taken_of, unless, receive_of}
 use Rattle.host_calls.specs.Hosts.{seen_of, settle_of, remove_of, doubt_of, nearest_to, own_id, lookup_start}
@@ -66,6 +54,9 @@ use Rattle.demands.proofs.Receives.{let_through, runs_as}
 use Rattle.demands.proofs.Refusals.{Above, AnswerRaised, AnswerAbove, raised-above, run-raised, event-raised}
 use Rattle.demands.proofs.Sound.{sound}
 use Rattle.demands.proofs.Ready.{calls-ready}
+use Rattle.std.specs.Prelude.{Ok, Err, Some, None, Result, Option, ⊤}
+use Rattle.records.specs.declared.Held.{Held}
+use Rattle.refusal.specs.declared.Refusal.{Refusal}
 
 -- a test of form that passes
 passes : {X : Type 0} (b : Bool) → b ≡ true → not b ≡ true → X
@@ -77,7 +68,7 @@ module _ (me : Peer) where
       → AnswerAbove (receive_of me (link_of l) bs a.lent).got.answer
   unfolding receive_of
   shut-answer l a bs f g e =
-      subst (λ (x : Gate). AnswerAbove (unless x (link_of l) a.lent (taken_of me (link_of l) bs a.lent)).got.answer)
+      subst (λ (x : Result ⊤ Refusal). AnswerAbove (unless x (link_of l) a.lent (taken_of me (link_of l) bs a.lent)).got.answer)
       (sym (gate-shut me l a f e g)) (omega arith)
 
   pub open-answer : Own me → (l : Line Who) (a : Box) (bs : List ℕ) → Fine (Allowed me) l → Good me a → is_shut l.framing ≡ false
@@ -91,17 +82,17 @@ module _ (me : Peer) where
       (run-raised bs l.framing l.buffer))
 
   receive-never : Own me → (l : Line Who) (a : Box) (bs : List ℕ) → Fine (Allowed me) l → Good me a
-      → (receive_of me (link_of l) bs a.lent).got.answer ≡ Refused OutOfForm → ⊥
+      → (receive_of me (link_of l) bs a.lent).got.answer ≡ Err OutOfForm → ⊥
   receive-never w l a bs f g e =
-      let x : Answer = (receive_of me (link_of l) bs a.lent).got.answer in
+      let x : (Result Answer Refusal) = (receive_of me (link_of l) bs a.lent).got.answer in
       let h : 1 ≤ 0 =
       subst AnswerAbove e (⊎_elim (shut-answer l a bs f g) (λ o. raised-above x (open-answer w l a bs f g o)) (either (is_shut l.framing))) in
       omega arith
 
 -- ---- ending
-abbrev EndAbove : Ending → Type 0
-EndAbove ends.Clean = Unit {0}
-EndAbove (ends.Refused r) = Above r
+abbrev EndAbove : Result ⊤ Refusal → Type 0
+EndAbove (Ok tt) = Unit {0}
+EndAbove (Err r) = Above r
 
 end-in : (f : Framing) → EndAbove (end_in f).answer
 end-in Shut = omega arith
@@ -117,32 +108,32 @@ end-above me l f =
     (cond_ind (λ (x : stream_end.Ended). EndAbove x.answer) (not (in_form l.framing)) _ _ (passes (in_form l.framing) f.form)
     (λ e. end-in l.framing))
 
-end-never : (me : Peer) (l : Line Who) → Fine (Allowed me) l → (end_conn me (conn_of l.who l.framing)).answer ≡ ends.Refused OutOfForm → ⊥
+end-never : (me : Peer) (l : Line Who) → Fine (Allowed me) l → (end_conn me (conn_of l.who l.framing)).answer ≡ Err OutOfForm → ⊥
 end-never me l f e = let h : 1 ≤ 0 = subst EndAbove e (end-above me l f) in omega arith
 
 -- ---- contacts
-abbrev SeenAbove : Sighting → Type 0
-SeenAbove (seen_answer.Moved i) = Unit {0}
-SeenAbove (seen_answer.Joined i) = Unit {0}
-SeenAbove (seen_answer.Probe h) = Unit {0}
-SeenAbove (seen_answer.Refused r) = Above r
+abbrev SeenAbove : Result Sighting Refusal → Type 0
+SeenAbove (Ok (seen_answer.Moved i)) = Unit {0}
+SeenAbove (Ok (seen_answer.Joined i)) = Unit {0}
+SeenAbove (Ok (seen_answer.Probe h)) = Unit {0}
+SeenAbove (Err r) = Above r
 
-abbrev SettleAbove : Settled → Type 0
-SettleAbove settle_answer.Kept = Unit {0}
-SettleAbove settle_answer.Swapped = Unit {0}
-SettleAbove (settle_answer.Refused r) = Above r
+abbrev SettleAbove : Result Settled Refusal → Type 0
+SettleAbove (Ok settle_answer.Kept) = Unit {0}
+SettleAbove (Ok settle_answer.Swapped) = Unit {0}
+SettleAbove (Err r) = Above r
 
-abbrev RemoveAbove : Removed → Type 0
-RemoveAbove remove_answer.Gone = Unit {0}
-RemoveAbove (remove_answer.Refused r) = Above r
+abbrev RemoveAbove : Result ⊤ Refusal → Type 0
+RemoveAbove (Ok tt) = Unit {0}
+RemoveAbove (Err r) = Above r
 
-abbrev DoubtAbove : Doubted → Type 0
-DoubtAbove doubt_answer.Marked = Unit {0}
-DoubtAbove (doubt_answer.Refused r) = Above r
+abbrev DoubtAbove : Result ⊤ Refusal → Type 0
+DoubtAbove (Ok tt) = Unit {0}
+DoubtAbove (Err r) = Above r
 
-abbrev ToldAbove : Told → Type 0
-ToldAbove node_told.Fine = Unit {0}
-ToldAbove (node_told.Refused r) = Above r
+abbrev ToldAbove : Result ⊤ Refusal → Type 0
+ToldAbove (Ok tt) = Unit {0}
+ToldAbove (Err r) = Above r
 
 open_above : (me : Peer) (id : List ℕ) (server asking : Bool) (addresses : List ℕ) → ToldAbove (open_of me id server asking addresses).told
 unfolding open_of
@@ -157,13 +148,13 @@ sighting-above t ours p =
     (λ e. cond_ind SeenAbove (ltb (free_at t) (contact_slots t)) _ _ (λ e. tt) (λ e. omega arith)))
 
 -- ---- lookups
-abbrev LookupAbove : LookupAnswer → Type 0
-LookupAbove (lookup_answer.Refused r) = Above r
-LookupAbove (lookup_answer.Complete n) = Unit {0}
-LookupAbove (lookup_answer.CutShort n) = Unit {0}
-LookupAbove lookup_answer.Wait = Unit {0}
-LookupAbove (lookup_answer.Ask i) = Unit {0}
-LookupAbove lookup_answer.Going = Unit {0}
+abbrev LookupAbove : Result LookupAnswer Refusal → Type 0
+LookupAbove (Err r) = Above r
+LookupAbove (Ok (lookup_answer.Complete n)) = Unit {0}
+LookupAbove (Ok (lookup_answer.CutShort n)) = Unit {0}
+LookupAbove (Ok lookup_answer.Wait) = Unit {0}
+LookupAbove (Ok (lookup_answer.Ask i)) = Unit {0}
+LookupAbove (Ok lookup_answer.Going) = Unit {0}
 
 settled-above : (l : Lookup) → LookupAbove (settled l).answer
 unfolding settled
@@ -231,10 +222,10 @@ module _ (me : Peer) (t : List ℕ) (form : contacts_form t me.place ≡ true) w
       go = cond_ind (λ (s : Step). LookupAbove s.answer)
 
 -- ---- records
-abbrev FoundAbove : Found → Type 0
-FoundAbove (find_told.Held a e) = Unit {0}
-FoundAbove find_told.NotHeld = Unit {0}
-FoundAbove (find_told.Refused r) = Above r
+abbrev FoundAbove : Result (Option Held) Refusal → Type 0
+FoundAbove (Ok (Some h)) = Unit {0}
+FoundAbove (Ok None) = Unit {0}
+FoundAbove (Err r) = Above r
 
 find-above : (k key : List ℕ) → records_form k ≡ true → FoundAbove (find_of k key)
 unfolding find_of found held_at

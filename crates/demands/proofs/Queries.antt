@@ -24,11 +24,11 @@ use Rattle.message.specs.Kinds.{get_value, find_node, key_fits}
 use Rattle.replies.specs.Replies.{closer_peers, listed, last_entry, find_node_reply, record_at, get_value_reply}
 use Rattle.replies.specs.Verdicts.{replies, keyed}
 use Rattle.answer.specs.Answers.{verdict_of}
-use Rattle.connections.specs.declared.Told.TheVariants.{Fine}
 use Rattle.connections.specs.Box.{own_fits}
 use Rattle.host_calls.specs.declared.Nearby.{Nearby}
 use Rattle.host_calls.specs.Hosts.{nearest_to}
 use Rattle.demands.specs.Demands.{Queries}
+use Rattle.std.specs.Prelude.{Ok}
 
 -- ---- the last entry of FIND_NODE
 -- where all that lie at a place are doubtful, it isn't listed
@@ -70,7 +70,7 @@ no_other me who t x m w =
     cond_ind (λ l. l ≡ []) (listed t x) [] _ (λ _. refl) (λ _. cond_no (same x me.place) _ _ (same-no x me.place m) ∙ cond_no (same x who.place) _ _ (same-no x who.place w))
 
 module _ (me : Peer) (own : own_fits me ≡ true) where
-  host-is : (t key : List ℕ) → in_form t me.place ≡ true → key_fits key ≡ true → nearest_to me t key ≡ record { closest = nearest_of t (place_of key); told = Fine }
+  host-is : (t key : List ℕ) → in_form t me.place ≡ true → key_fits key ≡ true → nearest_to me t key ≡ record { closest = nearest_of t (place_of key); told = (Ok tt) }
   unfolding nearest_to
   host-is t key f k = rw (f, k, own) refl
 

@@ -3,7 +3,6 @@ use Prim.Native.Nat.{ℕ, suc, ◌*◌, ◌+◌, ◌%◌, ◌≤◌}
 use mathlib.Core.Path.{sym, subst}
 use mathlib.Core.Bool.{not}
 use mathlib.Core.List.{List, [], ◌∷◌}
-use mathlib.Core.Option.{Option, none, some}
 use native.Mathlib.Omega.{arith}
 use lib.ListN.{length, take}
 use lib.Dec.{eqb, ltb}
@@ -14,35 +13,29 @@ use Rattle.refusal.specs.declared.Refusal.{Refusal}
 use Rattle.refusal.specs.Refusal.{number_of}
 use Rattle.peer.specs.declared.Peer.{Peer}
 use Rattle.recipe.specs.Recipe.{is_recipe, outranks}
-use Rattle.records.specs.declared.Plan.{Plan}
-use Rattle.records.specs.declared.Plan.TheVariants.{Write, Keep, Refuse}
 use Rattle.records.specs.Store.{slots_of, slot, value_of, is_key, slot_with, free_slot, held_plan, plan_of, answer_of, offer_answer}
 use Rattle.message.specs.Message.{Record, Message, message_of}
 use Rattle.message.specs.View.{fields_of, reading_of}
 use Rattle.message.specs.Message.{well_message}
-use Rattle.message.specs.declared.Reading.{Reading}
-use Rattle.message.specs.declared.Reading.TheVariants as reading
 use Rattle.stream.specs.declared.Held.{Held}
 use Rattle.stream.specs.declared.Held.TheVariants.{Nothing, One, Two}
 use Rattle.stream.specs.declared.Framing.{Framing}
 use Rattle.stream.specs.declared.Framing.TheVariants.{Shut, Prefix, Body}
 use Rattle.stream.specs.declared.Lead.{Lead}
-use Rattle.stream.specs.declared.Lead.TheVariants.{On, Length, Bad}
-use Rattle.stream.specs.declared.Answer as stream
-use Rattle.stream.specs.declared.Answer.TheVariants as framed
+use Rattle.stream.specs.declared.Lead.TheVariants.{On, Length}
 use Rattle.stream.specs.Stream as streams
 use Rattle.stream.specs.Stream.{limited, minimal, prefix_step, Stepped, led, step_of, store_of, run_of}
 use Rattle.replies.specs.Lent.{Lent}
 use Rattle.message.specs.Kinds.{put_value, get_value, find_node, ping, key_fits}
-use Rattle.replies.specs.declared.Answered.{Answered}
-use Rattle.replies.specs.declared.Answered.TheVariants as told
 use Rattle.replies.specs.Verdicts.{Verdict, replies, refuses, keyed, echoed, put_verdict, Dealt, by_verdict}
 use Rattle.answer.specs.Answers.{verdict_of, by_reading, deal_of}
 use Rattle.connections.specs.declared.Conn.{Conn}
 use Rattle.node.specs.declared.Answer.{Answer}
-use Rattle.node.specs.declared.Answer.TheVariants.{Reply, Heard, Refused, More}
+use Rattle.node.specs.declared.Answer.TheVariants.{Reply, Heard, More}
 use Rattle.node.specs.Node.{Link, Dealing, by_answer, served, heard_as, heard, dealing_of, by_event}
 use Rattle.demands.proofs.Deal.{deal-is}
+use Rattle.std.specs.Prelude.{Ok, Err, Some, None, Result, Option}
+use Rattle.message.specs.declared.Fields.{Fields}
 
 abbrev pub Above : Refusal → Type 0
 Above r = 1 ≤ number_of r
@@ -52,15 +45,15 @@ abbrev pub Raised : Refusal → Type 0
 Raised r = (3 ≤ number_of r) × (number_of r ≤ 11)
 
 -- ---- the framing: 3 and 4
-abbrev LeadRaised : Lead → Type 0
-LeadRaised (On h) = Unit {0}
-LeadRaised (Length n) = Unit {0}
-LeadRaised (Bad r) = Raised r
+abbrev LeadRaised : Result Lead Refusal → Type 0
+LeadRaised (Ok (On h)) = Unit {0}
+LeadRaised (Ok (Length n)) = Unit {0}
+LeadRaised (Err r) = Raised r
 
-abbrev pub FramedRaised : stream.Answer → Type 0
-FramedRaised (framed.Message n) = Unit {0}
-FramedRaised (framed.Refused r) = Raised r
-FramedRaised framed.More = Unit {0}
+abbrev pub FramedRaised : Result (Option ℕ) Refusal → Type 0
+FramedRaised (Ok (Some n)) = Unit {0}
+FramedRaised (Err r) = Raised r
+FramedRaised (Ok None) = Unit {0}
 
 limited-raised : (n : ℕ) → LeadRaised (limited n)
 unfolding limited
@@ -79,21 +72,21 @@ prefix-raised (Two a b) z = cond_ind LeadRaised (ltb z 128) _ _ (λ h. minimal-r
 abbrev StepRaised : Stepped → Type 0
 StepRaised s = FramedRaised s.answer
 
-led-raised : (l : Lead) → LeadRaised l → StepRaised (led l)
-led-raised (On h) a = tt
-led-raised (Length n) a = cond_ind StepRaised (eqb n 0) _ _ (λ h. tt) (λ h. tt)
-led-raised (Bad r) a = a
+led-raised : (l : Result Lead Refusal) → LeadRaised l → StepRaised (led l)
+led-raised (Ok (On h)) a = tt
+led-raised (Ok (Length n)) a = cond_ind StepRaised (eqb n 0) _ _ (λ h. tt) (λ h. tt)
+led-raised (Err r) a = a
 
 step-raised : (f : Framing) (b : ℕ) → StepRaised (step_of f b)
 step-raised Shut b = tt
 step-raised (Prefix h) b = led-raised (prefix_step h b) (prefix-raised h b)
 step-raised (Body want have) b = cond_ind StepRaised (eqb (suc have) want) _ _ (λ h. tt) (λ h. tt)
 
-after-raised : (w : stream.Answer) (f : Framing) (m : List ℕ) (o : streams.Out) → FramedRaised w → FramedRaised o.got.answer
+after-raised : (w : Result (Option ℕ) Refusal) (f : Framing) (m : List ℕ) (o : streams.Out) → FramedRaised w → FramedRaised o.got.answer
     → FramedRaised (streams.after w f m o).got.answer
-after-raised (framed.Message n) f m o h g = h
-after-raised (framed.Refused r) f m o h g = h
-after-raised framed.More f m o h g = g
+after-raised (Ok (Some n)) f m o h g = h
+after-raised (Err r) f m o h g = h
+after-raised (Ok None) f m o h g = g
 
 pub run-raised : (bs : List ℕ) (f : Framing) (m : List ℕ) → FramedRaised (run_of f m bs).got.answer
 unfolding run_of
@@ -103,9 +96,9 @@ run-raised (b ∷ bs) f m =
     (run-raised bs (step_of f b).framing (store_of f m b))
 
 -- ---- the reader: 4 to 6
-abbrev ReadRaised : Reading → Type 0
-ReadRaised (reading.Refused r) = Raised r
-ReadRaised (reading.Whole f) = Unit {0}
+abbrev ReadRaised : Result Fields Refusal → Type 0
+ReadRaised (Err r) = Raised r
+ReadRaised (Ok f) = Unit {0}
 
 read-raised : (body : List ℕ) → ReadRaised (reading_of body)
 unfolding reading_of
@@ -115,10 +108,10 @@ read-raised body =
     (λ e. cond_ind ReadRaised (ltb most_kind (fields_of body).kind) _ _ (λ e. (omega arith, omega arith)) (λ e. tt)))
 
 -- ---- the store: 8 to 11
-abbrev PlanRaised : Plan → Type 0
-PlanRaised (Write i) = Unit {0}
-PlanRaised Keep = Unit {0}
-PlanRaised (Refuse r) = Raised r
+abbrev PlanRaised : Result (Option ℕ) Refusal → Type 0
+PlanRaised (Ok (Some i)) = Unit {0}
+PlanRaised (Ok None) = Unit {0}
+PlanRaised (Err r) = Raised r
 
 plan-raised : (k key v : List ℕ) → PlanRaised (plan_of k key v)
 unfolding plan_of held_plan
@@ -135,16 +128,16 @@ abbrev VerdictRaised : Verdict → Type 0
 VerdictRaised (replies m) = Unit {0}
 VerdictRaised (refuses r) = Raised r
 
-echo-raised : (p : Plan) (m : Message) → PlanRaised p → VerdictRaised (echoed (answer_of p) m)
+echo-raised : (p : Result (Option ℕ) Refusal) (m : Message) → PlanRaised p → VerdictRaised (echoed (answer_of p) m)
 unfolding answer_of
-echo-raised (Write i) m a = tt
-echo-raised Keep m a = tt
-echo-raised (Refuse r) m a = a
+echo-raised (Ok (Some i)) m a = tt
+echo-raised (Ok None) m a = tt
+echo-raised (Err r) m a = a
 
 put-raised : (key : List ℕ) (h : Option Record) (k : List ℕ) → VerdictRaised (put_verdict key h k)
 unfolding put_verdict offer_answer
-put-raised key none k = (omega arith, omega arith)
-put-raised key (some r) k =
+put-raised key None k = (omega arith, omega arith)
+put-raised key (Some r) k =
     cond_ind VerdictRaised (same r.key key) _ _ (λ e. echo-raised (plan_of k key r.value) _ (plan-raised k key r.value)) (λ e. (omega arith, omega arith))
 
 keyed-raised : (key : List ℕ) (m : Message) → VerdictRaised (keyed key m)
@@ -160,36 +153,36 @@ verdict-raised me who m l =
     (λ e. cond_ind VerdictRaised (eqb m.kind ping) _ _ (λ e. tt) (λ e. (omega arith, omega arith)))))
 
 -- ---- a request: 4 to 11
-abbrev ToldRaised : Answered → Type 0
-ToldRaised (told.Refused r) = Raised r
-ToldRaised (told.Reply n) = Unit {0}
+abbrev ToldRaised : Result ℕ Refusal → Type 0
+ToldRaised (Err r) = Raised r
+ToldRaised (Ok n) = Unit {0}
 
 by-verdict-raised : (v : Verdict) (next l : Lent) → VerdictRaised v → ToldRaised (by_verdict v next l).told
 by-verdict-raised (replies m) next l a = tt
 by-verdict-raised (refuses r) next l a = a
 
-by-reading-raised : (r : Reading) (me who : Peer) (m : Message) (l : Lent) → ReadRaised r → ToldRaised (by_reading r me who m l).told
-by-reading-raised (reading.Refused r) me who m l a = a
-by-reading-raised (reading.Whole f) me who m l a = by-verdict-raised (verdict_of me who m l) _ l (verdict-raised me who m l)
+by-reading-raised : (r : Result Fields Refusal) (me who : Peer) (m : Message) (l : Lent) → ReadRaised r → ToldRaised (by_reading r me who m l).told
+by-reading-raised (Err r) me who m l a = a
+by-reading-raised (Ok f) me who m l a = by-verdict-raised (verdict_of me who m l) _ l (verdict-raised me who m l)
 
 deal-raised : (me who : Peer) (body : List ℕ) (l : Lent) → ToldRaised (deal_of me who body l).told
 deal-raised me who body l =
     subst (λ (d : Dealt). ToldRaised d.told) (sym (deal-is me who body l)) (by-reading-raised (reading_of body) me who (message_of body) l (read-raised body))
 
 -- ---- an event on a connection: 3 to 11
-abbrev pub AnswerRaised : Answer → Type 0
-AnswerRaised (Reply n) = Unit {0}
-AnswerRaised (Heard n f) = Unit {0}
-AnswerRaised (Refused r) = Raised r
-AnswerRaised More = Unit {0}
+abbrev pub AnswerRaised : Result Answer Refusal → Type 0
+AnswerRaised (Ok (Reply n)) = Unit {0}
+AnswerRaised (Ok (Heard n f)) = Unit {0}
+AnswerRaised (Err r) = Raised r
+AnswerRaised (Ok More) = Unit {0}
 
-heard-raised : (n : ℕ) (r : Reading) → ReadRaised r → AnswerRaised (heard_as n r)
-heard-raised n (reading.Whole f) a = tt
-heard-raised n (reading.Refused r) a = a
+heard-raised : (n : ℕ) (r : Result Fields Refusal) → ReadRaised r → AnswerRaised (heard_as n r)
+heard-raised n (Ok f) a = tt
+heard-raised n (Err r) a = a
 
-served-raised : (x : Answered) (after : Lent) (me : Peer) (c : Conn) (l : Lent) → ToldRaised x → AnswerRaised (by_answer x after me c l).answer
-served-raised (told.Refused r) after me c l a = a
-served-raised (told.Reply n) after me c l a = tt
+served-raised : (x : Result ℕ Refusal) (after : Lent) (me : Peer) (c : Conn) (l : Lent) → ToldRaised x → AnswerRaised (by_answer x after me c l).answer
+served-raised (Err r) after me c l a = a
+served-raised (Ok n) after me c l a = tt
 
 dealing-raised : (me : Peer) (c : Conn) (body : List ℕ) (l : Lent) → AnswerRaised (dealing_of me c body l).answer
 unfolding dealing_of heard served
@@ -198,20 +191,20 @@ dealing-raised me c body l =
     cond_ind (λ (x : Dealing). AnswerRaised x.answer) c.asking _ _ (λ e. heard-raised (length body) (reading_of body) (read-raised body))
     (λ e. served-raised d.told d.left me c l (deal-raised me c.peer body l))
 
-pub event-raised : (me : Peer) (w : stream.Answer) (link : Link) (n : ℕ) (l : Lent) → FramedRaised w → AnswerRaised (by_event w me link n l).got.answer
-event-raised me (framed.Message size) link n l a = dealing-raised me link.conn (take size link.buffer) l
-event-raised me (framed.Refused r) link n l a = a
-event-raised me framed.More link n l a = tt
+pub event-raised : (me : Peer) (w : Result (Option ℕ) Refusal) (link : Link) (n : ℕ) (l : Lent) → FramedRaised w → AnswerRaised (by_event w me link n l).got.answer
+event-raised me (Ok (Some size)) link n l a = dealing-raised me link.conn (take size link.buffer) l
+event-raised me (Err r) link n l a = a
+event-raised me (Ok None) link n l a = tt
 
 -- so none is 0
-abbrev pub AnswerAbove : Answer → Type 0
-AnswerAbove (Reply n) = Unit {0}
-AnswerAbove (Heard n f) = Unit {0}
-AnswerAbove (Refused r) = Above r
-AnswerAbove More = Unit {0}
+abbrev pub AnswerAbove : Result Answer Refusal → Type 0
+AnswerAbove (Ok (Reply n)) = Unit {0}
+AnswerAbove (Ok (Heard n f)) = Unit {0}
+AnswerAbove (Err r) = Above r
+AnswerAbove (Ok More) = Unit {0}
 
-pub raised-above : (x : Answer) → AnswerRaised x → AnswerAbove x
-raised-above (Reply n) a = tt
-raised-above (Heard n f) a = tt
-raised-above (Refused r) a = omega (arith, a.0)
-raised-above More a = tt
+pub raised-above : (x : Result Answer Refusal) → AnswerRaised x → AnswerAbove x
+raised-above (Ok (Reply n)) a = tt
+raised-above (Ok (Heard n f)) a = tt
+raised-above (Err r) a = omega (arith, a.0)
+raised-above (Ok More) a = tt

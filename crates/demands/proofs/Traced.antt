@@ -3,7 +3,6 @@ use Prim.Native.Nat.{ℕ, zero, suc, ◌+◌}
 use mathlib.Core.Path.{◌≡◌, refl, sym, ap, ◌∙◌, subst}
 use mathlib.Core.Bool.{Bool, true, false, cond}
 use mathlib.Core.List.{List, [], ◌∷◌, ◌++◌, map, map-append, append-nil, append_assoc}
-use mathlib.Core.Option.{Option, none, some}
 use lib.ListN.{length, drop}
 use lib.Seq.{drop-append_seam}
 use lib.Dec.{eqb}
@@ -20,14 +19,16 @@ use Rattle.lookup_runs.proofs.Theorems.{claims}
 use Rattle.stream.specs.Stream.{is_shut, receive_of as framed_of}
 use Rattle.cutting.specs.World.{Did, here, Line, Shared, World, Called, Call, hand, does, asks, answered, feed, handed, call, calls}
 use Rattle.replies.specs.Lent.{Lent}
-use Rattle.node.specs.declared.Sight.{Sight}
 use Rattle.node.specs.declared.Answer.{Answer}
-use Rattle.node.specs.declared.Answer.TheVariants.{Reply, Heard, Refused, More}
+use Rattle.node.specs.declared.Answer.TheVariants.{Reply, Heard, More}
 use Rattle.node.specs.Node.{receive_of}
 use Rattle.host_calls.specs.Hosts.{own_id, lookup_start, lookup_reply, lookup_failure}
 use Rattle.demands.specs.Box as box
 use Rattle.demands.specs.Box.{Box, Who, conn_of, link_of, body_in, offers_in, Entry, Turn, Ask, noted, receiving, turning, asking}
 use Rattle.demands.specs.Lookups.{Trace, Part, starts, goes, neither, trace_with, part_of, traced, start_in, IsRun, LookupsAreRuns}
+use Rattle.std.specs.Prelude.{Ok, Err, Some, None, Result, Option}
+use Rattle.refusal.specs.declared.Refusal.{Refusal}
+use Rattle.sightings.specs.declared.Sighting.{Sighting}
 
 -- ---- the log only grows
 abbrev Longer : List Entry → List Entry → Type 0
@@ -53,11 +54,11 @@ record Apart (a b : Box) : Type 0 where
 apart-then : (a b c : Box) → Apart a b → Apart b c → Apart a c
 apart-then a b c p q = record { lookups = q.lookups ∙ p.lookups; log = more-then a.log b.log c.log p.log q.log }
 
-noted-apart : (i at : ℕ) (x : Answer) (s : Sight) (body : List ℕ) (l : Lent) (os : List Offer) (a : Box) → Apart a (noted i at x s body l os a)
-noted-apart i at (Reply n) s body l os a = record { lookups = refl; log = one_more a.log _ }
-noted-apart i at (Heard n f) s body l os a = record { lookups = refl; log = one_more a.log _ }
-noted-apart i at (Refused r) s body l os a = record { lookups = refl; log = one_more a.log _ }
-noted-apart i at More s body l os a = record { lookups = refl; log = no_more a.log }
+noted-apart : (i at : ℕ) (x : Result Answer Refusal) (s : Option (Result Sighting Refusal)) (body : List ℕ) (l : Lent) (os : List Offer) (a : Box) → Apart a (noted i at x s body l os a)
+noted-apart i at (Ok (Reply n)) s body l os a = record { lookups = refl; log = one_more a.log _ }
+noted-apart i at (Ok (Heard n f)) s body l os a = record { lookups = refl; log = one_more a.log _ }
+noted-apart i at (Err r) s body l os a = record { lookups = refl; log = one_more a.log _ }
+noted-apart i at (Ok More) s body l os a = record { lookups = refl; log = no_more a.log }
 
 module _ (me : Peer) where
   receiving-apart : (i : ℕ) (l : Line Who) (a : Box) (bs : List ℕ) → Apart a (receiving me i l a bs).state
@@ -146,8 +147,8 @@ tells g = box.called (box.step_gave g)
 module _ (me : Peer) (j : ℕ) where
   -- what the trace says of the lookup, if there is one
   abbrev Agrees : Option (Trace Entry) → Lookup → Type 0
-  Agrees none l = Unit {0}
-  Agrees (some x) l =
+  Agrees None l = Unit {0}
+  Agrees (Some x) l =
       (l ≡ (outcome step (start_in me x) x.calls).lookup)
       × (x.told ≡ map tells (start_in me x ∷ map (λ (e : Event). e.gave) (history step (start_in me x) x.calls)))
 
@@ -160,8 +161,8 @@ module _ (me : Peer) (j : ℕ) where
 
   gone : (b : Bool) (x : Option (Trace Entry)) (l : Lookup) (log : List Entry) (t : List ℕ) (c : LookupCall) (g : Step) → (b ≡ true → g ≡ step c l) → Agrees x l
       → Agrees (trace_with t (drop (length log) (log ++ (tells g ∷ []))) (cond b (goes c) neither) x) (cond b g.lookup l)
-  gone true none l log t c g q h = tt
-  gone true (some x) l log t c g q h =
+  gone true None l log t c g q h = tt
+  gone true (Some x) l log t c g q h =
       let s : Step = start_in me x in
       let k : g ≡ step c (outcome step s x.calls).lookup = q refl ∙ ap (step c) h.0 in
       let hist : List Step = map (λ (e : Event). e.gave) (history step s x.calls) in (
@@ -223,7 +224,7 @@ module _ (me : Peer) (j : ℕ) where
 
 -- ---- once there is a trace, there is one
 abbrev pub There : {E : Type 0} → Option (Trace E) → Type 0
-There {E} o = (x : Trace E) × (o ≡ some x)
+There {E} o = (x : Trace E) × (o ≡ Some x)
 
 pub with-there : {E : Type 0} (t : List ℕ) (es : List E) (p : Part) (o : Option (Trace E)) → There o → There (trace_with t es p o)
 with-there t es (starts key limit) o h = (_, refl)
@@ -251,9 +252,9 @@ pub lookups-are-runs : (me : Peer) → LookupsAreRuns me
 lookups-are-runs me =
     record {
       runs = λ s cs j x e.
-          let h : Agrees me j (some x) ((calls (box.box me) s cs).shared.state.lookups j) =
-          subst (λ (y : Option (Trace Entry)). Agrees me j y ((calls (box.box me) s cs).shared.state.lookups j)) e (calls-agree me j cs s none tt) in
+          let h : Agrees me j (Some x) ((calls (box.box me) s cs).shared.state.lookups j) =
+          subst (λ (y : Option (Trace Entry)). Agrees me j y ((calls (box.box me) s cs).shared.state.lookups j)) e (calls-agree me j cs s None tt) in
           is-run me tells x ((calls (box.box me) s cs).shared.state.lookups j) h.0 h.1;
-      begins = λ s before after j key limit. begins-there me j key limit before after s none;
+      begins = λ s before after j key limit. begins-there me j key limit before after s None;
       grows = λ s cs. more-since s.shared.state.log (calls (box.box me) s cs).shared.state.log (calls-more me cs s);
     }

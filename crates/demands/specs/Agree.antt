@@ -1,25 +1,23 @@
 -- Request xiv, 'Two benches agree', of boxes in use; proofs/Agree.antt shows it (`benches-agree`). What the store has to do with it, `NoRecords`, `SameSet`,
 -- `HoldSame` and `Highest`, is crate records_history's, specs/Agree; crate `host_demands` says the same of programs that call the box.
 use Rattle.std.specs.Prelude.{ℕ, ◌≡◌, false, List, [], ◌∷◌, ◌++◌, length, take, drop}
-use Rattle.std.proofs.Math.Option.{some}
 use Rattle.refusal.specs.declared.Refusal.TheVariants.{NoRecordSlot}
 use Rattle.peer.specs.declared.Peer.{Peer}
 use Rattle.recipe.specs.Recipe.{is_recipe}
-use Rattle.records.specs.declared.Answer.TheVariants as stored
 use Rattle.records_history.specs.History.{got, Offer}
 use Rattle.records_history.specs.Agree.{NoRecords, IsOffered, SameSet, HoldSame, Highest}
 use Rattle.message.specs.Message.{Message, decode}
-use Rattle.stream.specs.declared.Answer.TheVariants as framed
 use Rattle.stream.specs.Stream.{receive_of as framed_of}
 use Rattle.cutting.specs.World.{Line, World, Call, hand, does, asks, call, calls, Ready, AllFit}
 use Rattle.message.specs.Kinds.{put_value}
 use Rattle.demands.specs.Box.{refused, put_gave, Entry, event, called, Box, Who, Turn, Fits, Ask, put, box, Own, Allowed, Good}
 use Rattle.demands.specs.Demands.{since, Finds, Begun}
+use Rattle.std.specs.Prelude.{Ok, Err, Some}
 
 -- a line of the log gives 11: to a message, or to a put that was typed
 pub data Gives11 (e : Entry) : Type 0 where
   message : (i at : ℕ) → e ≡ event i at (refused NoRecordSlot) → Gives11 e
-  typed : e ≡ called (put_gave (stored.Refused NoRecordSlot)) → Gives11 e
+  typed : e ≡ called (put_gave (Err NoRecordSlot)) → Gives11 e
 
 unfoldable pub Never11 : List Entry → Type 0
 Never11 [] = Unit {0}
@@ -29,15 +27,15 @@ Never11 (e ∷ es) = (Gives11 e → ⊥) × Never11 es
 pub record Sends (w : Who) (body key value : List ℕ) : Type 0 where
   pub side : w.asking ≡ false
   pub says : Message
-  pub reads : decode body ≡ some says
+  pub reads : decode body ≡ Some says
   pub kind : says.kind ≡ put_value
   pub under : says.key ≡ key
-  pub held : says.held ≡ some (record { key = key; value = value })
+  pub held : says.held ≡ Some (record { key = key; value = value })
 
 -- a piece of a connection's bytes completes such a message
 pub record Brings (l : Line Who) (p key value : List ℕ) : Type 0 where
   pub size : ℕ
-  pub whole : (framed_of l.framing l.buffer p).got.answer ≡ framed.Message size
+  pub whole : (framed_of l.framing l.buffer p).got.answer ≡ Ok (Some size)
   pub sends : Sends l.who (take size (framed_of l.framing l.buffer p).buffer) key value
 
 -- one receive takes all of it

@@ -1,7 +1,6 @@
 -- A box in use: what it holds, what a host may call, and what each call does, in the words of `node`'s definitions. Over it `cutting` has the
 -- connections, their pieces, and the plain reading.
 use Rattle.std.specs.Prelude.{ℕ, ◌+◌, ◌≤◌, ◌≡◌, Bool, true, false, cond, List, [], ◌∷◌, ◌++◌, length, take, eqb}
-use Rattle.std.proofs.Math.Option.{Option, none, some}
 use Rattle.octets.specs.Octets.{Bytes, same}
 use Rattle.limits.specs.Limits.{most_body, least_reply}
 use Rattle.refusal.specs.declared.Refusal.{Refusal}
@@ -9,24 +8,15 @@ use Rattle.peer.specs.declared.Peer.{Peer}
 use Rattle.contacts.specs.Form.{in_form as contacts_form}
 use Rattle.sightings.specs.declared.Sighting.{Sighting}
 use Rattle.sightings.specs.declared.Settled.{Settled}
-use Rattle.sightings.specs.declared.Removed.{Removed}
-use Rattle.sightings.specs.declared.Doubted.{Doubted}
 use Rattle.sightings_kept.specs.Promises.{Fair}
-use Rattle.records.specs.declared.Answer as stored
-use Rattle.records.specs.declared.Found as sought
 use Rattle.records.specs.Store.{in_form as records_form, put_answer, put_after, find_of}
 use Rattle.records_history.specs.History.{Offer}
 use Rattle.message.specs.Message.{Record, Message, message_of}
 use Rattle.message.specs.View.{reading_of, fields_of}
 use Rattle.message.specs.declared.Fields.{Fields}
-use Rattle.message.specs.declared.Reading.{Reading}
-use Rattle.message.specs.declared.Reading.TheVariants as reading
 use Rattle.lookup.specs.Value.{Lookup, Step}
 use Rattle.lookup.specs.Lookup.{next_of}
-use Rattle.stream.specs.declared.Ending.{Ending}
 use Rattle.stream.specs.declared.Framing.{Framing}
-use Rattle.stream.specs.declared.Answer as stream
-use Rattle.stream.specs.declared.Answer.TheVariants as framed
 use Rattle.stream.specs.Stream.{fresh, receive_of as framed_of}
 use Rattle.cutting.specs.Frames.{Event, message, refused as broken}
 use Rattle.cutting.specs.World.{Did, Line, Called, Layer, set_at}
@@ -35,39 +25,39 @@ use Rattle.replies.specs.Lent.{Lent}
 use Rattle.message.specs.Kinds.{put_value}
 use Rattle.answer_promises.specs.Promises.{Roomed}
 use Rattle.connections.specs.declared.Conn.{Conn}
-use Rattle.connections.specs.declared.Told.{Told}
 use Rattle.host_calls.specs.declared.Nearby.{Nearby}
-use Rattle.node.specs.declared.Sight.{Sight}
 use Rattle.node.specs.declared.Answer.{Answer}
-use Rattle.node.specs.declared.Answer.TheVariants.{Reply, Heard, Refused, More}
+use Rattle.node.specs.declared.Answer.TheVariants.{Reply, Heard, More}
 use Rattle.connections.specs.Box.{own_fits, open_of, end_conn}
 use Rattle.node.specs.Node.{Link, linked, Dealing, dealing_of, receive_of}
 use Rattle.host_calls.specs.Hosts.{seen_of, seen_after, settle_of, settle_after, remove_of, remove_after, doubt_of, doubt_after, nearest_to, lookup_start, lookup_reply, lookup_failure}
+use Rattle.std.specs.Prelude.{Ok, Err, Some, None, Result, Option, ⊤}
+use Rattle.records.specs.declared.Held.{Held}
 
 -- ---- what there is to see
 -- what came of an event on a connection: the reply's bytes and the sighting beside it; a message for the host, and its view; a refusal; an end
 pub data Outcome : Type 0 where
-  replied : List ℕ → Sight → Outcome
+  replied : List ℕ → Option (Result Sighting Refusal) → Outcome
   heard : List ℕ → Fields → Outcome
   refused : Refusal → Outcome
-  ended : Ending → Outcome
+  ended : Result ⊤ Refusal → Outcome
 
 -- what came of another call
-pub data Result : Type 0 where
-  put_gave : stored.Answer → Result
-  find_gave : sought.Found → Result
-  seen_gave : Sighting → Result
-  settle_gave : Settled → Result
-  remove_gave : Removed → Result
-  doubt_gave : Doubted → Result
-  nearest_gave : Nearby → Result
-  step_gave : Step → Result
+pub data Gave : Type 0 where
+  put_gave : Result ⊤ Refusal → Gave
+  find_gave : Result (Option Held) Refusal → Gave
+  seen_gave : Result Sighting Refusal → Gave
+  settle_gave : Result Settled Refusal → Gave
+  remove_gave : Result ⊤ Refusal → Gave
+  doubt_gave : Result ⊤ Refusal → Gave
+  nearest_gave : Nearby → Gave
+  step_gave : Step → Gave
 
 -- a line of the log: connection i, after so many of its bytes; connection i opened; another call
 pub data Entry : Type 0 where
   event : ℕ → ℕ → Outcome → Entry
-  opened : ℕ → Told → Entry
-  called : Result → Entry
+  opened : ℕ → Result ⊤ Refusal → Entry
+  called : Gave → Entry
 
 -- ---- what the connections share: lent memory, lookups by number, for each connection the last message that went to the host, the log, and every record
 -- offered to the store, typed or sent
@@ -116,38 +106,38 @@ link_of l = linked (conn_of l.who l.framing) l.buffer
 abbrev pub who_in : Conn → Who
 who_in c = record { peer = c.peer; server = c.server; asking = c.asking }
 
-abbrev pub is_refused : Answer → Bool
-is_refused (Reply n) = false
-is_refused (Heard n f) = false
-is_refused (Refused r) = true
-is_refused More = false
+abbrev pub is_refused : Result Answer Refusal → Bool
+is_refused (Ok (Reply n)) = false
+is_refused (Ok (Heard n f)) = false
+is_refused (Err r) = true
+is_refused (Ok More) = false
 
-abbrev pub is_more : Answer → Bool
-is_more (Reply n) = false
-is_more (Heard n f) = false
-is_more (Refused r) = false
-is_more More = true
+abbrev pub is_more : Result Answer Refusal → Bool
+is_more (Ok (Reply n)) = false
+is_more (Ok (Heard n f)) = false
+is_more (Err r) = false
+is_more (Ok More) = true
 
 -- the record that a request offers to the store
-abbrev pub offer_by : Reading → Message → Option Record → List Offer
-offer_by (reading.Refused r) m h = []
-offer_by (reading.Whole f) m none = []
-offer_by (reading.Whole f) m (some r) =
+abbrev pub offer_by : Result Fields Refusal → Message → Option Record → List Offer
+offer_by (Err r) m h = []
+offer_by (Ok f) m None = []
+offer_by (Ok f) m (Some r) =
     cond (eqb m.kind put_value) (cond (same r.key m.key) (record { key = m.key; value = r.value } ∷ []) []) []
 
 abbrev pub offer_in : Who → List ℕ → List Offer
 offer_in w body = cond w.asking [] (offer_by (reading_of body) (message_of body) (message_of body).held)
 
 -- the message that is whole at the receive buffer's start, if that is what the framing answers, and what it offers
-abbrev pub body_in : stream.Answer → List ℕ → List ℕ
-body_in (framed.Message n) m = take n m
-body_in (framed.Refused r) m = []
-body_in framed.More m = []
+abbrev pub body_in : Result (Option ℕ) Refusal → List ℕ → List ℕ
+body_in (Ok (Some n)) m = take n m
+body_in (Err r) m = []
+body_in (Ok None) m = []
 
-abbrev pub offers_in : Who → stream.Answer → List ℕ → List Offer
-offers_in w (framed.Message n) m = offer_in w (take n m)
-offers_in w (framed.Refused r) m = []
-offers_in w framed.More m = []
+abbrev pub offers_in : Who → Result (Option ℕ) Refusal → List ℕ → List Offer
+offers_in w (Ok (Some n)) m = offer_in w (take n m)
+offers_in w (Err r) m = []
+offers_in w (Ok None) m = []
 
 -- ---- what a host may call, beside handing pieces over
 -- opening a connection, with a receive buffer of its own, and ending it
@@ -176,11 +166,11 @@ pub data Ask : Type 0 where
   failure : (j : ℕ) → (id : List ℕ) → Ask
 
 -- ---- what an answer leaves: lent memory, and what there is to see of it. `body` is the message that it answers
-abbrev pub noted : ℕ → ℕ → Answer → Sight → List ℕ → Lent → List Offer → Box → Box
-noted i at (Reply n) s body l os a = logged (with_offers (with_lent a l) os) (event i at (replied (take n l.reply) s))
-noted i at (Heard n f) s body l os a = logged (with_message (with_offers (with_lent a l) os) i body) (event i at (heard body f))
-noted i at (Refused r) s body l os a = logged (with_offers (with_lent a l) os) (event i at (refused r))
-noted i at More s body l os a = with_offers (with_lent a l) os
+abbrev pub noted : ℕ → ℕ → Result Answer Refusal → Option (Result Sighting Refusal) → List ℕ → Lent → List Offer → Box → Box
+noted i at (Ok (Reply n)) s body l os a = logged (with_offers (with_lent a l) os) (event i at (replied (take n l.reply) s))
+noted i at (Ok (Heard n f)) s body l os a = logged (with_message (with_offers (with_lent a l) os) i body) (event i at (heard body f))
+noted i at (Err r) s body l os a = logged (with_offers (with_lent a l) os) (event i at (refused r))
+noted i at (Ok More) s body l os a = with_offers (with_lent a l) os
 
 module _ (me : Peer) where
   -- ---- the plain reading's side: what a whole message on connection i, or a broken prefix, does

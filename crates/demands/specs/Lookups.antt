@@ -1,7 +1,6 @@
 -- Lookups go by number, and the calls on one are mixed with all others. What happened to one of them is read off the calls as they are made: it is a run of
 -- its last start and the calls on it since, so what `lookup_runs` claims of such runs holds of every lookup of every world. Proved in proofs/Traced.antt.
 use Rattle.std.specs.Prelude.{ℕ, ◌≡◌, true, cond, List, [], ◌∷◌, ◌++◌, map, length, drop, eqb}
-use Rattle.std.proofs.Math.Option.{Option, none, some}
 use Rattle.octets.specs.Octets.{Bytes}
 use Rattle.peer.specs.declared.Peer.{Peer}
 use Rattle.message.specs.View.{fields_of}
@@ -12,6 +11,7 @@ use Rattle.lookup_runs.specs.Claims.{Claims}
 use Rattle.cutting.specs.World.{World, Call, hand, does, asks, call, calls}
 use Rattle.host_calls.specs.Hosts.{own_id, lookup_start}
 use Rattle.demands.specs.Box.{Box, Who, Entry, step_gave, called, Turn, Ask, put, find, seen, settle, remove, doubt, nearest, start, next, reply, reply_from, failure, box}
+use Rattle.std.specs.Prelude.{Some, None, Option}
 
 -- ---- what happened to a lookup: the contacts at its last start, with which key and limit that was, the calls on it since, and what was told of the start and
 -- of each call. E is what can be told: an entry of the log, or what a program sees
@@ -30,10 +30,10 @@ pub data Part : Type 0 where
 
 -- the trace after it, if the contacts were t before it and es is what it told. There is none before the first start
 abbrev pub trace_with : {E : Type 0} → List ℕ → List E → Part → Option (Trace E) → Option (Trace E)
-trace_with t es (starts key limit) x = some (record { table = t; key = key; limit = limit; calls = []; told = es })
-trace_with t es (goes c) none = none
-trace_with t es (goes c) (some x) =
-    some (record { table = x.table; key = x.key; limit = x.limit; calls = x.calls ++ (c ∷ []); told = x.told ++ es })
+trace_with t es (starts key limit) x = Some (record { table = t; key = key; limit = limit; calls = []; told = es })
+trace_with t es (goes c) None = None
+trace_with t es (goes c) (Some x) =
+    Some (record { table = x.table; key = x.key; limit = x.limit; calls = x.calls ++ (c ∷ []); told = x.told ++ es })
 trace_with t es neither x = x
 
 -- what the log got between two worlds of a run
@@ -82,10 +82,10 @@ pub record IsRun {E : Type 0} (me : Peer) (tells : Step → E) (x : Trace E) (l 
 
 pub record LookupsAreRuns (me : Peer) : Type 0 where
   -- whatever the world, and whatever is called on it: once started, lookup j is the run of its own start and calls, and the log tells of each what it gave
-  pub runs : (s : World Who Box Ask) (cs : List (Call Turn Ask)) (j : ℕ) (x : Trace Entry) → traced me j s none cs ≡ some x
+  pub runs : (s : World Who Box Ask) (cs : List (Call Turn Ask)) (j : ℕ) (x : Trace Entry) → traced me j s None cs ≡ Some x
       → IsRun me (λ g. called (step_gave g)) x ((calls (box me) s cs).shared.state.lookups j)
   -- a lookup that was started has a trace, whatever came before and after
   pub begins : (s : World Who Box Ask) (before after : List (Call Turn Ask)) (j : ℕ) (key : List ℕ) (limit : ℕ)
-      → (x : Trace Entry) × (traced me j s none (before ++ (asks (start j key limit) ∷ after)) ≡ some x)
+      → (x : Trace Entry) × (traced me j s None (before ++ (asks (start j key limit) ∷ after)) ≡ Some x)
   -- and what the log has told it keeps
   pub grows : (s : World Who Box Ask) (cs : List (Call Turn Ask)) → (calls (box me) s cs).shared.state.log ≡ s.shared.state.log ++ log_since s (calls (box me) s cs)

@@ -15,7 +15,6 @@ use Rattle.message.specs.Message.{frame}
 use Rattle.stream.specs.declared.Prefixed.{Prefixed}
 use Rattle.stream.specs.declared.Framing.{Framing}
 use Rattle.stream.specs.declared.Framing.TheVariants.{Shut}
-use Rattle.stream.specs.declared.Answer.TheVariants.{Message}
 use Rattle.stream.specs.Stream.{fresh, is_shut, Out, out, run_of}
 use Rattle.cutting.specs.Frames.{message, partly, whole, head_by, head_of, framing_of, half_of}
 use Rattle.cutting.specs.World.{Did, here, put_back, Line, Shared, World, Layer, joined, handed, handed_all, call, calls, Sound, Ready}
@@ -25,6 +24,7 @@ use Rattle.cutting.proofs.World.{Well, lands, play, play-all, handed-all}
 use Rattle.framing_back.specs.Claims.{ReadWhole, FramesReadBack, hands, Arrives, FramesArrive, Claims}
 use Rattle.framing_back.proofs.Prefix.{prefix_back}
 use Rattle.framing_back.proofs.Varints.{prefix-is-varint}
+use Rattle.std.specs.Prelude.{Ok, Some}
 
 -- ---- at the start of any bytes
 module _ (body rest : List ℕ) (h : length body ≤ most_body) where
@@ -77,16 +77,16 @@ module _ {P A B O : Type 0} (L : Layer P A B O) where
   module _ {Peer : P → Type 0} {Good : A → Type 0} {Fits : B → Type 0} (S : Sound L Peer Good Fits) where
     -- the message whole, and nothing after it
     played : (i : ℕ) (d : Here) (body : List ℕ) → Well L S d → d.line.framing ≡ fresh → (h : length body ≤ most_body)
-        → (b : List ℕ) × (take (length body) b ≡ body) × (play L i d (frame body) ≡ lands L i d (out fresh (length (frame body)) (Message (length body)) b))
+        → (b : List ℕ) × (take (length body) b ≡ body) × (play L i d (frame body) ≡ lands L i d (out fresh (length (frame body)) (Ok (Some (length body))) b))
     played i d body w f h =
         let z : frame body ++ [] ≡ frame body = append-nil (frame body) in
         let r = read_whole body [] h in
         let e : head_of (frame body) ≡ whole r.prefix (length body) = ap (λ (bs : List ℕ). head_of bs) (sym z) ∙ r.head in
         let g : RanWhole d.line.buffer (frame body) r.prefix (length body) =
         subst (Ran d.line.buffer (frame body) (framing_of (frame body)) (half_of (frame body))) e (head-run d.line.buffer (frame body) w.line.room) in
-        let o : Out = out fresh (length (frame body)) (Message (length body)) g.buffer in
+        let o : Out = out fresh (length (frame body)) (Ok (Some (length body))) g.buffer in
         let ran : run_of d.line.framing d.line.buffer (frame body) ≡ o =
-        ap (λ (x : Framing). run_of x d.line.buffer (frame body)) f ∙ g.runs ∙ ap (λ (n : ℕ). out fresh n (Message (length body)) g.buffer) r.size in (
+        ap (λ (x : Framing). run_of x d.line.buffer (frame body)) f ∙ g.runs ∙ ap (λ (n : ℕ). out fresh n (Ok (Some (length body))) g.buffer) r.size in (
           g.buffer,
           g.body ∙ ap (λ (bs : List ℕ). take (length body) (drop r.prefix bs)) (sym z) ∙ r.bytes,
           play-all L (frame body) i d o (ap is_shut f) ran (omega arith),
@@ -98,7 +98,7 @@ module _ {P A B O : Type 0} (L : Layer P A B O) where
         let w : Well L S (here s i) = record { line = r.lines i; good = r.good } in
         let p = played i (here s i) body w f h in
         let at : ℕ = (s.lines i).taken + length (frame body) in
-        let g : Here = lands L i (here s i) (out fresh (length (frame body)) (Message (length body)) p.0) in
+        let g : Here = lands L i (here s i) (out fresh (length (frame body)) (Ok (Some (length body))) p.0) in
         let q : calls L s (hands i ps) ≡ put_back s i g =
         calls-hands ps i s ∙ ap (put_back s i) (handed-all L S ps i (here s i) w ∙ ap (play L i (here s i)) e ∙ p.2) in
         let y : Arrives L i body s (put_back s i g) =

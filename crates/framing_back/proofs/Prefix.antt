@@ -18,48 +18,50 @@ use Rattle.stream.specs.declared.Lead.TheVariants.{On, Length}
 use Rattle.stream.specs.declared.Prefixed.{Prefixed}
 use Rattle.stream.specs.Stream as stream
 use Rattle.stream.specs.Stream.{limited, prefix_step, prefixed, onward, prefix_of}
+use Rattle.std.specs.Prelude.{Ok, Result}
+use Rattle.refusal.specs.declared.Refusal.{Refusal}
 
 -- ---- one byte of a prefix
-pub within : (n : ℕ) → n ≤ most_body → limited n ≡ Length n
+pub within : (n : ℕ) → n ≤ most_body → limited n ≡ Ok (Length n)
 unfolding limited
 within n h = rw (le-ltb most_body n h)
 
-closes : (z n : ℕ) → 0 < z → n ≤ most_body → stream.minimal z n ≡ Length n
+closes : (z n : ℕ) → 0 < z → n ≤ most_body → stream.minimal z n ≡ Ok (Length n)
 unfolding stream.minimal
 closes z n p h = let q : z ≡ 0 → ⊥ = λ e. omega arith in rw (ne_eqb z 0 q) (within n h)
 
-pub first-last : (z : ℕ) → z < 128 → prefix_step Nothing z ≡ Length z
+pub first-last : (z : ℕ) → z < 128 → prefix_step Nothing z ≡ Ok (Length z)
 unfolding prefix_step
 first-last z h = rw (lt-ltb z 128 h) (within z (omega arith))
 
-pub first_on : (a : ℕ) → 128 ≤ a → prefix_step Nothing a ≡ On (One a)
+pub first_on : (a : ℕ) → 128 ≤ a → prefix_step Nothing a ≡ Ok (On (One a))
 unfolding prefix_step
 first_on a h = rw (le-ltb a 128 h)
 
-pub second-last : (a z n : ℕ) → 0 < z → z < 128 → n ≤ most_body → a % 128 + z * 128 ≡ n → prefix_step (One a) z ≡ Length n
+pub second-last : (a z n : ℕ) → 0 < z → z < 128 → n ≤ most_body → a % 128 + z * 128 ≡ n → prefix_step (One a) z ≡ Ok (Length n)
 unfolding prefix_step
 second-last a z n p h l e = rw (lt-ltb z 128 h, e) (closes z n p l)
 
-pub second-on : (a b : ℕ) → 128 ≤ b → prefix_step (One a) b ≡ On (Two a b)
+pub second-on : (a b : ℕ) → 128 ≤ b → prefix_step (One a) b ≡ Ok (On (Two a b))
 unfolding prefix_step
 second-on a b h = rw (le-ltb b 128 h)
 
-pub third_last : (a b z n : ℕ) → 0 < z → z < 128 → n ≤ most_body → a % 128 + b % 128 * 128 + z * 16384 ≡ n → prefix_step (Two a b) z ≡ Length n
+pub third_last : (a b z n : ℕ) → 0 < z → z < 128 → n ≤ most_body → a % 128 + b % 128 * 128 + z * 16384 ≡ n → prefix_step (Two a b) z ≡ Ok (Length n)
 unfolding prefix_step
 third_last a b z n p h l e = rw (lt-ltb z 128 h, e) (closes z n p l)
 
 -- ---- the bytes one after the other
-ends-here : (h : Held) (z n : ℕ) (rest : List ℕ) → prefix_step h z ≡ Length n → prefix_of h (z ∷ rest) ≡ prefixed 1 (Length n)
+ends-here : (h : Held) (z n : ℕ) (rest : List ℕ) → prefix_step h z ≡ Ok (Length n) → prefix_of h (z ∷ rest) ≡ prefixed 1 (Ok (Length n))
 unfolding prefix_of
-ends-here h z n rest e = ap (λ (l : Lead). onward l (λ k. prefix_of k rest)) e
+ends-here h z n rest e = ap (λ (l : Result Lead Refusal). onward l (λ k. prefix_of k rest)) e
 
-goes_on : (h k : Held) (a m n : ℕ) (rest : List ℕ) → prefix_step h a ≡ On k → prefix_of k rest ≡ prefixed m (Length n) → prefix_of h (a ∷ rest) ≡ prefixed (1 + m) (Length n)
+goes_on : (h k : Held) (a m n : ℕ) (rest : List ℕ) → prefix_step h a ≡ Ok (On k) → prefix_of k rest ≡ prefixed m (Ok (Length n)) → prefix_of h (a ∷ rest) ≡ prefixed (1 + m) (Ok (Length n))
 unfolding prefix_of
-goes_on h k a m n rest e r = ap (λ (l : Lead). onward l (λ j. prefix_of j rest)) e ∙ ap (λ (p : Prefixed). prefixed (1 + p.taken) p.lead) r
+goes_on h k a m n rest e r = ap (λ (l : Result Lead Refusal). onward l (λ j. prefix_of j rest)) e ∙ ap (λ (p : Prefixed). prefixed (1 + p.taken) p.lead) r
 
 -- a prefix is read as the length that was written, and takes the bytes that were
 abbrev Reads : Held → ℕ → List ℕ → List ℕ → Type 0
-Reads h n p rest = prefix_of h (p ++ rest) ≡ prefixed (length p) (Length n)
+Reads h n p rest = prefix_of h (p ++ rest) ≡ prefixed (length p) (Ok (Length n))
 
 pub prefix_back : (n : ℕ) (rest : List ℕ) → n ≤ most_body → Reads Nothing n (minimal n) rest
 unfolding minimal

@@ -6,17 +6,16 @@ use Rattle.limits.specs.Limits.{most_body}
 use Rattle.refusal.specs.declared.Refusal.TheVariants.{PrefixNotMinimal, TooLong}
 use Rattle.wire.specs.Wire.{varint, varint_at}
 use Rattle.wire.specs.Items.{minimal}
-use Rattle.wire.specs.declared.Varint.{Varint}
-use Rattle.wire.specs.declared.Varint.TheVariants.{Value, Bad as NoVarint}
 use Rattle.message.specs.Message.{frame}
 use Rattle.stream.specs.declared.Framing.TheVariants.{Shut}
 use Rattle.stream.specs.declared.Held.{Held}
 use Rattle.stream.specs.declared.Held.TheVariants.{Nothing, One, Two}
-use Rattle.stream.specs.declared.Lead.TheVariants.{On, Length, Bad}
+use Rattle.stream.specs.declared.Lead.TheVariants.{On, Length}
 use Rattle.stream.specs.declared.Prefixed.{Prefixed}
 use Rattle.stream.specs.Stream.{fresh, prefixed}
 use Rattle.cutting.specs.Frames.{message, whole, prefix_at, head_of}
 use Rattle.cutting.specs.World.{happened, World, Layer, Call, hand, joined, calls, Sound, Ready}
+use Rattle.std.specs.Prelude.{Ok, Err, Some, None, Option}
 
 -- ---- 1. A prefix is a varint of the wire format, the minimal one of its value, and none other is taken
 
@@ -27,18 +26,18 @@ begun (a ∷ []) = One a
 begun (a ∷ b ∷ bs) = Two a b
 
 -- what RULES, Stream, calls for at the start of bs, by the varint that the wire format reads in its first three bytes: one of k bytes with the value n, or none
-abbrev pub called_for : List ℕ → Varint → Prefixed
+abbrev pub called_for : List ℕ → Option (ℕ × ℕ) → Prefixed
 -- "At the closing prefix byte: a zero byte that isn't the first gives 3", as the bytes aren't the minimal varint of n; "a value over 16,384 gives 4"
-called_for bs (Value n k) = prefixed k (cond (same (take k bs) (minimal n)) (cond (leb n most_body) (Length n) (Bad TooLong)) (Bad PrefixNotMinimal))
+called_for bs (Some (n, k)) = prefixed k (cond (same (take k bs) (minimal n)) (cond (leb n most_body) (Ok (Length n)) (Err TooLong)) (Err PrefixNotMinimal))
 -- fewer bytes, each with its top bit set: it goes on. "A set top bit in the third prefix byte gives 4"
-called_for bs NoVarint = cond (ltb (length bs) 3) (prefixed (length bs) (On (begun bs))) (prefixed 3 (Bad TooLong))
+called_for bs None = cond (ltb (length bs) 3) (prefixed (length bs) (Ok (On (begun bs)))) (prefixed 3 (Err TooLong))
 
 pub record PrefixIsVarint : Type 0 where
   pub read : (bs : List ℕ) → Bytes bs → prefix_at bs ≡ called_for bs (varint 3 bs)
   -- so a length n that is taken after k bytes is one up to 16,384, these bytes are its minimal varint, and the wire format reads them so
-  pub taken : (bs : List ℕ) → Bytes bs → (n k : ℕ) → prefix_at bs ≡ prefixed k (Length n) → (n ≤ most_body) × (take k bs ≡ minimal n) × (varint_at bs 0 ≡ Value n k)
+  pub taken : (bs : List ℕ) → Bytes bs → (n k : ℕ) → prefix_at bs ≡ prefixed k (Ok (Length n)) → (n ≤ most_body) × (take k bs ≡ minimal n) × (varint_at bs 0 ≡ Some (n, k))
   -- and the minimal varint of each such length is taken, whatever follows
-  pub every : (n : ℕ) (rest : List ℕ) → n ≤ most_body → prefix_at (minimal n ++ rest) ≡ prefixed (length (minimal n)) (Length n)
+  pub every : (n : ℕ) (rest : List ℕ) → n ≤ most_body → prefix_at (minimal n ++ rest) ≡ prefixed (length (minimal n)) (Ok (Length n))
 
 -- ---- 2. A body that is written with its prefix stands at the start of any bytes as a whole message, with its own bytes and no byte more
 pub record ReadWhole (body rest : List ℕ) : Type 0 where

@@ -10,9 +10,6 @@ use Rattle.octets.proofs.Bools.{cond_yes, cond_no}
 use Rattle.peer.specs.declared.Peer.{Peer}
 use Rattle.sightings.specs.declared.Sighting.{Sighting}
 use Rattle.sightings.specs.declared.Settled.{Settled}
-use Rattle.sightings.specs.declared.Removed.{Removed}
-use Rattle.sightings.specs.declared.Doubted.{Doubted}
-use Rattle.writer.specs.declared.Written.{Written}
 use Rattle.writer.specs.Writer.{message_with, answer_of, out_after}
 use Rattle.connections.specs.declared.Conn.{Conn}
 use Rattle.connections.specs.declared.Started.{Started}
@@ -27,6 +24,8 @@ use Rattle.contact_calls.specs.Calls.{seen_number, settle_number, remove_number,
 use Rattle.host_answers.specs.Answers.{seen_numbers, nearest_numbers, write_number, write_numbers}
 use Rattle.host_state.specs.State.{box_after, ending_code, ended_memory}
 use Rattle.host.specs.Host.{lent, lent_both, start_code, start_memory, open_for, open_code, open_memory, end_code, end_memory, seen_code, seen_contacts, seen_out, settle_code, settle_contacts, remove_code, remove_contacts, doubt_code, doubt_contacts, nearest_code, nearest_out}
+use Rattle.std.specs.Prelude.{Result, ⊤}
+use Rattle.refusal.specs.declared.Refusal.{Refusal}
 
 -- ---- memory of enough bytes
 module _ {A : Type 0} (n : ℕ) (s : List ℕ) (x y : A) where
@@ -110,7 +109,7 @@ module _ (me t id : List ℕ) (client : ℕ) (addresses out : List ℕ) where
       → (0 ≡ seen_code me t id client addresses) × (t ≡ seen_contacts me t id client addresses) × (out ≡ seen_out me t id client addresses out)
   seen-short l = (lent-short peer_size me 0 _ l, lent-short peer_size me t _ l, lent-short peer_size me out _ l)
 
-  pub seen_done : (n : ℕ) (new wrote : List ℕ) (p : Peer) (b : Bool) (o : Sighting) → peer_size ≤ length me → p ≡ peer_in me → b ≡ says_yes client
+  pub seen_done : (n : ℕ) (new wrote : List ℕ) (p : Peer) (b : Bool) (o : Result Sighting Refusal) → peer_size ≤ length me → p ≡ peer_in me → b ≡ says_yes client
       → (o ≡ seen_of p t id b addresses) × (new ≡ seen_after p t id b addresses) → (n ≡ seen_number o) × (wrote ≡ seen_numbers out o)
       → (n ≡ seen_code me t id client addresses) × (new ≡ seen_contacts me t id client addresses) × (wrote ≡ seen_out me t id client addresses out)
   seen_done n new wrote p b o l ep eb h a =
@@ -126,7 +125,7 @@ module _ (me t head id : List ℕ) (client : ℕ) (addresses : List ℕ) (answer
       → (0 ≡ settle_code me t head id client addresses answered) × (t ≡ settle_contacts me t head id client addresses answered)
   settle-short l = (lent-short peer_size me 0 _ l, lent-short peer_size me t _ l)
 
-  pub settle-done : (n : ℕ) (new : List ℕ) (p : Peer) (b a : Bool) (o : Settled) → peer_size ≤ length me → p ≡ peer_in me → b ≡ says_yes client
+  pub settle-done : (n : ℕ) (new : List ℕ) (p : Peer) (b a : Bool) (o : Result Settled Refusal) → peer_size ≤ length me → p ≡ peer_in me → b ≡ says_yes client
       → a ≡ says_yes answered → (o ≡ settle_of p t head id b addresses a) × (new ≡ settle_after p t head id b addresses a) → n ≡ settle_number o
       → (n ≡ settle_code me t head id client addresses answered) × (new ≡ settle_contacts me t head id client addresses answered)
   settle-done n new p b a o l ep eb ea h hn = (
@@ -146,7 +145,7 @@ module _ (me t id : List ℕ) where
   pub remove-short : length me < peer_size → (0 ≡ remove_code me t id) × (t ≡ remove_contacts me t id)
   remove-short l = (lent-short peer_size me 0 _ l, lent-short peer_size me t _ l)
 
-  pub remove-done : (n : ℕ) (new : List ℕ) (p : Peer) (o : Removed) → peer_size ≤ length me → p ≡ peer_in me
+  pub remove-done : (n : ℕ) (new : List ℕ) (p : Peer) (o : Result ⊤ Refusal) → peer_size ≤ length me → p ≡ peer_in me
       → (o ≡ remove_of p t id) × (new ≡ remove_after p t id) → n ≡ remove_number o → (n ≡ remove_code me t id) × (new ≡ remove_contacts me t id)
   remove-done n new p o l ep h hn = (
     hn ∙ ap remove_number (h.0 ∙ ap (λ (x : Peer). remove_of x t id) ep) ∙ lent-enough peer_size me 0 (remove_number (remove_of (peer_in me) t id)) l,
@@ -157,7 +156,7 @@ module _ (me t id : List ℕ) where
   pub doubt-short : length me < peer_size → (0 ≡ doubt_code me t id) × (t ≡ doubt_contacts me t id)
   doubt-short l = (lent-short peer_size me 0 _ l, lent-short peer_size me t _ l)
 
-  pub doubt-done : (n : ℕ) (new : List ℕ) (p : Peer) (o : Doubted) → peer_size ≤ length me → p ≡ peer_in me
+  pub doubt-done : (n : ℕ) (new : List ℕ) (p : Peer) (o : Result ⊤ Refusal) → peer_size ≤ length me → p ≡ peer_in me
       → (o ≡ doubt_of p t id) × (new ≡ doubt_after p t id) → n ≡ doubt_number o → (n ≡ doubt_code me t id) × (new ≡ doubt_contacts me t id)
   doubt-done n new p o l ep h hn = (
     hn ∙ ap doubt_number (h.0 ∙ ap (λ (x : Peer). doubt_of x t id) ep) ∙ lent-enough peer_size me 0 (doubt_number (doubt_of (peer_in me) t id)) l,
@@ -178,7 +177,7 @@ module _ (me t key out : List ℕ) where
 
 -- ---- messages
 module _ (message : List ℕ) (kind : ℕ) (key : List ℕ) (held : ℕ) (rkey value closer providers out : List ℕ) where
-  pub write_done : (n : ℕ) (new wrote : List ℕ) (b : Bool) (w : Written) → b ≡ says_yes held
+  pub write_done : (n : ℕ) (new wrote : List ℕ) (b : Bool) (w : Result ℕ Refusal) → b ≡ says_yes held
       → (w ≡ answer_of message (message_with kind key b rkey value closer providers))
       × (new ≡ out_after message (message_with kind key b rkey value closer providers))
       → (n ≡ write_number w) × (wrote ≡ write_numbers out w)

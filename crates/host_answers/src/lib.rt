@@ -8,68 +8,66 @@ ghost use Rattle.std.proofs.lemmas.List.Edits.{sets};
 ghost use Rattle.host_answers.specs.Answers.{fault_numbers, spans_number, spans_numbers, setpoints_number, recipe_number, recipe_numbers};
 ghost use Rattle.host_answers.specs.Answers.{entry_from, later_of, address_from, part_number, peer_numbers, address_numbers, write_number, write_numbers};
 
-use contact_calls::{Doubted, Removed, Settled, Sighting};
+use contact_calls::{Settled, Sighting};
 use host_calls::Nearby;
-use message::Reading;
-use node::Told;
-use recipe::Verdict;
+use message::Fields;
+use recipe::Breach;
 use recipe_fields::Spans;
-use records::Found;
+use records::Held;
 use refusal::Refusal;
 use wire::Span;
-use writer::Written;
 
 // ---- contacts
 
 // 64 moved, 65 joined, 13 with the head of the bucket, or another refusal; the slot goes to out.
-pub fn seen_answer(out: &mut [u64], o: Sighting) -> u32
+pub fn seen_answer(out: &mut [u64], o: Result<Sighting, Refusal>) -> u32
     ensures { (result ≡ seen_number o) × (out.new ≡ seen_numbers out.old o) }
 {
     match o {
-        Sighting::Moved(i) => {
+        Ok(Sighting::Moved(i)) => {
             host_numbers::put_number(out, i);
             64
         }
-        Sighting::Joined(i) => {
+        Ok(Sighting::Joined(i)) => {
             host_numbers::put_number(out, i);
             65
         }
-        Sighting::Probe(h) => {
+        Ok(Sighting::Probe(h)) => {
             host_numbers::put_number(out, h);
             host_numbers::code_of(Refusal::BucketFull)
         }
-        Sighting::Refused(r) => host_numbers::code_of(r),
+        Err(r) => host_numbers::code_of(r),
     }
 }
 
 // 64 the head is kept, 65 the two are swapped, or a refusal.
-pub fn settle_answer(o: Settled) -> u32
+pub fn settle_answer(o: Result<Settled, Refusal>) -> u32
     ensures { result ≡ settle_number o }
 {
     match o {
-        Settled::Kept => 64,
-        Settled::Swapped => 65,
-        Settled::Refused(r) => host_numbers::code_of(r),
+        Ok(Settled::Kept) => 64,
+        Ok(Settled::Swapped) => 65,
+        Err(r) => host_numbers::code_of(r),
     }
 }
 
 // 64 gone, or a refusal.
-pub fn remove_answer(o: Removed) -> u32
+pub fn remove_answer(o: Result<(), Refusal>) -> u32
     ensures { result ≡ remove_number o }
 {
     match o {
-        Removed::Gone => 64,
-        Removed::Refused(r) => host_numbers::code_of(r),
+        Ok(()) => 64,
+        Err(r) => host_numbers::code_of(r),
     }
 }
 
 // 64 marked, or a refusal.
-pub fn doubt_answer(o: Doubted) -> u32
+pub fn doubt_answer(o: Result<(), Refusal>) -> u32
     ensures { result ≡ doubt_number o }
 {
     match o {
-        Doubted::Marked => 64,
-        Doubted::Refused(r) => host_numbers::code_of(r),
+        Ok(()) => 64,
+        Err(r) => host_numbers::code_of(r),
     }
 }
 
@@ -81,85 +79,76 @@ pub fn nearest_answer(out: &mut [u64], n: Nearby) -> u32
     let closest = n.closest;
     let at = closest.at;
     match told {
-        Told::Fine => {
+        Ok(()) => {
             host_numbers::put_number(out, closest.n);
             host_numbers::put_numbers(out, 1, &at);
             64
         }
-        Told::Refused(r) => host_numbers::code_of(r),
+        Err(r) => host_numbers::code_of(r),
     }
 }
 
 // ---- records
 
 // 64 taken, or a refusal.
-pub fn put_answer(a: records::Answer) -> u32
+pub fn put_answer(a: Result<(), Refusal>) -> u32
     ensures { result ≡ put_number a }
 {
     match a {
-        records::Answer::Taken => 64,
-        records::Answer::Refused(r) => host_numbers::code_of(r),
+        Ok(()) => 64,
+        Err(r) => host_numbers::code_of(r),
     }
 }
 
 // 64 held, and where it starts and ends goes to out; 65 not held; or a refusal.
-pub fn find_answer(out: &mut [u64], f: Found) -> u32
+pub fn find_answer(out: &mut [u64], f: Result<Option<Held>, Refusal>) -> u32
     ensures { (result ≡ find_number f) × (out.new ≡ find_numbers out.old f) }
 {
     match f {
-        Found::Held { start, end } => {
-            let ends = [start, end];
+        Ok(Some(held)) => {
+            let ends = [held.start, held.end];
             host_numbers::put_numbers(out, 0, &ends);
             64
         }
-        Found::NotHeld => 65,
-        Found::Refused(r) => host_numbers::code_of(r),
+        Ok(None) => 65,
+        Err(r) => host_numbers::code_of(r),
     }
 }
 
 // ---- recipes
 
 // 9, and which rule is broken, in which part and at which setpoint goes to out.
-fn broken_recipe(out: &mut [u64], w: Verdict) -> u32
+fn broken_recipe(out: &mut [u64], w: Breach) -> u32
     ensures { (result ≡ 9) × (out.new ≡ sets out.old 0 (fault_numbers w)) }
 {
-    match w {
-        Verdict::Good => host_numbers::code_of(Refusal::BrokenRecipe),
-        Verdict::Broken {
-            rule,
-            part,
-            setpoint,
-        } => {
-            let numbers = [
-                recipe::rule_number(rule),
-                recipe::part_number(part),
-                setpoint,
-            ];
-            host_numbers::put_numbers(out, 0, &numbers);
-            host_numbers::code_of(Refusal::BrokenRecipe)
-        }
-    }
+    let numbers = [
+        recipe::rule_number(w.rule),
+        recipe::part_number(w.part),
+        w.setpoint,
+    ];
+    host_numbers::put_numbers(out, 0, &numbers);
+    host_numbers::code_of(Refusal::BrokenRecipe)
 }
 
 // 64, and where the fields stand goes to out; or 9.
-pub fn recipe_read_answer(out: &mut [u64], s: Spans) -> u32
+pub fn recipe_read_answer(out: &mut [u64], s: Result<Spans, Breach>) -> u32
     ensures { (result ≡ spans_number s) × (out.new ≡ spans_numbers out.old s) }
 {
     match s {
-        Spans::Recipe {
-            format,
-            core,
-            wrap,
-            trailer,
-            cores,
-            wraps,
-            sequence,
-        } => {
-            let numbers = [format, core, wrap, trailer, cores, wraps, sequence as usize];
+        Ok(s) => {
+            let numbers = [
+                s.format,
+                s.core,
+                s.wrap,
+                s.trailer,
+                s.cores,
+                s.wraps,
+                s.sequence as usize,
+            ];
             host_numbers::put_numbers(out, 0, &numbers);
             64
         }
-        Spans::Refused(w) => broken_recipe(out, w),
+        Err(why) => broken_recipe(out, why),
     }
 }
 
@@ -174,35 +163,35 @@ pub fn setpoints_answer(is: bool) -> u32
 }
 
 // 64, and the length goes to out; or 9.
-pub fn recipe_write_answer(out: &mut [u64], w: recipe_fields::Written) -> u32
+pub fn recipe_write_answer(out: &mut [u64], w: Result<usize, Breach>) -> u32
     ensures { (result ≡ recipe_number w) × (out.new ≡ recipe_numbers out.old w) }
 {
     match w {
-        recipe_fields::Written::Length(n) => {
+        Ok(n) => {
             host_numbers::put_number(out, n);
             64
         }
-        recipe_fields::Written::Refused(why) => broken_recipe(out, why),
+        Err(why) => broken_recipe(out, why),
     }
 }
 
 // ---- messages
 
 // 64, and the view goes to out; or a refusal.
-pub fn read_answer(out: &mut [u64], r: Reading) -> u32
+pub fn read_answer(out: &mut [u64], r: Result<Fields, Refusal>) -> u32
     ensures { (result ≡ read_number r) × (out.new ≡ read_numbers out.old r) }
 {
     match r {
-        Reading::Whole(m) => {
+        Ok(m) => {
             host_numbers::put_view(out, 0, m);
             64
         }
-        Reading::Refused(why) => host_numbers::code_of(why),
+        Err(why) => host_numbers::code_of(why),
     }
 }
 
 // The next entry of a list of peers: closerPeers for list 0, providerPeers for any other number.
-pub fn next_entry(body: &[u8], list: u32, from: usize) -> wire::Found
+pub fn next_entry(body: &[u8], list: u32, from: usize) -> Option<Span>
     ensures { result ≡ entry_from body.now list from }
 {
     if host_numbers::says_yes(list) {
@@ -212,11 +201,11 @@ pub fn next_entry(body: &[u8], list: u32, from: usize) -> wire::Found
 }
 
 // 64, and to out go where the entry and its id are, its connection, how many addresses it has and where the first eight are; 65 where there is none.
-pub fn peer_answer(body: &[u8], out: &mut [u64], f: wire::Found) -> u32
+pub fn peer_answer(body: &[u8], out: &mut [u64], f: Option<Span>) -> u32
     ensures { (result ≡ part_number f) × (out.new ≡ peer_numbers out.old body.now f) }
 {
     match f {
-        wire::Found::At(p) => {
+        Some(p) => {
             let w = peer_walk::walk(body, p);
             let first = [
                 p.at,
@@ -231,7 +220,7 @@ pub fn peer_answer(body: &[u8], out: &mut [u64], f: wire::Found) -> u32
             host_numbers::put_numbers(out, first.len(), &places);
             64
         }
-        wire::Found::Nothing => 65,
+        None => 65,
     }
 }
 
@@ -246,7 +235,7 @@ fn later(a: usize, b: usize) -> usize
 }
 
 // The next address of the entry at start up to end.
-pub fn next_address(body: &[u8], start: usize, end: usize, from: usize) -> wire::Found
+pub fn next_address(body: &[u8], start: usize, end: usize, from: usize) -> Option<Span>
     ensures { result ≡ address_from body.now start end from }
 {
     let at = later(start, from);
@@ -254,28 +243,28 @@ pub fn next_address(body: &[u8], start: usize, end: usize, from: usize) -> wire:
 }
 
 // 64, and where it starts and ends goes to out; 65 where there is none.
-pub fn address_answer(out: &mut [u64], f: wire::Found) -> u32
+pub fn address_answer(out: &mut [u64], f: Option<Span>) -> u32
     ensures { (result ≡ part_number f) × (out.new ≡ address_numbers out.old f) }
 {
     match f {
-        wire::Found::At(p) => {
+        Some(p) => {
             let ends = [p.at, p.end];
             host_numbers::put_numbers(out, 0, &ends);
             64
         }
-        wire::Found::Nothing => 65,
+        None => 65,
     }
 }
 
 // 64, and the length goes to out; or a refusal.
-pub fn write_answer(out: &mut [u64], w: Written) -> u32
+pub fn write_answer(out: &mut [u64], w: Result<usize, Refusal>) -> u32
     ensures { (result ≡ write_number w) × (out.new ≡ write_numbers out.old w) }
 {
     match w {
-        Written::Done(n) => {
+        Ok(n) => {
             host_numbers::put_number(out, n);
             64
         }
-        Written::Refused(r) => host_numbers::code_of(r),
+        Err(r) => host_numbers::code_of(r),
     }
 }

@@ -16,9 +16,9 @@ use Rattle.contacts.specs.declared.Closest.{Closest}
 use Rattle.contacts.specs.Near.{nearest_of}
 use Rattle.message.specs.Kinds.{key_fits}
 use Rattle.host_calls.specs.declared.Nearby.{Nearby}
-use Rattle.connections.specs.declared.Told.TheVariants.{Fine}
 use Rattle.connections.specs.Box.{own_fits}
 use Rattle.host_calls.specs.Hosts.{none_near, nearest_to}
+use Rattle.std.specs.Prelude.{Ok}
 
 key-none : (key : List ℕ) → length key ≡ 0 → key_fits key ≡ false
 unfolding key_fits
@@ -53,9 +53,9 @@ module _ (me : Peer) (t key : List ℕ) where
       unfolding nearest_to
       near-own o = rw (a, key_fits_lem key e l, o)
 
-      found-near : own_fits me ≡ true → ◌≡◌ {A = Nearby} (record { closest = nearest_of t (place_of key); told = Fine }) (nearest_to me t key)
+      found-near : own_fits me ≡ true → ◌≡◌ {A = Nearby} (record { closest = nearest_of t (place_of key); told = (Ok tt) }) (nearest_to me t key)
       unfolding nearest_to
       found-near o = rw (a, key_fits_lem key e l, o)
 
-      pub near-found : (x : List ℕ) (n : Closest) → own_fits me ≡ true → x ≡ place_of key → n ≡ nearest_of t x → ◌≡◌ {A = Nearby} (record { closest = n; told = Fine }) (nearest_to me t key)
-      near-found x n o p q = ap (λ (z : Closest). record { closest = z; told = Fine }) (q ∙ ap (nearest_of t) p) ∙ found-near o
+      pub near-found : (x : List ℕ) (n : Closest) → own_fits me ≡ true → x ≡ place_of key → n ≡ nearest_of t x → ◌≡◌ {A = Nearby} (record { closest = n; told = (Ok tt) }) (nearest_to me t key)
+      near-found x n o p q = ap (λ (z : Closest). record { closest = z; told = (Ok tt) }) (q ∙ ap (nearest_of t) p) ∙ found-near o

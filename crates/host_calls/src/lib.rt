@@ -4,7 +4,6 @@
 ghost use Rattle.std.specs.Prelude.{◌≡◌};
 ghost use Rattle.host_calls.specs.Hosts.{none_near, nearest_to};
 
-use connections::Told;
 use contacts::Closest;
 pub use host_contacts::{doubt, remove, seen, settle};
 pub use host_lookups::{lookup_failure, lookup_next, lookup_reply, lookup_start};
@@ -18,7 +17,7 @@ pub use writer::write;
 #[derive(Drop)]
 pub struct Nearby {
     pub closest: Closest,
-    pub told: Told,
+    pub told: Result<(), Refusal>,
 }
 
 // No contacts, and a refusal.
@@ -27,7 +26,7 @@ fn none_near(r: Refusal) -> Nearby
 {
     let at = [0usize; limits::MOST_NEAR];
     let closest = Closest { at, n: 0 };
-    let told = Told::Refused(r);
+    let told = Err(r);
     Nearby { closest, told }
 }
 
@@ -50,6 +49,6 @@ pub fn nearest(me: Peer, contacts: &[u8], key: &[u8]) -> Nearby
     }
     let target = place::place_of(key);
     let closest = contacts::nearest(contacts, &target);
-    let told = Told::Fine;
+    let told = Ok(());
     Nearby { closest, told }
 }

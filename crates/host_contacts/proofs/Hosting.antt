@@ -10,17 +10,12 @@ use Rattle.refusal.specs.declared.Refusal.TheVariants.{OutOfForm, BadPeer}
 use Rattle.peer.specs.declared.Peer.{Peer}
 use Rattle.contacts.specs.Form.{in_form}
 use Rattle.sightings.specs.declared.Sighting.{Sighting}
-use Rattle.sightings.specs.declared.Sighting.TheVariants as seen
 use Rattle.sightings.specs.declared.Settled.{Settled}
-use Rattle.sightings.specs.declared.Settled.TheVariants as settle
-use Rattle.sightings.specs.declared.Removed.{Removed}
-use Rattle.sightings.specs.declared.Removed.TheVariants as remove
-use Rattle.sightings.specs.declared.Doubted.{Doubted}
-use Rattle.sightings.specs.declared.Doubted.TheVariants as doubt
 use Rattle.contact_calls.specs.Calls.{seen_call, seen_call_table, settle_call, settle_call_table, remove_call, remove_call_table, doubt_call, doubt_call_table}
 use Rattle.connections.specs.Box.{own_fits}
 use Rattle.host_contacts.specs.Contacts.{gated, seen_of, seen_after, settle_of, settle_after, remove_of, remove_after, doubt_of, doubt_after}
 use Rattle.host_contacts.specs.Inner.{refusal_of_box}
+use Rattle.std.specs.Prelude.{Err, Result, ⊤}
 
 -- ---- a box that no start gives
 pub box-form : (t ours : List ℕ) → in_form t ours ≡ true → BadPeer ≡ refusal_of_box t ours
@@ -46,68 +41,68 @@ module _ {A : Type 0} (me : Peer) (t : List ℕ) where
 
 -- ---- seen
 module _ (me : Peer) (t id : List ℕ) (client : Bool) (addresses : List ℕ) where
-  pub seen-off : (x : Refusal) → own_fits me ≡ false → x ≡ refusal_of_box t me.place → (seen.Refused x ≡ seen_of me t id client addresses) × (t ≡ seen_after me t id client addresses)
+  pub seen-off : (x : Refusal) → own_fits me ≡ false → x ≡ refusal_of_box t me.place → (Err x ≡ seen_of me t id client addresses) × (t ≡ seen_after me t id client addresses)
   unfolding seen_of seen_after
-  seen-off x h e = (box-off me t seen.Refused (seen_call t me.place id client addresses) x h e, sym (cond_no (own_fits me) _ t h))
+  seen-off x h e = (box-off me t Err (seen_call t me.place id client addresses) x h e, sym (cond_no (own_fits me) _ t h))
 
-  seen-zero : in_form t me.place ≡ false → seen_call t me.place id client addresses ≡ seen.Refused OutOfForm
+  seen-zero : in_form t me.place ≡ false → seen_call t me.place id client addresses ≡ Err OutOfForm
   unfolding seen_call
   seen-zero h = cond_yes (not (in_form t me.place)) _ _ (ap not h)
 
-  pub seen-on : (r : Sighting) (u : List ℕ) → own_fits me ≡ true → (r ≡ seen_call t me.place id client addresses) × (u ≡ seen_call_table t me.place id client addresses)
+  pub seen-on : (r : Result Sighting Refusal) (u : List ℕ) → own_fits me ≡ true → (r ≡ seen_call t me.place id client addresses) × (u ≡ seen_call_table t me.place id client addresses)
       → (r ≡ seen_of me t id client addresses) × (u ≡ seen_after me t id client addresses)
   unfolding seen_of seen_after
   seen-on r u h e =
-      (e.0 ∙ box-on me t (seen.Refused OutOfForm) (seen.Refused BadPeer) (seen_call t me.place id client addresses) h seen-zero, e.1 ∙ sym (cond_yes (own_fits me) _ t h))
+      (e.0 ∙ box-on me t (Err OutOfForm) (Err BadPeer) (seen_call t me.place id client addresses) h seen-zero, e.1 ∙ sym (cond_yes (own_fits me) _ t h))
 
 -- ---- settle
 module _ (me : Peer) (t head id : List ℕ) (client : Bool) (addresses : List ℕ) (answered : Bool) where
   pub settle-off : (x : Refusal) → own_fits me ≡ false → x ≡ refusal_of_box t me.place
-      → (settle.Refused x ≡ settle_of me t head id client addresses answered) × (t ≡ settle_after me t head id client addresses answered)
+      → (Err x ≡ settle_of me t head id client addresses answered) × (t ≡ settle_after me t head id client addresses answered)
   unfolding settle_of settle_after
-  settle-off x h e = (box-off me t settle.Refused (settle_call t me.place head id client addresses answered) x h e, sym (cond_no (own_fits me) _ t h))
+  settle-off x h e = (box-off me t Err (settle_call t me.place head id client addresses answered) x h e, sym (cond_no (own_fits me) _ t h))
 
-  settle-zero : in_form t me.place ≡ false → settle_call t me.place head id client addresses answered ≡ settle.Refused OutOfForm
+  settle-zero : in_form t me.place ≡ false → settle_call t me.place head id client addresses answered ≡ Err OutOfForm
   unfolding settle_call
   settle-zero h = cond_yes (not (in_form t me.place)) _ _ (ap not h)
 
-  pub settle-on : (r : Settled) (u : List ℕ) → own_fits me ≡ true
+  pub settle-on : (r : Result Settled Refusal) (u : List ℕ) → own_fits me ≡ true
       → (r ≡ settle_call t me.place head id client addresses answered) × (u ≡ settle_call_table t me.place head id client addresses answered)
       → (r ≡ settle_of me t head id client addresses answered) × (u ≡ settle_after me t head id client addresses answered)
   unfolding settle_of settle_after
   settle-on r u h e = (
-    e.0 ∙ box-on me t (settle.Refused OutOfForm) (settle.Refused BadPeer) (settle_call t me.place head id client addresses answered) h settle-zero,
+    e.0 ∙ box-on me t (Err OutOfForm) (Err BadPeer) (settle_call t me.place head id client addresses answered) h settle-zero,
     e.1 ∙ sym (cond_yes (own_fits me) _ t h),
   )
 
 -- ---- remove
 module _ (me : Peer) (t id : List ℕ) where
-  pub remove-off : (x : Refusal) → own_fits me ≡ false → x ≡ refusal_of_box t me.place → (remove.Refused x ≡ remove_of me t id) × (t ≡ remove_after me t id)
+  pub remove-off : (x : Refusal) → own_fits me ≡ false → x ≡ refusal_of_box t me.place → (Err x ≡ remove_of me t id) × (t ≡ remove_after me t id)
   unfolding remove_of remove_after
-  remove-off x h e = (box-off me t remove.Refused (remove_call t me.place id) x h e, sym (cond_no (own_fits me) _ t h))
+  remove-off x h e = (box-off me t Err (remove_call t me.place id) x h e, sym (cond_no (own_fits me) _ t h))
 
-  remove-zero : in_form t me.place ≡ false → remove_call t me.place id ≡ remove.Refused OutOfForm
+  remove-zero : in_form t me.place ≡ false → remove_call t me.place id ≡ Err OutOfForm
   unfolding remove_call
   remove-zero h = cond_yes (not (in_form t me.place)) _ _ (ap not h)
 
-  pub remove-on : (r : Removed) (u : List ℕ) → own_fits me ≡ true → (r ≡ remove_call t me.place id) × (u ≡ remove_call_table t me.place id)
+  pub remove-on : (r : Result ⊤ Refusal) (u : List ℕ) → own_fits me ≡ true → (r ≡ remove_call t me.place id) × (u ≡ remove_call_table t me.place id)
       → (r ≡ remove_of me t id) × (u ≡ remove_after me t id)
   unfolding remove_of remove_after
   remove-on r u h e =
-      (e.0 ∙ box-on me t (remove.Refused OutOfForm) (remove.Refused BadPeer) (remove_call t me.place id) h remove-zero, e.1 ∙ sym (cond_yes (own_fits me) _ t h))
+      (e.0 ∙ box-on me t (Err OutOfForm) (Err BadPeer) (remove_call t me.place id) h remove-zero, e.1 ∙ sym (cond_yes (own_fits me) _ t h))
 
 -- ---- doubt
 module _ (me : Peer) (t id : List ℕ) where
-  pub doubt-off : (x : Refusal) → own_fits me ≡ false → x ≡ refusal_of_box t me.place → (doubt.Refused x ≡ doubt_of me t id) × (t ≡ doubt_after me t id)
+  pub doubt-off : (x : Refusal) → own_fits me ≡ false → x ≡ refusal_of_box t me.place → (Err x ≡ doubt_of me t id) × (t ≡ doubt_after me t id)
   unfolding doubt_of doubt_after
-  doubt-off x h e = (box-off me t doubt.Refused (doubt_call t me.place id) x h e, sym (cond_no (own_fits me) _ t h))
+  doubt-off x h e = (box-off me t Err (doubt_call t me.place id) x h e, sym (cond_no (own_fits me) _ t h))
 
-  doubt-zero : in_form t me.place ≡ false → doubt_call t me.place id ≡ doubt.Refused OutOfForm
+  doubt-zero : in_form t me.place ≡ false → doubt_call t me.place id ≡ Err OutOfForm
   unfolding doubt_call
   doubt-zero h = cond_yes (not (in_form t me.place)) _ _ (ap not h)
 
-  pub doubt-on : (r : Doubted) (u : List ℕ) → own_fits me ≡ true → (r ≡ doubt_call t me.place id) × (u ≡ doubt_call_table t me.place id)
+  pub doubt-on : (r : Result ⊤ Refusal) (u : List ℕ) → own_fits me ≡ true → (r ≡ doubt_call t me.place id) × (u ≡ doubt_call_table t me.place id)
       → (r ≡ doubt_of me t id) × (u ≡ doubt_after me t id)
   unfolding doubt_of doubt_after
   doubt-on r u h e =
-      (e.0 ∙ box-on me t (doubt.Refused OutOfForm) (doubt.Refused BadPeer) (doubt_call t me.place id) h doubt-zero, e.1 ∙ sym (cond_yes (own_fits me) _ t h))
+      (e.0 ∙ box-on me t (Err OutOfForm) (Err BadPeer) (doubt_call t me.place id) h doubt-zero, e.1 ∙ sym (cond_yes (own_fits me) _ t h))

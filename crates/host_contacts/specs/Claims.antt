@@ -13,6 +13,7 @@ use Rattle.contact_calls.specs.Calls.{seen_number, settle_number, remove_number,
 use Rattle.contact_calls.specs.Claims.{Admits, SeenTold, SettleTold, RemoveTold, DoubtTold, SeenDoes, SettleDoes, RemoveDoes, DoubtDoes}
 use Rattle.connections.specs.Box.{own_fits}
 use Rattle.host_contacts.specs.Contacts.{seen_of, seen_after, settle_of, settle_after, remove_of, remove_after, doubt_of, doubt_after}
+use Rattle.std.specs.Prelude.{Ok}
 
 pub record ContactsTold (me : Peer) : Type 0 where
   pub seen_told : (t id : List ℕ) (client : Bool) (addresses : List ℕ) → SeenTold t me.place id client (seen_number (seen_of me t id client addresses))
@@ -35,9 +36,9 @@ pub record ContactsTold (me : Peer) : Type 0 where
   -- who was marked isn't given; who was seen, or answered a probe, is the first for its own place
   pub hidden : (t id x : List ℕ) → doubt_number (doubt_of me t id) ≡ 64 → Gives (doubt_after me t id) x (held_at t (place_of id)) → ⊥
   pub seen_given : (t id : List ℕ) (client : Bool) (addresses : List ℕ) → Bytes (seen_after me t id client addresses) → (i : ℕ)
-      → (seen_of me t id client addresses ≡ seen.Moved i) ⊎ (seen_of me t id client addresses ≡ seen.Joined i) → GivesFirst (seen_after me t id client addresses) (place_of id) i
+      → (seen_of me t id client addresses ≡ Ok (seen.Moved i)) ⊎ (seen_of me t id client addresses ≡ Ok (seen.Joined i)) → GivesFirst (seen_after me t id client addresses) (place_of id) i
   pub answerer_given : (t head id : List ℕ) (client : Bool) (addresses : List ℕ) (answered : Bool) → Bytes (settle_after me t head id client addresses answered)
-      → settle_of me t head id client addresses answered ≡ settle.Kept → GivesFirst (settle_after me t head id client addresses answered) (place_of head) (held_at t (place_of head))
+      → settle_of me t head id client addresses answered ≡ Ok settle.Kept → GivesFirst (settle_after me t head id client addresses answered) (place_of head) (held_at t (place_of head))
 
 abbrev pub Claims : Type 0
 Claims = (me : Peer) → own_fits me ≡ true → length me.place ≡ 32 → Bytes me.place → ContactsTold me

@@ -5,7 +5,7 @@ ghost use Rattle.std.specs.Prelude.{◌≡◌};
 ghost use Rattle.host_contacts.specs.Contacts.{seen_of, seen_after, settle_of, settle_after, remove_of, remove_after, doubt_of, doubt_after};
 ghost use Rattle.host_contacts.specs.Inner.{refusal_of_box};
 
-use contact_calls::{Doubted, Removed, Settled, Sighting};
+use contact_calls::{Settled, Sighting};
 use peer::Peer;
 use refusal::Refusal;
 
@@ -20,12 +20,18 @@ fn refusal_of_box(contacts: &[u8], ours: &[u8]) -> Refusal
 }
 
 // A peer was seen.
-pub fn seen(me: Peer, contacts: &mut [u8], id: &[u8], client: bool, addresses: &[u8]) -> Sighting
+pub fn seen(
+    me: Peer,
+    contacts: &mut [u8],
+    id: &[u8],
+    client: bool,
+    addresses: &[u8],
+) -> Result<Sighting, Refusal>
     ensures { (result ≡ seen_of me contacts.old id.now client addresses.now) × (contacts.new ≡ seen_after me contacts.old id.now client addresses.now) }
 {
     let ours = me.place;
     if !connections::own_fits(me) {
-        return Sighting::Refused(refusal_of_box(contacts, &ours));
+        return Err(refusal_of_box(contacts, &ours));
     }
     contact_calls::seen(contacts, &ours, id, client, addresses)
 }
@@ -39,34 +45,34 @@ pub fn settle(
     client: bool,
     addresses: &[u8],
     answered: bool,
-) -> Settled
+) -> Result<Settled, Refusal>
     ensures { (result ≡ settle_of me contacts.old head.now id.now client addresses.now answered) × (contacts.new ≡ settle_after me contacts.old head.now id.now client addresses.now answered) }
 {
     let ours = me.place;
     if !connections::own_fits(me) {
-        return Settled::Refused(refusal_of_box(contacts, &ours));
+        return Err(refusal_of_box(contacts, &ours));
     }
     contact_calls::settle(contacts, &ours, head, id, client, addresses, answered)
 }
 
 // Takes a contact out.
-pub fn remove(me: Peer, contacts: &mut [u8], id: &[u8]) -> Removed
+pub fn remove(me: Peer, contacts: &mut [u8], id: &[u8]) -> Result<(), Refusal>
     ensures { (result ≡ remove_of me contacts.old id.now) × (contacts.new ≡ remove_after me contacts.old id.now) }
 {
     let ours = me.place;
     if !connections::own_fits(me) {
-        return Removed::Refused(refusal_of_box(contacts, &ours));
+        return Err(refusal_of_box(contacts, &ours));
     }
     contact_calls::remove(contacts, &ours, id)
 }
 
 // Marks a contact as doubtful.
-pub fn doubt(me: Peer, contacts: &mut [u8], id: &[u8]) -> Doubted
+pub fn doubt(me: Peer, contacts: &mut [u8], id: &[u8]) -> Result<(), Refusal>
     ensures { (result ≡ doubt_of me contacts.old id.now) × (contacts.new ≡ doubt_after me contacts.old id.now) }
 {
     let ours = me.place;
     if !connections::own_fits(me) {
-        return Doubted::Refused(refusal_of_box(contacts, &ours));
+        return Err(refusal_of_box(contacts, &ours));
     }
     contact_calls::doubt(contacts, &ours, id)
 }

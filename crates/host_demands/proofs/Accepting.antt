@@ -4,7 +4,6 @@ use mathlib.Core.Path.{◌≡◌, refl, sym, ap, ap₂, ◌∙◌, subst}
 use mathlib.Core.Logic.{⊎_elim}
 use mathlib.Core.Bool.{true, false, not, false≢true}
 use mathlib.Core.List.{List, [], ◌∷◌}
-use mathlib.Core.Option.{Option, none, some}
 use native.Mathlib.Omega.{arith}
 use lib.ListN.{length, get_or, take, drop, length-take, drop_of_length-le}
 use lib.Seq.{sets, drop_at}
@@ -15,10 +14,6 @@ use Rattle.octets.proofs.Bools.{cond_ind, cond_yes, cond_no, either}
 use Rattle.limits.specs.Limits.{most_body}
 use Rattle.peer.specs.declared.Peer.{Peer}
 use Rattle.recipe.specs.Recipe.{outranks}
-use Rattle.records.specs.declared.Answer as stored
-use Rattle.records.specs.declared.Answer.TheVariants as store
-use Rattle.records.specs.declared.Found.{Found}
-use Rattle.records.specs.declared.Found.TheVariants as found
 use Rattle.records.specs.Store.{find_of, offer_answer, put_answer}
 use Rattle.records_history.specs.History as history
 use Rattle.records_history.specs.History.{Offer, accepts, taken}
@@ -27,10 +22,6 @@ use Rattle.records_history.proofs.Stays.{put_is}
 use Rattle.message.specs.Message.{Record, Message, message_of, decode, encode, frame}
 use Rattle.message.specs.View.{reading_of}
 use Rattle.message.specs.declared.Fields.{Fields}
-use Rattle.message.specs.declared.Reading.{Reading}
-use Rattle.message.specs.declared.Reading.TheVariants as reading
-use Rattle.stream.specs.declared.Answer as stream
-use Rattle.stream.specs.declared.Answer.TheVariants as framed
 use Rattle.stream.specs.Stream as streams
 use Rattle.stream.specs.Stream.{is_shut, run_of, receive_of as framed_of}
 use Rattle.stream.proofs.Steps.{call-runs}
@@ -39,13 +30,12 @@ use Rattle.cutting.proofs.Kept.{run-within, message-fits}
 use Rattle.cutting.proofs.Once.{run-taken}
 use Rattle.message.specs.Kinds.{put_value}
 use Rattle.replies.specs.Replies.{put_value_reply}
-use Rattle.replies.specs.declared.Answered.TheVariants as told
 use Rattle.replies.specs.Verdicts.{Verdict, replies, echoed, put_verdict, Dealt, by_verdict}
 use Rattle.replies.specs.Lent.{Lent, with_records}
 use Rattle.answer.specs.Answers.{verdict_of, records_after, by_reading, deal_of}
 use Rattle.connections.specs.declared.Conn.{Conn}
 use Rattle.node.specs.declared.Answer.{Answer}
-use Rattle.node.specs.declared.Answer.TheVariants.{Reply, Heard, Refused, More}
+use Rattle.node.specs.declared.Answer.TheVariants.{Reply, Heard, More}
 use Rattle.node.specs.Node.{linked, Dealing, Out, by_event}
 use Rattle.node_promises.proofs.Doing.{message-done}
 use Rattle.flat.specs.Flat.{peer_in}
@@ -69,22 +59,25 @@ use Rattle.host_demands.proofs.Connections.{both-enough}
 use Rattle.host_demands.proofs.Receiving.{got-nothing, offers-now, offers-same}
 use Rattle.host_demands.proofs.Reading.{written-reads}
 use Rattle.host_demands.proofs.Running.{one-call, all-calls, fits_head, ready-after, later-fit}
+use Rattle.std.specs.Prelude.{Ok, Err, Some, None, Result, Option, ⊤}
+use Rattle.records.specs.declared.Held.{Held}
+use Rattle.refusal.specs.declared.Refusal.{Refusal}
 
 -- ---- what numbers say
-put-number : (x : stored.Answer) → put_number x ≡ 64 → x ≡ store.Taken
-put-number store.Taken e = refl
-put-number (store.Refused r) e = absurd (omega (arith, e, number_small r))
+put-number : (x : Result ⊤ Refusal) → put_number x ≡ 64 → x ≡ Ok tt
+put-number (Ok tt) e = refl
+put-number (Err r) e = absurd (omega (arith, e, number_small r))
 
-was-taken : (x : stored.Answer) → taken x ≡ true → x ≡ store.Taken
+was-taken : (x : Result ⊤ Refusal) → taken x ≡ true → x ≡ Ok tt
 unfolding taken
-was-taken store.Taken e = refl
-was-taken (store.Refused r) e = absurd (false≢true e)
+was-taken (Ok tt) e = refl
+was-taken (Err r) e = absurd (false≢true e)
 
-reply-number : (x : Answer) → answer_number x ≡ 65 → (n : ℕ) × (x ≡ Reply n)
-reply-number (Reply n) e = (n, refl)
-reply-number (Heard n f) e = absurd (omega (arith, e))
-reply-number (Refused r) e = absurd (omega (arith, e, number_small r))
-reply-number More e = absurd (omega (arith, e))
+reply-number : (x : Result Answer Refusal) → answer_number x ≡ 65 → (n : ℕ) × (x ≡ Ok (Reply n))
+reply-number (Ok (Reply n)) e = (n, refl)
+reply-number (Ok (Heard n f)) e = absurd (omega (arith, e))
+reply-number (Err r) e = absurd (omega (arith, e, number_small r))
+reply-number (Ok More) e = absurd (omega (arith, e))
 
 said : {m n : Message} → replies m ≡ replies n → m ≡ n
 said e = cc
@@ -185,7 +178,7 @@ module _ (me : List ℕ) (S : Started me) where
           }
 
       -- ---- a message that is complete
-      module _ (going : is_shut line.framing ≡ false) (l : ℕ) (whole : (framing piece).got.answer ≡ framed.Message l) where
+      module _ (going : is_shut line.framing ≡ false) (l : ℕ) (whole : (framing piece).got.answer ≡ Ok (Some l)) where
         abbrev conn : Conn
         conn = conn_of line.who (framing piece).got.framing
 
@@ -195,46 +188,46 @@ module _ (me : List ℕ) (S : Started me) where
         abbrev deal : Dealt
         deal = deal_of us line.who.peer body m.lent
 
-        done : got ≡ by_event (framed.Message l) us (linked conn (framing piece).buffer) (framing piece).got.taken m.lent
+        done : got ≡ by_event (Ok (Some l)) us (linked conn (framing piece).buffer) (framing piece).got.taken m.lent
         done =
             gives going piece (framing piece) refl
-            ∙ ap (λ (x : stream.Answer). by_event x us (linked conn (framing piece).buffer) (framing piece).got.taken m.lent) whole
+            ∙ ap (λ (x : Result (Option ℕ) Refusal). by_event x us (linked conn (framing piece).buffer) (framing piece).got.taken m.lent) whole
 
         body_is : completed me m i piece ≡ body
-        body_is = ap₂ (λ (x : stream.Answer) (o : Out). body_in x o.buffer) whole done
+        body_is = ap₂ (λ (x : Result (Option ℕ) Refusal) (o : Out). body_in x o.buffer) whole done
 
-        answers : (n : ℕ) → line.who.asking ≡ false → deal.told ≡ told.Reply n → got.got.answer ≡ Reply n
+        answers : (n : ℕ) → line.who.asking ≡ false → deal.told ≡ Ok n → got.got.answer ≡ Ok (Reply n)
         answers n side e =
             ap (λ (o : Out). o.got.answer) done
             ∙ ap (λ (d : Dealing). d.answer) (message-done.replies us conn body m.lent n side e)
 
-        reply-is : (n : ℕ) → line.who.asking ≡ false → deal.told ≡ told.Reply n → got.left.reply ≡ deal.left.reply
+        reply-is : (n : ℕ) → line.who.asking ≡ false → deal.told ≡ Ok n → got.left.reply ≡ deal.left.reply
         reply-is n side e =
             ap (λ (o : Out). o.left.reply) done
             ∙ ap (λ (d : Dealing). d.left.reply) (message-done.replies us conn body m.lent n side e)
 
         -- a PUT_VALUE whose record the store takes is answered
-        put-told : (f : Fields) (r : Record) → reading_of body ≡ reading.Whole f → (message_of body).held ≡ some r → (message_of body).kind ≡ put_value
+        put-told : (f : Fields) (r : Record) → reading_of body ≡ Ok f → (message_of body).held ≡ Some r → (message_of body).kind ≡ put_value
             → same r.key (message_of body).key ≡ true → accepts m.lent.records (record { key = (message_of body).key; value = r.value }) ≡ true
-            → (n : ℕ) × (deal.told ≡ told.Reply n)
+            → (n : ℕ) × (deal.told ≡ Ok n)
         unfolding verdict_of put_verdict accepts
         put-told f r w q k s a =
             let key : List ℕ = (message_of body).key in
             let v : List ℕ = r.value in
             let says : Message = put_value_reply key v in
-            let t : offer_answer m.lent.records key v ≡ store.Taken = was-taken _ (ap taken (sym (put_is m.lent.records key v ready.good.records).0) ∙ a) in
+            let t : offer_answer m.lent.records key v ≡ (Ok tt) = was-taken _ (ap taken (sym (put_is m.lent.records key v ready.good.records).0) ∙ a) in
             let verdict : verdict_of us line.who.peer (message_of body) m.lent ≡ replies says =
             cond_yes _ _ _ (ap (λ (z : ℕ). eqb z put_value) k) ∙ ap (λ (x : Option Record). put_verdict key x m.lent.records) q ∙ cond_yes _ _ _ s
-            ∙ ap (λ (x : stored.Answer). echoed x says) t in (
+            ∙ ap (λ (x : Result ⊤ Refusal). echoed x says) t in (
               length (frame (encode says)),
               ap (λ (d : Dealt). d.told)
                   (deal-is us line.who.peer body m.lent
-                  ∙ ap (λ (x : Reading). by_reading x us line.who.peer (message_of body) m.lent) w
+                  ∙ ap (λ (x : Result Fields Refusal). by_reading x us line.who.peer (message_of body) m.lent) w
                   ∙ ap (λ (x : Verdict). by_verdict x (with_records m.lent (records_after (message_of body) m.lent.records)) m.lent) verdict),
             )
 
         -- so what it offers is accepted only by a receive that returns 65
-        put-sent : line.who.asking ≡ false → (f : Fields) (r : Record) → reading_of body ≡ reading.Whole f → (message_of body).held ≡ some r → (message_of body).kind ≡ put_value
+        put-sent : line.who.asking ≡ false → (f : Fields) (r : Record) → reading_of body ≡ Ok f → (message_of body).held ≡ Some r → (message_of body).kind ≡ put_value
             → same r.key (message_of body).key ≡ true → accepts m.lent.records (record { key = (message_of body).key; value = r.value }) ≡ true
             → Sent me m i piece (message_of body).key r.value
         put-sent side f r w q k s a =
@@ -271,17 +264,17 @@ module _ (me : List ℕ) (S : Started me) where
         abbrev Fine : List Offer → Type 0
         Fine os = history.Unbeaten key v m.lent.records os
 
-        offer-fine : (going : is_shut line.framing ≡ false) (l : ℕ) → (framing piece).got.answer ≡ framed.Message l → Fine (offer_in line.who (take l (framing piece).buffer))
+        offer-fine : (going : is_shut line.framing ≡ false) (l : ℕ) → (framing piece).got.answer ≡ Ok (Some l) → Fine (offer_in line.who (take l (framing piece).buffer))
         unfolding history.Unbeaten
         offer-fine going l w = cond_ind Fine line.who.asking _ _ (λ e. tt) (λ e. read e (reading_of b) refl (message_of b).held refl)
           where
             b : List ℕ
             b = take l (framing piece).buffer
 
-            read : line.who.asking ≡ false → (x : Reading) → reading_of b ≡ x → (y : Option Record) → (message_of b).held ≡ y → Fine (offer_by x (message_of b) y)
-            read side (reading.Refused r) e y q = tt
-            read side (reading.Whole f) e none q = tt
-            read side (reading.Whole f) e (some r) q =
+            read : line.who.asking ≡ false → (x : Result Fields Refusal) → reading_of b ≡ x → (y : Option Record) → (message_of b).held ≡ y → Fine (offer_by x (message_of b) y)
+            read side (Err r) e y q = tt
+            read side (Ok f) e None q = tt
+            read side (Ok f) e (Some r) q =
                 cond_ind Fine (eqb (message_of b).kind put_value) _ _
                 (λ k. cond_ind Fine (same r.key (message_of b).key) _ _
                 (λ s. (
@@ -295,11 +288,11 @@ module _ (me : List ℕ) (S : Started me) where
         unfolding history.Unbeaten
         offers-fine going = go (framing piece).got.answer refl
           where
-            go : (x : stream.Answer) → (framing piece).got.answer ≡ x → Fine (offers_in line.who x got.buffer)
-            go (framed.Message l) e =
+            go : (x : Result (Option ℕ) Refusal) → (framing piece).got.answer ≡ x → Fine (offers_in line.who x got.buffer)
+            go (Ok (Some l)) e =
                 subst (λ (y : List ℕ). Fine (offer_in line.who (take l y))) (sym (ap (λ (o : Out). o.buffer) (done going l e))) (offer-fine going l e)
-            go (framed.Refused r) e = tt
-            go framed.More e = tt
+            go (Err r) e = tt
+            go (Ok None) e = tt
 
         receive-fine : Fine (since world (call (box.box us) world (meant me m (host.receives i piece))))
         receive-fine =
@@ -354,18 +347,18 @@ module _ (me : List ℕ) (S : Started me) where
     unfolding find_of
     finds-there key v f = got-finds us m.lent.records key v ready.good.records (go (find_of m.lent.records key) refl f.find (f.there (0 ∷ 0 ∷ []) (omega arith)))
       where
-        go : (x : Found) → find_of m.lent.records key ≡ x → find_number x ≡ 64
+        go : (x : Result (Option Held) Refusal) → find_of m.lent.records key ≡ x → find_number x ≡ 64
             → part m.lent.records (get_or (find_numbers (0 ∷ 0 ∷ []) x) 0 0) (get_or (find_numbers (0 ∷ 0 ∷ []) x) 1 0) ≡ v
-            → history.got m.lent.records key ≡ history.Has v
-        go (found.Held a b) e n p = (found-is m.lent.records key (sym (cond_no _ _ _ (ap not ready.good.records)) ∙ e)).2 ∙ ap history.Has p
-        go found.NotHeld e n p = absurd (omega (arith, n))
-        go (found.Refused r) e n p = absurd (omega (arith, n, number_small r))
+            → history.got m.lent.records key ≡ Some v
+        go (Ok (Some h)) e n p = (found-is m.lent.records key (sym (cond_no _ _ _ (ap not ready.good.records)) ∙ e)).2 ∙ ap Some p
+        go (Ok None) e n p = absurd (omega (arith, n))
+        go (Err r) e n p = absurd (omega (arith, n, number_small r))
 
     pub finds-here : (key v : List ℕ) → inner.Finds us m.lent.records key v → Finds me m key v
     finds-here key v f =
         record {
           find = ap find_number f.find;
-          there = λ out l. ap (λ (x : Found). part m.lent.records (get_or (find_numbers out x) 0 0) (get_or (find_numbers out x) 1 0)) f.find ∙ at out l;
+          there = λ out l. ap (λ (x : Result (Option Held) Refusal). part m.lent.records (get_or (find_numbers out x) 0 0) (get_or (find_numbers out x) 1 0)) f.find ∙ at out l;
           asked = λ i piece a. get-served i piece (whole_open _ (m.buffers i) piece a.size a.whole) a.size a.whole key v f a;
         }
       where

@@ -11,13 +11,11 @@ use Rattle.limits.specs.Limits.{most_body}
 use Rattle.peer.specs.declared.Peer.{Peer}
 use Rattle.recipe.specs.Recipe.{is_recipe}
 use Rattle.records.specs.Store.{in_form, find_of}
-use Rattle.records_history.specs.History.{Got, Has, None, Offer, got}
+use Rattle.records_history.specs.History.{Offer, got}
 use Rattle.records_history.specs.Agree as store
 use Rattle.records_history.specs.Agree.{NoRecords, SameSet, HoldSame, Highest}
 use Rattle.records_history.proofs.Holding.{held-is-found}
 use Rattle.records_history.proofs.Agree.{offered-parts, offered-left, offered-right, highest-moved, agreement}
-use Rattle.stream.specs.declared.Answer as stream
-use Rattle.stream.specs.declared.Answer.TheVariants as framed
 use Rattle.stream.specs.Stream as streams
 use Rattle.stream.specs.Stream.{is_shut, run_of, receive_of as framed_of}
 use Rattle.stream.proofs.Steps.{call-runs}
@@ -43,6 +41,8 @@ use Rattle.host_demands.specs.Agree.{Offers, typed, sent, SomeOffers, Never11, P
 use Rattle.host_demands.proofs.Receiving.{offers-now, offers-same}
 use Rattle.host_demands.proofs.Accepting.{finds-there, finds-here}
 use Rattle.host_demands.proofs.Running.{one-call, all-calls, ready-after, later-fit}
+use Rattle.std.specs.Prelude.{Ok, Err, Some, None, Result, Option}
+use Rattle.refusal.specs.declared.Refusal.{Refusal}
 
 -- ---- which calls offer something: puts and receives
 abbrev sort : Export → ℕ
@@ -62,10 +62,10 @@ sort (host.lookup_replies j id body view) = 2
 sort (host.lookup_hears i j id) = 2
 sort (host.lookup_fails j id) = 2
 
-kept_buffer : (x : stream.Answer) (me : Peer) (link : Link) (n : ℕ) (l : Lent) → (by_event x me link n l).buffer ≡ link.buffer
-kept_buffer (framed.Message size) me link n l = refl
-kept_buffer (framed.Refused r) me link n l = refl
-kept_buffer framed.More me link n l = refl
+kept_buffer : (x : Result (Option ℕ) Refusal) (me : Peer) (link : Link) (n : ℕ) (l : Lent) → (by_event x me link n l).buffer ≡ link.buffer
+kept_buffer (Ok (Some size)) me link n l = refl
+kept_buffer (Err r) me link n l = refl
+kept_buffer (Ok None) me link n l = refl
 
 -- what is added to the offers of a world is what P says of a key and a value
 record Adds (P : List ℕ → List ℕ → Type 0) (before now : List Offer) : Type 0 where
@@ -140,7 +140,7 @@ module _ (me : List ℕ) (S : Started me) where
           subst (λ (x : ℕ). Brings (world.lines x) piece key v) e (subst (λ (x : List ℕ). Brings (world.lines j) x key v) q b)
 
       module _ (going : is_shut (world.lines i).framing ≡ false) where
-        body-fits : (n : ℕ) → framing.got.answer ≡ framed.Message n → length (take n framing.buffer) ≤ most_body
+        body-fits : (n : ℕ) → framing.got.answer ≡ Ok (Some n) → length (take n framing.buffer) ≤ most_body
         body-fits n e =
             let r : framing ≡ run_of (world.lines i).framing (world.lines i).buffer piece =
             call-runs (world.lines i).framing (world.lines i).buffer piece (ready.lines i).form (ready.lines i).room going in
@@ -157,9 +157,9 @@ module _ (me : List ℕ) (S : Started me) where
             ∙ runs_as us (world.lines i) piece m.lent framing refl)
             ∙ kept_buffer framing.got.answer us (linked (conn_of who framing.got.framing) framing.buffer) framing.got.taken m.lent
 
-        in-message : (n : ℕ) → framing.got.answer ≡ framed.Message n
+        in-message : (n : ℕ) → framing.got.answer ≡ Ok (Some n)
             → offers_in who framing.got.answer (received_by me m i piece).buffer ≡ offer_in who (take n framing.buffer)
-        in-message n e = ap₂ (λ (x : stream.Answer) (b : List ℕ). offers_in who x b) e buffer-is
+        in-message n e = ap₂ (λ (x : Result (Option ℕ) Refusal) (b : List ℕ). offers_in who x b) e buffer-is
 
         there : (key v : List ℕ) → Offers me m key v (host.receives i piece) → store.IsOffered key v (offers_in who framing.got.answer (received_by me m i piece).buffer)
         unfolding store.IsOffered
@@ -173,7 +173,7 @@ module _ (me : List ℕ) (S : Started me) where
         unfolding store.IsOffered
         back key v o = go framing.got.answer refl o
           where
-            one : (n : ℕ) → framing.got.answer ≡ framed.Message n → store.IsOffered key v (offer_in who (take n framing.buffer)) → Offers me m key v (host.receives i piece)
+            one : (n : ℕ) → framing.got.answer ≡ Ok (Some n) → store.IsOffered key v (offer_in who (take n framing.buffer)) → Offers me m key v (host.receives i piece)
             one n e =
                 offer-ind who (take n framing.buffer) (λ os. store.IsOffered key v os → Offers me m key v (host.receives i piece)) (λ x. absurd x)
                 (λ k u l s x. ⊎_elim (λ q. sent i piece refl (record {
@@ -182,10 +182,10 @@ module _ (me : List ℕ) (S : Started me) where
                   sends = subst (λ (y : List ℕ). Sends who (take n framing.buffer) y v) q.0 (subst (Sends who (take n framing.buffer) k) q.1 s);
                 })) (λ y. absurd y) x)
 
-            go : (x : stream.Answer) → framing.got.answer ≡ x → store.IsOffered key v (offers_in who x (received_by me m i piece).buffer) → Offers me m key v (host.receives i piece)
-            go (framed.Message n) e y = one n e (subst (λ (b : List ℕ). store.IsOffered key v (offer_in who (take n b))) buffer-is y)
-            go (framed.Refused r) e y = absurd y
-            go framed.More e y = absurd y
+            go : (x : Result (Option ℕ) Refusal) → framing.got.answer ≡ x → store.IsOffered key v (offers_in who x (received_by me m i piece).buffer) → Offers me m key v (host.receives i piece)
+            go (Ok (Some n)) e y = one n e (subst (λ (b : List ℕ). store.IsOffered key v (offer_in who (take n b))) buffer-is y)
+            go (Err r) e y = absurd y
+            go (Ok None) e y = absurd y
 
         open-adds : AddsOne (host.receives i piece)
         open-adds = record { os = offers_in who framing.got.answer (received_by me m i piece).buffer; adds = offers-now me S m h len ready i piece going; there = there; back = back }
@@ -322,9 +322,9 @@ now p = history_of (after p.me (begun p) p.memory p.calls)
 still : (p : Program) → ReadyFor p.me (world_in (end p) (now p))
 still p = subst (ReadyFor p.me) (sym (follows p).stands) (follows p).ready
 
-find-number : (t u key : List ℕ) → in_form t ≡ true → in_form u ≡ true → (g : Got) → got t key ≡ g → got u key ≡ g → find_number (find_of t key) ≡ find_number (find_of u key)
+find-number : (t u key : List ℕ) → in_form t ≡ true → in_form u ≡ true → (g : Option (List ℕ)) → got t key ≡ g → got u key ≡ g → find_number (find_of t key) ≡ find_number (find_of u key)
 find-number t u key f h None a b = ap find_number (held-is-found.missing t key f a ∙ sym (held-is-found.missing u key h b))
-find-number t u key f h (Has v) a b = ap find_number (held-is-found.found t key v f a).2 ∙ sym (ap find_number (held-is-found.found u key v h b).2)
+find-number t u key f h (Some v) a b = ap find_number (held-is-found.found t key v f a).2 ∙ sym (ap find_number (held-is-found.found u key v h b).2)
 
 find : (p q : Program) → SameOffers p q → (key : List ℕ) → returns p.me (end p) (host.find key) ≡ returns q.me (end q) (host.find key)
 find p q s key = find-number (end p).lent.records (end q).lent.records key (still p).good.records (still q).good.records _ ((two p q s).found key) refl

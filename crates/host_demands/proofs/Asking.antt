@@ -44,7 +44,7 @@ module _ (me : List ℕ) (S : Started me) (m : Memory) (h : History) (len : Enou
   enough : {A : Type 0} (x y : A) → lent peer_size me x y ≡ y
   enough x y = lent-enough peer_size me x y S.room
 
-  one_seen : (r : box.Result) (s : Seen) → s ≡ calls.result_seen r → map entry_seen (h.log ++ (box.called r ∷ [])) ≡ map entry_seen h.log ++ (s ∷ [])
+  one_seen : (r : box.Gave) (s : Seen) → s ≡ calls.result_seen r → map entry_seen (h.log ++ (box.called r ∷ [])) ≡ map entry_seen h.log ++ (s ∷ [])
   one_seen r s q = one-more-seen h.log (box.called r) ∙ ap (λ (x : Seen). map entry_seen h.log ++ (x ∷ [])) (sym q)
 
   -- ---- records

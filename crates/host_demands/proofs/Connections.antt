@@ -21,14 +21,12 @@ use Rattle.stream.specs.declared.Framing.{Framing}
 use Rattle.stream.specs.declared.Framing.TheVariants.{Shut, Prefix, Body}
 use Rattle.stream.specs.Stream.{in_form, end_in, end_of}
 use Rattle.stream.specs.declared.Ended as stream_end
-use Rattle.stream.specs.declared.Ending.{Ending}
-use Rattle.stream.specs.declared.Ending.TheVariants as ending
 use Rattle.connections.specs.declared.Opened.{Opened}
 use Rattle.connections.specs.declared.Ended.{Ended}
 use Rattle.connections.specs.Box as conns
 use Rattle.connections.specs.Box.{own_fits, nobody, open_of, conn_form, end_conn}
 use Rattle.node.specs.declared.Answer.{Answer}
-use Rattle.node.specs.declared.Answer.TheVariants.{Reply, Heard, Refused, More}
+use Rattle.node.specs.declared.Answer.TheVariants.{Reply, Heard, More}
 use Rattle.node.specs.declared.Received.{Received}
 use Rattle.flat.specs.Flat.{peer_size, conn_size, framing_at, conn_in, framing_bytes, conn_bytes, with_framing}
 use Rattle.flat.specs.Promises.{Whole}
@@ -36,6 +34,7 @@ use Rattle.flat.proofs.Back.{reads-back-lent}
 use Rattle.host_state.specs.State.{changes_nothing, ending_framing, ended_memory, answer_framing, received_memory}
 use Rattle.host.specs.Host.{lent, lent_both}
 use Rattle.demands.proofs.Refusals.{Raised, AnswerRaised}
+use Rattle.std.specs.Prelude.{Ok, Err, Result, ⊤}
 
 -- ---- memory that is long enough
 pub lent-enough : {A : Type 0} (n : ℕ) (s : List ℕ) (x y : A) → n ≤ length s → lent n s x y ≡ y
@@ -95,11 +94,11 @@ module _ (conn : List ℕ) (h : conn_size ≤ length conn) where
       stands : conn_in (with_framing conn f) ≡ g.conn
       stands = written f i ∙ e
 
-      go : (x : Answer) → AnswerRaised x → conn_in (answer_framing conn f x) ≡ g.conn
-      go (Reply n) a = stands
-      go (Heard n v) a = stands
-      go (Refused r) a = ap conn_in (cond_no (changes_nothing r) conn (with_framing conn f) (raised_writes r a)) ∙ stands
-      go More a = stands
+      go : (x : Result Answer Refusal) → AnswerRaised x → conn_in (answer_framing conn f x) ≡ g.conn
+      go (Ok (Reply n)) a = stands
+      go (Ok (Heard n v)) a = stands
+      go (Err r) a = ap conn_in (cond_no (changes_nothing r) conn (with_framing conn f) (raised_writes r a)) ∙ stands
+      go (Ok More) a = stands
 
   pub receive-length : (g : Received) → conn_size ≤ length (received_memory conn g)
   receive-length g = go g.answer
@@ -110,11 +109,11 @@ module _ (conn : List ℕ) (h : conn_size ≤ length conn) where
       wrote : conn_size ≤ length (with_framing conn f)
       wrote = written-length f
 
-      go : (x : Answer) → conn_size ≤ length (answer_framing conn f x)
-      go (Reply n) = wrote
-      go (Heard n v) = wrote
-      go (Refused r) = cond_ind (λ (x : List ℕ). conn_size ≤ length x) (changes_nothing r) conn (with_framing conn f) (λ e. h) (λ e. wrote)
-      go More = wrote
+      go : (x : Result Answer Refusal) → conn_size ≤ length (answer_framing conn f x)
+      go (Ok (Reply n)) = wrote
+      go (Ok (Heard n v)) = wrote
+      go (Err r) = cond_ind (λ (x : List ℕ). conn_size ≤ length x) (changes_nothing r) conn (with_framing conn f) (λ e. h) (λ e. wrote)
+      go (Ok More) = wrote
 
   -- end: 2 leaves the bytes alone, and the connection is shut
   end-in : (f : Framing) → (conn_in conn).framing ≡ f
@@ -143,6 +142,6 @@ module _ (conn : List ℕ) (h : conn_size ≤ length conn) where
       f : Framing
       f = e.conn.framing
 
-      go : (x : Ending) → conn_size ≤ length (ending_framing conn f x)
-      go ending.Clean = written-length f
-      go (ending.Refused r) = cond_ind (λ (x : List ℕ). conn_size ≤ length x) (changes_nothing r) conn (with_framing conn f) (λ e. h) (λ e. written-length f)
+      go : (x : Result ⊤ Refusal) → conn_size ≤ length (ending_framing conn f x)
+      go (Ok tt) = written-length f
+      go (Err r) = cond_ind (λ (x : List ℕ). conn_size ≤ length x) (changes_nothing r) conn (with_framing conn f) (λ e. h) (λ e. written-length f)

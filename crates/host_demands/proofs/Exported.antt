@@ -10,11 +10,9 @@ use lib.Dec.{ltb}
 use Rattle.octets.proofs.Stores.{get_d_sets_before}
 use Rattle.cutting.specs.World.{set_at}
 use Rattle.message.specs.View.{fields_of, reading_of}
-use Rattle.message.specs.declared.Reading.TheVariants.{Whole}
 use Rattle.message.specs.declared.Fields.{Fields}
 use Rattle.node.specs.declared.Answer.{Answer}
-use Rattle.node.specs.declared.Answer.TheVariants.{Reply, Heard, Refused, More}
-use Rattle.node.specs.declared.Sight.{Sight}
+use Rattle.node.specs.declared.Answer.TheVariants.{Reply, Heard, More}
 use Rattle.node.specs.declared.Received.{Received}
 use Rattle.flat.specs.Flat.{peer_size, conn_size, peer_in, conn_in}
 use Rattle.host_numbers.specs.Numbers.{view_numbers}
@@ -26,6 +24,9 @@ use Rattle.host_demands.specs.Calls.{Memory, with_lookup, kept, taken_by, length
 use Rattle.host_demands.specs.Hosted.{AsExported}
 use Rattle.host_demands.proofs.Numbers.{number_small}
 use Rattle.host_demands.proofs.Messages.{ViewFits, receive-view}
+use Rattle.std.specs.Prelude.{Ok, Err, Result, Option}
+use Rattle.refusal.specs.declared.Refusal.{Refusal}
+use Rattle.sightings.specs.declared.Sighting.{Sighting}
 
 -- the first two numbers of out, where it has room for them
 first_two : (out : List ℕ) (a b : ℕ) (r : List ℕ) → 2 ≤ length out → (get_or (sets out 0 (a ∷ b ∷ r)) 0 0 ≡ a) × (get_or (sets out 0 (a ∷ b ∷ r)) 1 0 ≡ b)
@@ -50,24 +51,24 @@ told-numbers me conn out g h = go (ltb (length me) peer_size) (ltb (length conn)
 view-there : (out : List ℕ) (a b c d : ℕ) (f : Fields) → 12 ≤ length out → take 8 (drop 4 (sets out 0 ((a ∷ b ∷ c ∷ d ∷ []) ++ view_numbers f))) ≡ view_numbers f
 view-there out a b c d f h = ap (λ (x : List ℕ). take 8 (drop 4 x)) (sets-eq ((a ∷ b ∷ c ∷ d ∷ []) ++ view_numbers f) out 0 (omega (arith, h)))
 
-told-view : (out buffer : List ℕ) (n : ℕ) (s : Sight) (x : Answer) → ViewFits x buffer → answer_number x ≡ 66
+told-view : (out buffer : List ℕ) (n : ℕ) (s : Option (Result Sighting Refusal)) (x : Result Answer Refusal) → ViewFits x buffer → answer_number x ≡ 66
     → let body = take (answer_length x) buffer in
-    (reading_of body ≡ Whole (fields_of body)) × (12 ≤ length out → take 8 (drop 4 (sets out 0 ((n ∷ answer_length x ∷ sight_number s ∷ sight_slot s ∷ []) ++ answer_view x))) ≡ view_numbers (fields_of body))
-told-view out buffer n s (Reply k) v e = absurd (omega (arith, e))
-told-view out buffer n s (Heard k f) v e = (v.0 ∙ ap Whole v.1, (λ h. view-there out n k (sight_number s) (sight_slot s) f h ∙ ap view_numbers v.1))
-told-view out buffer n s (Refused r) v e = absurd (omega (arith, e, number_small r))
-told-view out buffer n s More v e = absurd (omega (arith, e))
+    (reading_of body ≡ Ok (fields_of body)) × (12 ≤ length out → take 8 (drop 4 (sets out 0 ((n ∷ answer_length x ∷ sight_number s ∷ sight_slot s ∷ []) ++ answer_view x))) ≡ view_numbers (fields_of body))
+told-view out buffer n s (Ok (Reply k)) v e = absurd (omega (arith, e))
+told-view out buffer n s (Ok (Heard k f)) v e = (v.0 ∙ ap Ok v.1, (λ h. view-there out n k (sight_number s) (sight_slot s) f h ∙ ap view_numbers v.1))
+told-view out buffer n s (Err r) v e = absurd (omega (arith, e, number_small r))
+told-view out buffer n s (Ok More) v e = absurd (omega (arith, e))
 
 view-told : (me conn m out buffer : List ℕ) (g : Received) → ViewFits g.answer buffer → lent_both me conn 0 (answer_number g.answer) ≡ 66
     → let body = take (lent_both me conn 0 (answer_length g.answer)) (lent_both me conn m buffer) in
-    (reading_of body ≡ Whole (fields_of body)) × (12 ≤ length out → take 8 (drop 4 (lent_both me conn (nothing_taken out) (received_numbers out g)))
+    (reading_of body ≡ Ok (fields_of body)) × (12 ≤ length out → take 8 (drop 4 (lent_both me conn (nothing_taken out) (received_numbers out g)))
     ≡ view_numbers (fields_of body))
 unfolding lent
 view-told me conn m out buffer g v e = go (ltb (length me) peer_size) (ltb (length conn) conn_size) e
   where
     go : (p q : Bool) → cond p 0 (cond q 0 (answer_number g.answer)) ≡ 66
         → let body = take (cond p 0 (cond q 0 (answer_length g.answer))) (cond p m (cond q m buffer)) in
-        (reading_of body ≡ Whole (fields_of body)) × (12 ≤ length out → take 8 (drop 4 (cond p (nothing_taken out) (cond q (nothing_taken out) (received_numbers out g))))
+        (reading_of body ≡ Ok (fields_of body)) × (12 ≤ length out → take 8 (drop 4 (cond p (nothing_taken out) (cond q (nothing_taken out) (received_numbers out g))))
         ≡ view_numbers (fields_of body))
     go true q z = absurd (omega (arith, z))
     go false true z = absurd (omega (arith, z))
@@ -110,7 +111,7 @@ as-exported me m =
           let n : ℕ = length_by me m i piece in
           let v = view-told me (m.conns i) (m.buffers i) out (received_by me m i piece).buffer (received_by me m i piece).got
           (receive-view (peer_in me) (linked (conn_in (m.conns i)) (m.buffers i)) piece m.lent) (sym c.code ∙ q) in (
-            subst (λ (b : List ℕ). reading_of (take n b) ≡ Whole (fields_of (take n b))) (sym c.buffer) v.0,
+            subst (λ (b : List ℕ). reading_of (take n b) ≡ Ok (fields_of (take n b))) (sym c.buffer) v.0,
             (λ l. ap (λ (x : List ℕ). take 8 (drop 4 x)) c.numbers ∙ v.1 l ∙ ap (λ (x : List ℕ). view_numbers (fields_of (take n x))) (sym c.buffer)),
           );
       start = λ j key limit out r l' out' c. (c.code, ap (with_lookup m j) c.memory, c.numbers);

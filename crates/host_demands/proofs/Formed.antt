@@ -13,29 +13,16 @@ use Rattle.sightings.specs.declared.Sighting.{Sighting}
 use Rattle.sightings.specs.declared.Sighting.TheVariants as seen
 use Rattle.sightings.specs.declared.Settled.{Settled}
 use Rattle.sightings.specs.declared.Settled.TheVariants as settle
-use Rattle.sightings.specs.declared.Removed.{Removed}
-use Rattle.sightings.specs.declared.Doubted.{Doubted}
-use Rattle.sightings.specs.declared.Removed.TheVariants as remove
-use Rattle.sightings.specs.declared.Doubted.TheVariants as doubt
-use Rattle.records.specs.declared.Answer as stored
-use Rattle.records.specs.declared.Answer.TheVariants as put
-use Rattle.records.specs.declared.Found.{Found}
-use Rattle.records.specs.declared.Found.TheVariants as found
-use Rattle.message.specs.declared.Reading.TheVariants as reading
 use Rattle.lookup.specs.Value.{Lookup, Step}
 use Rattle.lookup.specs.declared.Answer as lookup
 use Rattle.lookup.specs.declared.Answer.TheVariants as steps
 use Rattle.lookup_runs.specs.Runs.{accepted, Call, go_next, go_reply, go_fail, step, outcome}
 use Rattle.lookup_runs.specs.Claims.{Viewed}
-use Rattle.stream.specs.declared.Ending.{Ending}
-use Rattle.stream.specs.declared.Ending.TheVariants as ending
 use Rattle.cutting.specs.World.{World}
 use Rattle.connections.specs.declared.Opened.{Opened}
-use Rattle.connections.specs.declared.Told.{Told}
-use Rattle.connections.specs.declared.Told.TheVariants as told
 use Rattle.connections.specs.Box.{own_fits, open_of}
 use Rattle.node.specs.declared.Answer.{Answer}
-use Rattle.node.specs.declared.Answer.TheVariants.{Reply, Heard, Refused, More}
+use Rattle.node.specs.declared.Answer.TheVariants.{Reply, Heard, More}
 use Rattle.flat.specs.Flat.{peer_size, peer_in, says_yes}
 use Rattle.flat_lookup.specs.FlatLookup.{flat_size, lookup_in}
 use Rattle.host_calls.specs.Hosts.{own_id, lookup_start, lookup_reply, lookup_failure}
@@ -56,57 +43,59 @@ use Rattle.host_demands.proofs.Connections.{lent-enough, both-enough}
 use Rattle.host_demands.proofs.Asking.{long-enough, view-back}
 use Rattle.host_demands.proofs.Running.{all-calls}
 use Rattle.host_demands.proofs.Traced.{lookup-bytes-are-runs}
+use Rattle.std.specs.Prelude.{Ok, Err, Some, None, Result, Option, ⊤}
+use Rattle.records.specs.declared.Held.{Held}
 
 -- ---- what 0 says
-seen-zero : (x : Sighting) → seen_number x ≡ 0 → x ≡ seen.Refused OutOfForm
-seen-zero (seen.Moved i) e = absurd (omega (arith, e))
-seen-zero (seen.Joined i) e = absurd (omega (arith, e))
-seen-zero (seen.Probe h) e = absurd (omega (arith, e))
-seen-zero (seen.Refused r) e = ap seen.Refused (number-zero r e)
+seen-zero : (x : Result Sighting Refusal) → seen_number x ≡ 0 → x ≡ Err OutOfForm
+seen-zero (Ok (seen.Moved i)) e = absurd (omega (arith, e))
+seen-zero (Ok (seen.Joined i)) e = absurd (omega (arith, e))
+seen-zero (Ok (seen.Probe h)) e = absurd (omega (arith, e))
+seen-zero (Err r) e = ap Err (number-zero r e)
 
-settle-zero : (x : Settled) → settle_number x ≡ 0 → x ≡ settle.Refused OutOfForm
-settle-zero settle.Kept e = absurd (omega (arith, e))
-settle-zero settle.Swapped e = absurd (omega (arith, e))
-settle-zero (settle.Refused r) e = ap settle.Refused (number-zero r e)
+settle-zero : (x : Result Settled Refusal) → settle_number x ≡ 0 → x ≡ Err OutOfForm
+settle-zero (Ok settle.Kept) e = absurd (omega (arith, e))
+settle-zero (Ok settle.Swapped) e = absurd (omega (arith, e))
+settle-zero (Err r) e = ap Err (number-zero r e)
 
-remove-zero : (x : Removed) → remove_number x ≡ 0 → x ≡ remove.Refused OutOfForm
-remove-zero remove.Gone e = absurd (omega (arith, e))
-remove-zero (remove.Refused r) e = ap remove.Refused (number-zero r e)
+remove-zero : (x : Result ⊤ Refusal) → remove_number x ≡ 0 → x ≡ Err OutOfForm
+remove-zero (Ok tt) e = absurd (omega (arith, e))
+remove-zero (Err r) e = ap Err (number-zero r e)
 
-doubt-zero : (x : Doubted) → doubt_number x ≡ 0 → x ≡ doubt.Refused OutOfForm
-doubt-zero doubt.Marked e = absurd (omega (arith, e))
-doubt-zero (doubt.Refused r) e = ap doubt.Refused (number-zero r e)
+doubt-zero : (x : Result ⊤ Refusal) → doubt_number x ≡ 0 → x ≡ Err OutOfForm
+doubt-zero (Ok tt) e = absurd (omega (arith, e))
+doubt-zero (Err r) e = ap Err (number-zero r e)
 
-told-zero : (x : Told) → told_code x ≡ 0 → x ≡ told.Refused OutOfForm
-told-zero told.Fine e = absurd (omega (arith, e))
-told-zero (told.Refused r) e = ap told.Refused (number-zero r e)
+told-zero : (x : Result ⊤ Refusal) → told_code x ≡ 0 → x ≡ Err OutOfForm
+told-zero (Ok tt) e = absurd (omega (arith, e))
+told-zero (Err r) e = ap Err (number-zero r e)
 
-put-zero : (x : stored.Answer) → put_number x ≡ 0 → x ≡ put.Refused OutOfForm
-put-zero put.Taken e = absurd (omega (arith, e))
-put-zero (put.Refused r) e = ap put.Refused (number-zero r e)
+put-zero : (x : Result ⊤ Refusal) → put_number x ≡ 0 → x ≡ Err OutOfForm
+put-zero (Ok tt) e = absurd (omega (arith, e))
+put-zero (Err r) e = ap Err (number-zero r e)
 
-find-zero : (x : Found) → find_number x ≡ 0 → x ≡ found.Refused OutOfForm
-find-zero (found.Held a b) e = absurd (omega (arith, e))
-find-zero found.NotHeld e = absurd (omega (arith, e))
-find-zero (found.Refused r) e = ap found.Refused (number-zero r e)
+find-zero : (x : Result (Option Held) Refusal) → find_number x ≡ 0 → x ≡ Err OutOfForm
+find-zero (Ok (Some h)) e = absurd (omega (arith, e))
+find-zero (Ok None) e = absurd (omega (arith, e))
+find-zero (Err r) e = ap Err (number-zero r e)
 
-step-zero : (x : lookup.Answer) → step_number x ≡ 0 → x ≡ steps.Refused OutOfForm
-step-zero (steps.Refused r) e = ap steps.Refused (number-zero r e)
-step-zero (steps.Complete n) e = absurd (omega (arith, e))
-step-zero (steps.CutShort n) e = absurd (omega (arith, e))
-step-zero steps.Wait e = absurd (omega (arith, e))
-step-zero (steps.Ask i) e = absurd (omega (arith, e))
-step-zero steps.Going e = absurd (omega (arith, e))
+step-zero : (x : Result lookup.Answer Refusal) → step_number x ≡ 0 → x ≡ Err OutOfForm
+step-zero (Err r) e = ap Err (number-zero r e)
+step-zero (Ok (steps.Complete n)) e = absurd (omega (arith, e))
+step-zero (Ok (steps.CutShort n)) e = absurd (omega (arith, e))
+step-zero (Ok steps.Wait) e = absurd (omega (arith, e))
+step-zero (Ok (steps.Ask i)) e = absurd (omega (arith, e))
+step-zero (Ok steps.Going) e = absurd (omega (arith, e))
 
-end-zero : (x : Ending) → ending_code x ≡ 0 → x ≡ ending.Refused OutOfForm
-end-zero ending.Clean e = absurd (omega (arith, e))
-end-zero (ending.Refused r) e = ap ending.Refused (number-zero r e)
+end-zero : (x : Result ⊤ Refusal) → ending_code x ≡ 0 → x ≡ Err OutOfForm
+end-zero (Ok tt) e = absurd (omega (arith, e))
+end-zero (Err r) e = ap Err (number-zero r e)
 
-answer-zero : (x : Answer) → answer_number x ≡ 0 → x ≡ Refused OutOfForm
-answer-zero (Reply n) e = absurd (omega (arith, e))
-answer-zero (Heard n f) e = absurd (omega (arith, e))
-answer-zero (Refused r) e = ap Refused (number-zero r e)
-answer-zero More e = absurd (omega (arith, e))
+answer-zero : (x : Result Answer Refusal) → answer_number x ≡ 0 → x ≡ Err OutOfForm
+answer-zero (Ok (Reply n)) e = absurd (omega (arith, e))
+answer-zero (Ok (Heard n f)) e = absurd (omega (arith, e))
+answer-zero (Err r) e = ap Err (number-zero r e)
+answer-zero (Ok More) e = absurd (omega (arith, e))
 
 -- an open gives 64 or 12
 open-never : (me : Peer) (id : List ℕ) (server asking : Bool) (addresses : List ℕ) → told_code (open_of me id server asking addresses).told ≡ 0 → ⊥
@@ -115,13 +104,13 @@ open-never me id server asking addresses =
     cond_ind (λ (o : Opened). told_code o.told ≡ 0 → ⊥) (not (own_fits me) || bad_peer me.place id) _ _ (λ e z. omega (arith, z)) (λ e z. omega (arith, z))
 
 -- a start that isn't accepted is refused
-not-accepted : (x : lookup.Answer) → accepted x ≡ false → (r : Refusal) × (x ≡ steps.Refused r)
-not-accepted (steps.Refused r) e = (r, refl)
-not-accepted (steps.Complete n) e = absurd (true≢false e)
-not-accepted (steps.CutShort n) e = absurd (true≢false e)
-not-accepted steps.Wait e = absurd (true≢false e)
-not-accepted (steps.Ask i) e = absurd (true≢false e)
-not-accepted steps.Going e = absurd (true≢false e)
+not-accepted : (x : Result lookup.Answer Refusal) → accepted x ≡ false → (r : Refusal) × (x ≡ Err r)
+not-accepted (Err r) e = (r, refl)
+not-accepted (Ok (steps.Complete n)) e = absurd (true≢false e)
+not-accepted (Ok (steps.CutShort n)) e = absurd (true≢false e)
+not-accepted (Ok steps.Wait) e = absurd (true≢false e)
+not-accepted (Ok (steps.Ask i)) e = absurd (true≢false e)
+not-accepted (Ok steps.Going) e = absurd (true≢false e)
 
 module _ (me : List ℕ) (S : Started me) where
   abbrev us : Peer
@@ -184,7 +173,7 @@ module _ (me : List ℕ) (S : Started me) where
             record {
               next = λ e. no go_next tt (sym next ∙ e);
               failure = λ id e. no (go_fail (own_id us) us.place id) tt (sym (failure id) ∙ e);
-              reply = λ id body v q e. no (go_reply (own_id us) us.place id body (view_in (view_numbers v))) (q ∙ ap reading.Whole (sym (view-back me S n h' g.enough v))) (sym (reply id body (view_numbers v)) ∙ e);
+              reply = λ id body v q e. no (go_reply (own_id us) us.place id body (view_in (view_numbers v))) (q ∙ ap Ok (sym (view-back me S n h' g.enough v))) (sym (reply id body (view_numbers v)) ∙ e);
             };
         empty = λ a.
             let z : (c : Call) → step_number (step c (outcome step s x.calls).lookup).answer ≡ 0 =

@@ -22,7 +22,7 @@ use Rattle.cutting.proofs.Order.{here_back, back-back}
 use Rattle.cutting.proofs.World.{Well, play, play-append, play-shut, play-nil, handed-play}
 use Rattle.connections.specs.declared.Conn.{Conn}
 use Rattle.node.specs.declared.Answer.{Answer}
-use Rattle.node.specs.declared.Answer.TheVariants.{Reply, Heard, Refused, More}
+use Rattle.node.specs.declared.Answer.TheVariants.{Reply, Heard, More}
 use Rattle.node.specs.Node.{linked, Out}
 use Rattle.flat.specs.Flat.{peer_in, conn_in}
 use Rattle.host_state.specs.State.{answer_number}
@@ -39,6 +39,7 @@ use Rattle.host_demands.proofs.Connections.{both-enough}
 use Rattle.cutting.proofs.Once.{one-call}
 use Rattle.host_demands.proofs.Running.{follows}
 use Rattle.host_demands.proofs.Receiving.{got-nothing}
+use Rattle.std.specs.Prelude.{Ok, Err, Result}
 
 module _ (me : List ℕ) (S : Started me) where
   abbrev us : Peer
@@ -112,7 +113,7 @@ module _ (me : List ℕ) (S : Started me) where
           let all : length piece ≤ got.got.taken = omega (arith, taken-run, run-all piece now.line.framing now.line.buffer (sym more-run ∙ e)) in
           drop_of_length-le piece all
 
-      shut-after : (r : Refusal) → got.got.answer ≡ Refused r → is_shut (play (box us) i now (take got.got.taken piece)).line.framing ≡ true
+      shut-after : (r : Refusal) → got.got.answer ≡ Err r → is_shut (play (box us) i now (take got.got.taken piece)).line.framing ≡ true
       shut-after r e =
           ap (λ (d : Did (Line Who) (Shared Box Ask)). is_shut d.line.framing)
           (sym (handed-play (box us) (sound us S.own) i now (take got.got.taken piece) well) ∙ one-call (box us) (sound us S.own) i now piece well going)
@@ -129,11 +130,11 @@ module _ (me : List ℕ) (S : Started me) where
           d : Did (Line Who) (Shared Box Ask)
           d = play (box us) i now (take n piece)
 
-          go : (x : Answer) → got.got.answer ≡ x → goes_on (answer_number x) ≡ false → d ≡ play (box us) i now piece
-          go (Reply k) e z = absurd (true≢false z)
-          go (Heard k f) e z = absurd (true≢false z)
-          go (Refused r) e z = sym (two-parts n ∙ play-shut (box us) i d (drop n piece) (shut-after r e))
-          go More e z = sym (two-parts n ∙ ap (play (box us) i d) (none (ap is_more e)) ∙ play-nil (box us) i d)
+          go : (x : Result Answer Refusal) → got.got.answer ≡ x → goes_on (answer_number x) ≡ false → d ≡ play (box us) i now piece
+          go (Ok (Reply k)) e z = absurd (true≢false z)
+          go (Ok (Heard k f)) e z = absurd (true≢false z)
+          go (Err r) e z = sym (two-parts n ∙ play-shut (box us) i d (drop n piece) (shut-after r e))
+          go (Ok More) e z = sym (two-parts n ∙ ap (play (box us) i d) (none (ap is_more e)) ∙ play-nil (box us) i d)
 
       shorter-open : (f : ℕ) → goes_on (answer_number got.got.answer) ≡ true → length piece < suc f → length (drop got.got.taken piece) < f
       shorter-open f z l = go got.got.answer refl z
@@ -141,11 +142,11 @@ module _ (me : List ℕ) (S : Started me) where
           left : is_more got.got.answer ≡ false → length (drop got.got.taken piece) < f
           left e = omega (arith, l, some e, within, length-drop got.got.taken piece)
 
-          go : (x : Answer) → got.got.answer ≡ x → goes_on (answer_number x) ≡ true → length (drop got.got.taken piece) < f
-          go (Reply k) e z = left (ap is_more e)
-          go (Heard k g) e z = left (ap is_more e)
-          go (Refused r) e z = absurd (true≢false (sym z ∙ or-fails _ _ (ne_eqb (number_of r) 65 (λ q. omega (arith, q, number_small r))) (ne_eqb (number_of r) 66 (λ q. omega (arith, q, number_small r)))))
-          go More e z = absurd (true≢false (sym z))
+          go : (x : Result Answer Refusal) → got.got.answer ≡ x → goes_on (answer_number x) ≡ true → length (drop got.got.taken piece) < f
+          go (Ok (Reply k)) e z = left (ap is_more e)
+          go (Ok (Heard k g)) e z = left (ap is_more e)
+          go (Err r) e z = absurd (true≢false (sym z ∙ or-fails _ _ (ne_eqb (number_of r) 65 (λ q. omega (arith, q, number_small r))) (ne_eqb (number_of r) 66 (λ q. omega (arith, q, number_small r)))))
+          go (Ok More) e z = absurd (true≢false (sym z))
 
     -- ---- on any
     stops : goes_on (receive_code me m i piece) ≡ false → played world i (take (taken_by me m i piece) piece) ≡ played world i piece

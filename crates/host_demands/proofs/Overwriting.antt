@@ -9,16 +9,16 @@ use lib.Seq.{sets, sets-eq, length-sets, take_at, drop_at, drop-drop}
 use Rattle.octets.proofs.Bools.{cond_ind}
 use Rattle.octets.proofs.Stores.{take-sets, drop-sets}
 use Rattle.stream.specs.declared.Framing.{Framing}
-use Rattle.stream.specs.declared.Ending.{Ending}
-use Rattle.stream.specs.declared.Ending.TheVariants as ending
 use Rattle.stream.specs.Stream.{in_form}
 use Rattle.node.specs.declared.Answer.{Answer}
-use Rattle.node.specs.declared.Answer.TheVariants.{Reply, Heard, Refused, More}
+use Rattle.node.specs.declared.Answer.TheVariants.{Reply, Heard, More}
 use Rattle.connections.specs.declared.Conn.{Conn}
 use Rattle.flat.specs.Flat.{conn_size, framing_at, conn_in, peer_bytes, framing_bytes, bit, conn_bytes, with_framing}
 use Rattle.flat.specs.Promises.{Whole}
 use Rattle.flat.proofs.Back.{sizes, reads-back-lent}
 use Rattle.host_state.specs.State.{changes_nothing, answer_framing, ending_framing}
+use Rattle.std.specs.Prelude.{Ok, Err, Result, ⊤}
+use Rattle.refusal.specs.declared.Refusal.{Refusal}
 
 -- ---- stores
 pub over : (l : List ℕ) (i : ℕ) (a b : List ℕ) → length a ≡ length b → i + length b ≤ length l → sets (sets l i a) i b ≡ sets l i b
@@ -118,12 +118,12 @@ open-apart b d c h g w a =
     sets-eq (conn_bytes c) b 0 (omega arith) ∙ ap (λ (x : List ℕ). conn_bytes c ++ x) same ∙ sym (sets-eq (conn_bytes c) d 0 (omega arith))
 
 -- what receive and end write
-pub answer-touched : (b : List ℕ) (f : Framing) (x : Answer) → in_form f ≡ true → Touched b (answer_framing b f x)
-answer-touched b f (Reply n) i = framed f i refl
-answer-touched b f (Heard n v) i = framed f i refl
-answer-touched b f (Refused r) i = cond_ind (Touched b) (changes_nothing r) b (with_framing b f) (λ e. left refl) (λ e. framed f i refl)
-answer-touched b f More i = framed f i refl
+pub answer-touched : (b : List ℕ) (f : Framing) (x : Result Answer Refusal) → in_form f ≡ true → Touched b (answer_framing b f x)
+answer-touched b f (Ok (Reply n)) i = framed f i refl
+answer-touched b f (Ok (Heard n v)) i = framed f i refl
+answer-touched b f (Err r) i = cond_ind (Touched b) (changes_nothing r) b (with_framing b f) (λ e. left refl) (λ e. framed f i refl)
+answer-touched b f (Ok More) i = framed f i refl
 
-pub ending-touched : (b : List ℕ) (f : Framing) (x : Ending) → in_form f ≡ true → Touched b (ending_framing b f x)
-ending-touched b f ending.Clean i = framed f i refl
-ending-touched b f (ending.Refused r) i = cond_ind (Touched b) (changes_nothing r) b (with_framing b f) (λ e. left refl) (λ e. framed f i refl)
+pub ending-touched : (b : List ℕ) (f : Framing) (x : Result ⊤ Refusal) → in_form f ≡ true → Touched b (ending_framing b f x)
+ending-touched b f (Ok tt) i = framed f i refl
+ending-touched b f (Err r) i = cond_ind (Touched b) (changes_nothing r) b (with_framing b f) (λ e. left refl) (λ e. framed f i refl)

@@ -4,7 +4,6 @@ use mathlib.Core.Path.{◌≡◌, refl, sym, ap, ◌∙◌, subst}
 use mathlib.Core.Logic.{⊎_elim}
 use mathlib.Core.Bool.{Bool, true, false, cond, not}
 use mathlib.Core.List.{List, [], ◌∷◌, ◌++◌, map}
-use mathlib.Core.Option.{none, some}
 use native.Mathlib.Omega.{arith}
 use lib.ListN.{length, get_or, take, drop, length-take, length-map, take-append-drop, drop_of_length-le, get_or-map}
 use lib.Seq.{sets, sets-eq, length-sets, take_all, length-take-le}
@@ -16,15 +15,11 @@ use Rattle.limits.specs.Limits.{least_reply}
 use Rattle.wire.specs.Wire.{fields, fields_at, fields_in, spans, first_of, nowhere}
 use Rattle.wire.specs.Items.{cut}
 use Rattle.wire.specs.declared.Span.{Span}
-use Rattle.wire.specs.declared.Found.{Found}
-use Rattle.wire.specs.declared.Found.TheVariants.{At, Nothing}
 use Rattle.wire.proofs.Scan.{walk_at, walk_inside}
 use Rattle.message.specs.Message.{Message, message_of, decode, encode, frame}
 use Rattle.message.specs.View.{fields_of, reading_of, id_at, addresses_at, connection_at, closer_at, providers_at, meant, held_meant, peer_meant}
 use Rattle.message.specs.Claims.{Cuttable, FieldsIn}
 use Rattle.message.specs.declared.Fields.{Fields}
-use Rattle.message.specs.declared.Reading.{Reading}
-use Rattle.message.specs.declared.Reading.TheVariants.{Whole, Refused}
 use Rattle.message.proofs.Claims.{claims}
 use Rattle.message.proofs.Meaning.{closer-meant, providers-meant}
 use Rattle.message.proofs.Views.{read_whole}
@@ -32,8 +27,6 @@ use Rattle.peer_walk.specs.PeerWalk.{most_places, places_of, told_at}
 use Rattle.peer_walk.proofs.Places.{places-length, place_at, place_none}
 use Rattle.pieces.specs.Writable.{writable}
 use Rattle.round_trip.proofs.Written.{written-is-read}
-use Rattle.writer.specs.declared.Written.{Written}
-use Rattle.writer.specs.declared.Written.TheVariants as written
 use Rattle.writer.specs.Writer.{answer_of, out_after}
 use Rattle.refusal.specs.declared.Refusal.TheVariants.{SmallBuffer, Unwritable}
 use Rattle.connections.specs.Box.{nobody}
@@ -45,13 +38,15 @@ use Rattle.demands.proofs.Leaving.{refused-leaves}
 use Rattle.demands.proofs.Hearing as demands
 use Rattle.demands.proofs.Deal.{decoded}
 use Rattle.host_demands.specs.Messages.{IsPart, RecordShown, Shows, ReadAs, ReadTold, AddressGiven, Addresses, PeerGiven, Peers, PeersTold, WrittenAs, WriteTold, MessagesCross}
+use Rattle.std.specs.Prelude.{Ok, Err, Some, None, Result, Option}
+use Rattle.refusal.specs.declared.Refusal.{Refusal}
 
 -- ---- the eight numbers of a view
 cut-is : (s : List ℕ) (p : Span) → Cuttable (length s) p → IsPart s p.at p.end (cut s p)
 cut-is s p c = record { ordered = c.ordered; inside = c.ends; says = refl }
 
 held-shown : (s : List ℕ) (a b c : ℕ) (there : Bool) (k v : Span) (rest : List ℕ) → Cuttable (length s) k → Cuttable (length s) v
-    → RecordShown s (a ∷ b ∷ c ∷ cond there 1 0 ∷ k.at ∷ k.end ∷ v.at ∷ v.end ∷ rest) (cond there (some (record { key = cut s k; value = cut s v })) none)
+    → RecordShown s (a ∷ b ∷ c ∷ cond there 1 0 ∷ k.at ∷ k.end ∷ v.at ∷ v.end ∷ rest) (cond there (Some (record { key = cut s k; value = cut s v })) None)
 held-shown s a b c true k v rest i j = (refl, cut-is s k i, cut-is s v j)
 held-shown s a b c false k v rest i j = refl
 
@@ -68,12 +63,12 @@ view-shown : (s : List ℕ) (f : Fields) (m : Message) (out : List ℕ) → Fiel
 view-shown s f m out i e h =
     subst (Shows s m) (sym (sets-eq (view_numbers f) out 0 (omega (arith, h)))) (subst (λ (x : Message). Shows s x (view_numbers f ++ drop 8 out)) e (shown s f (drop 8 out) i))
 
-read_as : (s : List ℕ) (f : Fields) (m : Message) → reading_of s ≡ Whole f → meant s f ≡ m → ReadAs s m
+read_as : (s : List ℕ) (f : Fields) (m : Message) → reading_of s ≡ Ok f → meant s f ≡ m → ReadAs s m
 read_as s f m e q =
     record {
       number = ap read_number e;
-      shows = λ out h. subst (λ (r : Reading). Shows s m (read_numbers out r)) (sym e) (view-shown s f m out (claims.inside s f e) q h);
-      rest = λ out. ap (λ (r : Reading). drop 8 (read_numbers out r)) e ∙ drop-sets 8 out 0 (view_numbers f) (omega arith);
+      shows = λ out h. subst (λ (r : Result Fields Refusal). Shows s m (read_numbers out r)) (sym e) (view-shown s f m out (claims.inside s f e) q h);
+      rest = λ out. ap (λ (r : Result Fields Refusal). drop 8 (read_numbers out r)) e ∙ drop-sets 8 out 0 (view_numbers f) (omega arith);
     }
 
 -- what can be written is read as it was
@@ -81,9 +76,9 @@ pub written-reads : (m : Message) → writable m ≡ true → ReadAs (encode m) 
 written-reads m e = let r = written-is-read m e in read_as (encode m) (fields_of (encode m)) m r.whole r.says
 
 module _ (s : List ℕ) where
-  left_alone : (r : Reading) → read_number r < 64 → (out : List ℕ) → read_numbers out r ≡ out
-  left_alone (Whole f) h out = absurd (omega (arith, h))
-  left_alone (Refused r) h out = refl
+  left_alone : (r : Result Fields Refusal) → read_number r < 64 → (out : List ℕ) → read_numbers out r ≡ out
+  left_alone (Ok f) h out = absurd (omega (arith, h))
+  left_alone (Err r) h out = refl
 
   read_told : ReadTold s
   read_told =
@@ -113,7 +108,7 @@ same_rest : (p : Span) (k l : List Span) → p ∷ k ≡ p ∷ l → k ≡ l
 same_rest p k l e = cc
 
 module _ (s : List ℕ) where
-  address-given : (f : Found) (p : Span) → f ≡ At p → Cuttable (length s) p → AddressGiven s f p (cut s p)
+  address-given : (f : Option Span) (p : Span) → f ≡ Some p → Cuttable (length s) p → AddressGiven s f p (cut s p)
   address-given f p e c =
       record {
         number = ap part_number e;
@@ -177,7 +172,7 @@ module _ (s : List ℕ) where
         ∙ ap (λ (n : ℕ). take (length out) (told (length l)) ++ drop n out) k
         ∙ ap (λ (n : ℕ). take (length out) (told n) ++ drop 22 out) (sym (length-map l (cut s)))
 
-  peer-given : (f : Found) (p : Span) → f ≡ At p → Cuttable (length s) p → PeerGiven s f p (peer_meant s p)
+  peer-given : (f : Option Span) (p : Span) → f ≡ Some p → Cuttable (length s) p → PeerGiven s f p (peer_meant s p)
   unfolding peer_meant addresses_at fields_in
   peer-given f p e c =
       record {
@@ -198,14 +193,14 @@ module _ (s : List ℕ) where
       → Peers s list from (map (peer_meant s) l)
   unfolding Peers first_of
   peers-given list f g [] from e =
-      let q : entry_from s list from ≡ Nothing = g from ∙ ap first_of e in
+      let q : entry_from s list from ≡ None = g from ∙ ap first_of e in
       (ap part_number q, (λ out. ap (peer_numbers out s) q))
   peers-given list f g (p ∷ l) from e =
       let i = walk_inside s f from p (ap first_of e) in
       let on : spans f (fields_at s p.end) ≡ l = same_rest p _ l (sym (walk_at s f from p (ap first_of e)) ∙ e) in
       (p, peer-given (entry_from s list from) p (g from ∙ ap first_of e) (record { ordered = i.ordered; ends = i.ends }), peers-given list f g l p.end on)
 
-  peers-told : (m : Message) → decode s ≡ some m → PeersTold s m
+  peers-told : (m : Message) → decode s ≡ Some m → PeersTold s m
   unfolding entry_from closer_at providers_at fields
   peers-told m e =
       let d : message_of s ≡ m = decoded s m e in
@@ -220,7 +215,7 @@ first-number : (out : List ℕ) (n : ℕ) → 1 ≤ length out → get_or (sets 
 first-number out n h = ap (λ (x : List ℕ). get_or x 0 0) (sets-eq (n ∷ []) out 0 (omega (arith, h)))
 
 module _ (y : List ℕ) (m : Message) where
-  small : length y < least_reply → (answer_of y m ≡ written.Refused SmallBuffer) × (out_after y m ≡ y)
+  small : length y < least_reply → (answer_of y m ≡ Err SmallBuffer) × (out_after y m ≡ y)
   unfolding answer_of out_after
   small h = let e = lt-ltb (length y) least_reply h in (cond_yes _ _ _ e, cond_yes _ _ _ e)
 
@@ -228,11 +223,11 @@ module _ (y : List ℕ) (m : Message) where
     enough : ltb (length y) least_reply ≡ false
     enough = le-ltb (length y) least_reply h
 
-    over : writable m ≡ false → (answer_of y m ≡ written.Refused Unwritable) × (out_after y m ≡ y)
+    over : writable m ≡ false → (answer_of y m ≡ Err Unwritable) × (out_after y m ≡ y)
     unfolding answer_of out_after
     over e = (cond_no _ _ _ enough ∙ cond_yes _ _ _ (not-no _ e), cond_no _ _ _ enough ∙ cond_yes _ _ _ (not-no _ e))
 
-    done : writable m ≡ true → answer_of y m ≡ written.Done (length (frame (encode m)))
+    done : writable m ≡ true → answer_of y m ≡ Ok (length (frame (encode m)))
     unfolding answer_of
     done e = cond_no _ _ _ enough ∙ cond_no _ _ _ (not_yes _ e)
 
@@ -241,14 +236,14 @@ module _ (y : List ℕ) (m : Message) where
         let d = done e in
         record {
           number = ap write_number d;
-          stands = λ out l. subst (Writes m y) (sym (ap (λ (w : Written). get_or (write_numbers out w) 0 0) d ∙ first-number out (length (frame (encode m))) l))
+          stands = λ out l. subst (Writes m y) (sym (ap (λ (w : Result ℕ Refusal). get_or (write_numbers out w) 0 0) d ∙ first-number out (length (frame (encode m))) l))
               (demands.written y m (length (frame (encode m))) d);
           reads = written-reads m e;
         }
 
-  write-left : (a : Written) → answer_of y m ≡ a → write_number a < 64 → (out_after y m ≡ y) × ((out : List ℕ) → write_numbers out a ≡ out)
-  write-left (written.Done n) e h = absurd (omega (arith, h))
-  write-left (written.Refused r) e h = ((refused-leaves nobody).write y m r e, λ out. refl)
+  write-left : (a : Result ℕ Refusal) → answer_of y m ≡ a → write_number a < 64 → (out_after y m ≡ y) × ((out : List ℕ) → write_numbers out a ≡ out)
+  write-left (Ok n) e h = absurd (omega (arith, h))
+  write-left (Err r) e h = ((refused-leaves nobody).write y m r e, λ out. refl)
 
   write-told : WriteTold y m
   write-told =

@@ -15,18 +15,14 @@ use Rattle.refusal.specs.declared.Refusal.TheVariants as no
 use Rattle.refusal.specs.Refusal.{number_of}
 use Rattle.records_history.specs.History.{Offer}
 use Rattle.peer.specs.declared.Peer.{Peer}
-use Rattle.stream.specs.declared.Answer as stream
 use Rattle.stream.specs.Stream as streams
 use Rattle.stream.specs.Stream.{is_shut, receive_of as framed_of}
 use Rattle.cutting.specs.World.{Did, Line, Shared, World, Mark, happened, Called, hand, call, here, put_back, set_at, answered, handed}
 use Rattle.cutting.proofs.World.{Well}
 use Rattle.replies.specs.Lent.{Lent}
 use Rattle.connections.specs.declared.Conn.{Conn}
-use Rattle.node.specs.declared.Gate.{Gate}
-use Rattle.node.specs.declared.Sight.{Sight}
-use Rattle.node.specs.declared.Sight.TheVariants.{NotSeen}
 use Rattle.node.specs.declared.Answer.{Answer}
-use Rattle.node.specs.declared.Answer.TheVariants.{Reply, Heard, Refused, More}
+use Rattle.node.specs.declared.Answer.TheVariants.{Reply, Heard, More}
 use Rattle.node.specs.Node.{linked, Out, by_event, received, unless, taken_of, receive_of}
 use Rattle.flat.specs.Flat.{conn_size, peer_in, conn_in}
 use Rattle.host_state.specs.State.{changes_nothing, answer_number, answer_length, answer_view, sight_number, sight_slot, received_numbers, received_memory, nothing_taken}
@@ -48,36 +44,38 @@ use Rattle.host_demands.proofs.Overwriting.{Touched, left, answer-touched}
 use Rattle.host_demands.proofs.Connections.{both-enough, receive-reads, receive-length}
 use Rattle.cutting.proofs.Once.{one-call, one-fine, no_call}
 use Rattle.host_demands.proofs.Standing.{put-stands, one-more-seen}
+use Rattle.std.specs.Prelude.{Ok, Err, None, Result, Option, ⊤}
+use Rattle.sightings.specs.declared.Sighting.{Sighting}
 
 -- ---- what an answer does to what is shared
-module _ (i at : ℕ) (s : Sight) (body : List ℕ) (l : Lent) (os : List Offer) (a : Box) where
-  abbrev after : Answer → Box
+module _ (i at : ℕ) (s : Option (Result Sighting Refusal)) (body : List ℕ) (l : Lent) (os : List Offer) (a : Box) where
+  abbrev after : Result Answer Refusal → Box
   after x = noted i at x s body l os a
 
-  noted-lent : (x : Answer) → l ≡ (after x).lent
-  noted-lent (Reply n) = refl
-  noted-lent (Heard n f) = refl
-  noted-lent (Refused r) = refl
-  noted-lent More = refl
+  noted-lent : (x : Result Answer Refusal) → l ≡ (after x).lent
+  noted-lent (Ok (Reply n)) = refl
+  noted-lent (Ok (Heard n f)) = refl
+  noted-lent (Err r) = refl
+  noted-lent (Ok More) = refl
 
-  noted-lookups : (x : Answer) → a.lookups ≡ (after x).lookups
-  noted-lookups (Reply n) = refl
-  noted-lookups (Heard n f) = refl
-  noted-lookups (Refused r) = refl
-  noted-lookups More = refl
+  noted-lookups : (x : Result Answer Refusal) → a.lookups ≡ (after x).lookups
+  noted-lookups (Ok (Reply n)) = refl
+  noted-lookups (Ok (Heard n f)) = refl
+  noted-lookups (Err r) = refl
+  noted-lookups (Ok More) = refl
 
-  noted-inbox : (x : Answer) (m : List ℕ) → AnswerRaised x → HeardFits x s body m
+  noted-inbox : (x : Result Answer Refusal) (m : List ℕ) → AnswerRaised x → HeardFits x s body m
       → cond (eqb (answer_number x) 66) (set_at a.inbox i (take (answer_length x) m)) a.inbox ≡ (after x).inbox
-  noted-inbox (Reply n) m h g = refl
-  noted-inbox (Heard n f) m h g = ap (set_at a.inbox i) g.0
-  noted-inbox (Refused r) m h g = cond_no (eqb (number_of r) 66) _ _ (ne_eqb (number_of r) 66 (λ e. omega (arith, h.1)))
-  noted-inbox More m h g = refl
+  noted-inbox (Ok (Reply n)) m h g = refl
+  noted-inbox (Ok (Heard n f)) m h g = ap (set_at a.inbox i) g.0
+  noted-inbox (Err r) m h g = cond_no (eqb (number_of r) 66) _ _ (ne_eqb (number_of r) 66 (λ e. omega (arith, h.1)))
+  noted-inbox (Ok More) m h g = refl
 
   -- what the program sees of it, n bytes having been taken
   abbrev seen_as : ℕ → ℕ → List ℕ → (List ℕ → List ℕ) → List Seen
   seen_as r n m numbers = cond (no_event r) [] (record { at = at; number = r; bytes = bytes_of r n l.reply m; numbers = numbers } ∷ [])
 
-  abbrev numbers_by : ℕ → Answer → Sight → List ℕ → List ℕ
+  abbrev numbers_by : ℕ → Result Answer Refusal → Option (Result Sighting Refusal) → List ℕ → List ℕ
   numbers_by n x s out = drop 2 (sets out 0 ((n ∷ answer_length x ∷ sight_number s ∷ sight_slot s ∷ []) ++ answer_view x))
 
   raised-seen : (r : Refusal) → Raised r → (n : ℕ) (m : List ℕ) (numbers : List ℕ → List ℕ) → seen_as (number_of r) n m numbers ≡ seen.told_at at (number_of r) numbers ∷ []
@@ -90,32 +88,32 @@ module _ (i at : ℕ) (s : Sight) (body : List ℕ) (l : Lent) (os : List Offer)
       ∙ ap (λ (x : List ℕ). record { at = at; number = number_of r; bytes = x; numbers = numbers } ∷ [])
       (cond_no (eqb (number_of r) 65) _ _ no65 ∙ cond_no (eqb (number_of r) 66) _ _ no66)
 
-  noted-log : (x : Answer) (m : List ℕ) (n : ℕ) → AnswerRaised x → HeardFits x s body m
+  noted-log : (x : Result Answer Refusal) (m : List ℕ) (n : ℕ) → AnswerRaised x → HeardFits x s body m
       → map entry_seen (after x).log ≡ map entry_seen a.log ++ seen_as (answer_number x) (answer_length x) m (numbers_by n x s)
-  noted-log (Reply k) m n h g =
+  noted-log (Ok (Reply k)) m n h g =
       one-more-seen a.log (box.event i at (box.replied (take k l.reply) s))
       ∙ (λ z. map entry_seen a.log
       ++ (record { at = at; number = 65; bytes = take k l.reply; numbers = λ out. first_two out 0 0 n k (sight_number s ∷ sight_slot s ∷ []) z } ∷ []))
-  noted-log (Heard k f) m n h g =
+  noted-log (Ok (Heard k f)) m n h g =
       one-more-seen a.log (box.event i at (box.heard body f))
       ∙ (λ z. map entry_seen a.log
       ++ (record { at = at; number = 66; bytes = sym g.0 z; numbers = λ out. seen.past_two (sym g.2 z) (view_numbers f) out } ∷ []))
       ∙ (λ z. map entry_seen a.log
       ++ (record { at = at; number = 66; bytes = take k m; numbers = λ out. first_two out 0 0 n k (sight_number s ∷ sight_slot s ∷ view_numbers f) z } ∷ []))
-  noted-log (Refused r) m n h g =
+  noted-log (Err r) m n h g =
       one-more-seen a.log (box.event i at (box.refused r))
       ∙ (λ z. map entry_seen a.log ++ (seen.told_at at (number_of r) (λ out. seen.past_two (sym g z) [] out) ∷ []))
       ∙ (λ z. map entry_seen a.log ++ (seen.told_at at (number_of r) (λ out. first_two out 0 0 n 0 (sight_number s ∷ sight_slot s ∷ []) z) ∷ []))
-      ∙ ap (λ (x : List Seen). map entry_seen a.log ++ x) (sym (raised-seen r h 0 m (numbers_by n (Refused r) s)))
-  noted-log More m n h g = sym (append-nil (map entry_seen a.log))
+      ∙ ap (λ (x : List Seen). map entry_seen a.log ++ x) (sym (raised-seen r h 0 m (numbers_by n (Err r) s)))
+  noted-log (Ok More) m n h g = sym (append-nil (map entry_seen a.log))
 
 -- events are what isn't 64 or 2
-quiet-more : (x : Answer) → AnswerRaised x → no_event (answer_number x) ≡ is_more x
-quiet-more (Reply n) h = refl
-quiet-more (Heard n f) h = refl
-quiet-more (Refused r) h =
+quiet-more : (x : Result Answer Refusal) → AnswerRaised x → no_event (answer_number x) ≡ is_more x
+quiet-more (Ok (Reply n)) h = refl
+quiet-more (Ok (Heard n f)) h = refl
+quiet-more (Err r) h =
     or-fails _ _ (ne_eqb (number_of r) 64 (λ e. omega (arith, h.1))) (ne_eqb (number_of r) 2 (λ e. omega (arith, h.0)))
-quiet-more More h = refl
+quiet-more (Ok More) h = refl
 
 order-more : (b : Bool) (i : ℕ) (ms : List (Mark Ask)) → cond b ms (ms ++ (happened i ∷ [])) ≡ ms ++ cond b [] (happened i ∷ [])
 order-more true i ms = sym (append-nil ms)
@@ -246,7 +244,7 @@ module _ (me : List ℕ) (S : Started me) (m : Memory) (h : History) (len : Enou
     pub offers-now : (call (box.box us) world (hand i (take (taken_by me m i piece) piece))).shared.state.offers
         ≡ h.offers ++ offers_in line.who (framed_of line.framing line.buffer piece).got.answer got.buffer
     offers-now =
-        let e : stream.Answer = (framed_of line.framing line.buffer piece).got.answer in
+        let e : (Result (Option ℕ) Refusal) = (framed_of line.framing line.buffer piece).got.answer in
         ap (λ (w : World Who Box Ask). w.shared.state.offers) call-is
         ∙ noted-offers i (line.taken + got.got.taken) got.got.sight (body_in e got.buffer) got.left
         (offers_in line.who e got.buffer) state got.got.answer
@@ -254,11 +252,11 @@ module _ (me : List ℕ) (S : Started me) (m : Memory) (h : History) (len : Enou
     stands-now : Stands (plain got) (put_back world i now)
     stands-now =
         let at : ℕ = line.taken + got.got.taken in
-        let e : stream.Answer = (framed_of line.framing line.buffer piece).got.answer in
+        let e : (Result (Option ℕ) Refusal) = (framed_of line.framing line.buffer piece).got.answer in
         let body : List ℕ = body_in e got.buffer in
         let os : List Offer = offers_in line.who e got.buffer in
-        let x : Answer = got.got.answer in
-        let s : Sight = got.got.sight in
+        let x : (Result Answer Refusal) = got.got.answer in
+        let s : (Option (Result Sighting Refusal)) = got.got.sight in
         put-stands m h i got.left (received_memory (m.conns i) got.got) got.buffer
         (kept m i (answer_number x) (take (answer_length x) got.buffer)) at now
         (ap (λ (c : Conn). record { who = who_in c; framing = c.framing; buffer = got.buffer; taken = at }) conn-after)
@@ -268,7 +266,7 @@ module _ (me : List ℕ) (S : Started me) (m : Memory) (h : History) (len : Enou
 
     log-now : map entry_seen now.shared.state.log ≡ map entry_seen h.log ++ sees_of me m (receives i piece)
     log-now =
-        let e : stream.Answer = (framed_of line.framing line.buffer piece).got.answer in
+        let e : (Result (Option ℕ) Refusal) = (framed_of line.framing line.buffer piece).got.answer in
         noted-log i (line.taken + got.got.taken) got.got.sight (body_in e got.buffer) got.left
         (offers_in line.who e got.buffer) state got.got.answer got.buffer got.got.taken raised fits
         ∙ ap (λ (x : List Seen). map entry_seen h.log ++ x) (sym sees_plain)
@@ -292,12 +290,12 @@ module _ (me : List ℕ) (S : Started me) (m : Memory) (h : History) (len : Enou
   module _ (shut : is_shut line.framing ≡ true) where
     abbrev pub nothing : Out
     nothing =
-        record { got = received (conn_in (m.conns i)) 0 (Refused no.Shut) NotSeen; buffer = m.buffers i; left = m.lent }
+        record { got = received (conn_in (m.conns i)) 0 (Err no.Shut) None; buffer = m.buffers i; left = m.lent }
 
     pub got-nothing : got ≡ nothing
     unfolding receive_of
     got-nothing =
-        ap (λ (g : Gate). unless g (linked (conn_in (m.conns i)) (m.buffers i)) m.lent
+        ap (λ (g : Result ⊤ Refusal). unless g (linked (conn_in (m.conns i)) (m.buffers i)) m.lent
         (taken_of us (linked (conn_in (m.conns i)) (m.buffers i)) piece m.lent))
         (gate-shut us line state (ready.lines i) shut ready.good)
 

@@ -9,23 +9,23 @@ use lib.ListN.{length, take, drop, get_or}
 use lib.Seq.{sets, sets-eq}
 use lib.Dec.{eqb}
 use lib.IntN.{ℤ}
+use Rattle.std.specs.Prelude.{None, Result, Ok, Err, ⊤, is_ok}
 use Rattle.octets.specs.Octets.{part}
 use Rattle.octets.specs.Search.{all_of}
 use Rattle.octets.proofs.Bools.{either, not-both, cond_yes, cond_no, all_head, all_rest}
 use Rattle.octets.proofs.Stores.{drop-sets}
 use Rattle.sightings_kept.proofs.Forms.{get_d-sets-in}
-use Rattle.recipe.specs.Recipe.{Setpoint, Setpoints, These, NoList, setpoints, ruled, is_list, distance_of, count_of, format_of, sequence_of, trailer_of, core_distance_of, core_count_of, wrap_room, core_room, is_recipe}
-use Rattle.recipe.specs.Faults.{is_good}
-use Rattle.recipe.specs.declared.Prev.TheVariants.{First}
+use Rattle.recipe.specs.Recipe.{Setpoints, These, NoList, setpoints, ruled, is_list, distance_of, count_of, format_of, sequence_of, trailer_of, core_distance_of, core_count_of, wrap_room, core_room, is_recipe}
+use Rattle.recipe.specs.declared.Setpoint.{Setpoint}
+use Rattle.recipe.specs.Faults.{first_of, fault_of}
+use Rattle.recipe.specs.declared.Breach.{Breach}
+use Rattle.recipe.proofs.Faults.{goes_on, fault-or-recipe}
 use Rattle.recipe.proofs.Trailer.{our-recipe}
 use Rattle.recipe.proofs.Bounded.{counted}
 use Rattle.recipe_fields.specs.Fields.{Fields, Holds, fields, fields_of, listed, bytes_of, is_writable}
 use Rattle.recipe_fields.specs.Places.{spans_of, points_in, turns_of, trims_of, list_of, turns_after, trims_after}
 use Rattle.recipe_fields.specs.Writing.{Given, fields_in, given_fault, written_of, after_of}
 use Rattle.recipe_fields.specs.declared.Spans.{Spans}
-use Rattle.recipe_fields.specs.declared.Spans.TheVariants.{Recipe}
-use Rattle.recipe_fields.specs.declared.Written.{Written}
-use Rattle.recipe_fields.specs.declared.Written.TheVariants.{Length, Refused}
 use Rattle.recipe_fields.proofs.Claims.{read-fields, claims}
 use Rattle.host_answers.specs.Answers.{spans_number, spans_numbers, recipe_number, recipe_numbers}
 use Rattle.host_demands.specs.Recipes.{Shown, RecipesCross}
@@ -55,7 +55,7 @@ counted-list : (n : ℕ) (s : List ℕ) → is_list n s ≡ true → n ≡ lengt
 unfolding is_list ruled
 counted-list n s h = go (setpoints n s) refl h
   where
-    go : (x : Setpoints) → setpoints n s ≡ x → ruled First x ≡ true → n ≡ length (listed x)
+    go : (x : Setpoints) → setpoints n s ≡ x → ruled None x ≡ true → n ≡ length (listed x)
     go (These ps) e q = sym (counted n s ps e)
     go NoList e q = absurd (not-both false q refl)
 
@@ -65,12 +65,24 @@ module _ (v : List ℕ) (h : is_recipe v ≡ true) where
   numbers =
       format_of v ∷ (length v - core_distance_of v) ∷ (length v - distance_of v) ∷ (length v - trailer_of (format_of v)) ∷ core_count_of v ∷ count_of v ∷ sequence_of v ∷ []
 
-  spans-are : spans_of v ≡ Recipe (format_of v) (length v - core_distance_of v) (length v - distance_of v) (length v - trailer_of (format_of v)) (core_count_of v) (count_of v) (sequence_of v)
+  abbrev spans : Spans
+  spans =
+      record {
+        format = format_of v;
+        core = length v - core_distance_of v;
+        wrap = length v - distance_of v;
+        trailer = length v - trailer_of (format_of v);
+        cores = core_count_of v;
+        wraps = count_of v;
+        sequence = sequence_of v;
+      }
+
+  spans-are : spans_of v ≡ Ok spans
   unfolding spans_of
-  spans-are = cond_yes (is_recipe v) _ _ h
+  spans-are = goes_on (fault_of v) (Ok spans) (fault-or-recipe v ∙ h)
 
   told : (out : List ℕ) → 7 ≤ length out → (k : ℕ) → k < 7 → get_or (spans_numbers out (spans_of v)) k 0 ≡ get_or numbers k 0
-  told out l k m = let z : 0 + k ≡ k = omega arith in ap (λ (s : Spans). get_or (spans_numbers out s) k 0) spans-are ∙ ap (λ (j : ℕ). get_or (sets out 0 numbers) j 0) (sym z) ∙ get_d-sets-in out 0 numbers k m l
+  told out l k m = let z : 0 + k ≡ k = omega arith in ap (λ (s : Result Spans Breach). get_or (spans_numbers out s) k 0) spans-are ∙ ap (λ (j : ℕ). get_or (sets out 0 numbers) j 0) (sym z) ∙ get_d-sets-in out 0 numbers k m l
 
   noted : part v 0 (length v - core_distance_of v) ≡ (fields v).note
   unfolding fields
@@ -103,28 +115,36 @@ shows : (v : List ℕ) (f : Fields) → fields_of v ≡ Holds f → Shown v f
 shows v f e = let r = read-fields v f e in rw (sym r.1) (fields-shown v r.0)
 
 spans-code : (v : List ℕ) → spans_number (spans_of v) ≡ cond (is_recipe v) 64 9
-unfolding spans_of
-spans-code v = ⊎_elim (λ h. ap spans_number (cond_yes (is_recipe v) _ _ h) ∙ sym (cond_yes (is_recipe v) 64 9 h)) (λ h. ap spans_number (cond_no (is_recipe v) _ _ h) ∙ sym (cond_no (is_recipe v) 64 9 h)) (either (is_recipe v))
+unfolding spans_of first_of
+spans-code v = go (fault_of v) (sym (fault-or-recipe v)) _
+  where
+    go : (w : Result ⊤ Breach) → is_recipe v ≡ is_ok w → (s : Spans) → spans_number (first_of w (Ok s)) ≡ cond (is_recipe v) 64 9
+    go (Ok u) e s = rw e refl
+    go (Err f) e s = rw e refl
 
 -- ---- written
 module _ (g : Given) where
   abbrev whole : List ℕ
   whole = bytes_of (fields_in g)
 
-  good_length : is_good (given_fault g) ≡ true → written_of g ≡ Length (length whole)
+  good_length : is_ok (given_fault g) ≡ true → written_of g ≡ Ok (length whole)
   unfolding written_of
-  good_length h = cond_yes (is_good (given_fault g)) _ _ h
+  good_length h = goes_on (given_fault g) (Ok (length whole)) h
 
-  bad-refused : is_good (given_fault g) ≡ false → written_of g ≡ Refused (given_fault g)
-  unfolding written_of
-  bad-refused h = cond_no (is_good (given_fault g)) _ _ h
+  bad-refused : is_ok (given_fault g) ≡ false → recipe_number (written_of g) ≡ 9
+  unfolding written_of first_of
+  bad-refused h = go (given_fault g) h
+    where
+      go : (w : Result ⊤ Breach) → is_ok w ≡ false → recipe_number (first_of w (Ok (length whole))) ≡ 9
+      go (Ok u) e = absurd (not-both true refl e)
+      go (Err f) e = refl
 
   -- 64 exactly for what breaks no rule
-  is-good : recipe_number (written_of g) ≡ 64 → is_good (given_fault g) ≡ true
+  is-good : recipe_number (written_of g) ≡ 64 → is_ok (given_fault g) ≡ true
   is-good e =
-      ⊎_elim (λ h. h) (λ h. let q : ◌≡◌ {A = ℕ} 9 64 = sym (ap recipe_number (bad-refused h)) ∙ e in absurd (omega (arith, q))) (either (is_good (given_fault g)))
+      ⊎_elim (λ h. h) (λ h. let q : ◌≡◌ {A = ℕ} 9 64 = sym (bad-refused h) ∙ e in absurd (omega (arith, q))) (either (is_ok (given_fault g)))
 
-  module _ (s : g.sequence < 2 ^ 64) (h : is_good (given_fault g) ≡ true) where
+  module _ (s : g.sequence < 2 ^ 64) (h : is_ok (given_fault g) ≡ true) where
     tests : all_of (eqb (length g.wrap_turns) (length g.wrap_trims) ∷ eqb (length g.core_turns) (length g.core_trims) ∷ is_writable (fields_in g) ∷ []) ≡ true
     tests = sym (claims.written g s) ∙ h
 
@@ -137,7 +157,7 @@ module _ (g : Given) where
     module _ (buf : List ℕ) (l : length whole ≤ length buf) where
       left : after_of g buf ≡ sets buf 0 whole
       unfolding after_of
-      left = cond_yes (is_good (given_fault g)) _ buf h
+      left = cond_yes (is_ok (given_fault g)) _ buf h
 
       first : take (length whole) (after_of g buf) ≡ whole
       first = ap (λ (x : List ℕ). take (length whole) x) left ∙ take-stored buf whole (length whole) refl l
@@ -148,13 +168,13 @@ module _ (g : Given) where
       given_back : Shown (take (length whole) (after_of g buf)) (fields_in g)
       given_back = rw first (shows whole (fields_in g) fields_back)
 
-  length-told : is_good (given_fault g) ≡ true → (out : List ℕ) → 1 ≤ length out → get_or (recipe_numbers out (written_of g)) 0 0 ≡ length whole
-  length-told h out l = ap (λ (w : Written). get_or (recipe_numbers out w) 0 0) (good_length h) ∙ get_d-sets-in out 0 (length whole ∷ []) 0 (omega arith) l
+  length-told : is_ok (given_fault g) ≡ true → (out : List ℕ) → 1 ≤ length out → get_or (recipe_numbers out (written_of g)) 0 0 ≡ length whole
+  length-told h out l = ap (λ (w : Result ℕ Breach). get_or (recipe_numbers out w) 0 0) (good_length h) ∙ get_d-sets-in out 0 (length whole ∷ []) 0 (omega arith) l
 
   refuses : (recipe_number (written_of g) ≡ 64 → ⊥) → (recipe_number (written_of g) ≡ 9) × ((buf : List ℕ) → after_of g buf ≡ buf)
   unfolding after_of
   refuses n =
-      ⊎_elim (λ h. absurd (n (ap recipe_number (good_length h)))) (λ h. (ap recipe_number (bad-refused h), λ buf. cond_no (is_good (given_fault g)) _ buf h)) (either (is_good (given_fault g)))
+      ⊎_elim (λ h. absurd (n (ap recipe_number (good_length h)))) (λ h. (bad-refused h, λ buf. cond_no (is_ok (given_fault g)) _ buf h)) (either (is_ok (given_fault g)))
 
 pub recipes-cross : RecipesCross
 recipes-cross = record {

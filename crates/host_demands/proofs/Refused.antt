@@ -10,15 +10,13 @@ use lib.Dec.{eqb, ltb}
 use borrow.Author.Tests.{eqb-true, eq-eqb, le-ltb}
 use Rattle.octets.proofs.Bools.{cond_yes, cond_no, or-fails}
 use Rattle.peer.specs.declared.Peer.{Peer}
-use Rattle.records.specs.declared.Answer as stored
-use Rattle.records.specs.declared.Answer.TheVariants as put
 use Rattle.records.specs.Store.{put_answer, put_after}
 use Rattle.lookup.specs.Value.{Step}
 use Rattle.lookup.specs.declared.Answer as lookup
 use Rattle.lookup.specs.declared.Answer.TheVariants as steps
 use Rattle.lookup.specs.Lookup.{no_lookup}
 use Rattle.node.specs.declared.Answer.{Answer}
-use Rattle.node.specs.declared.Answer.TheVariants.{Reply, Heard, Refused, More}
+use Rattle.node.specs.declared.Answer.TheVariants.{Reply, Heard, More}
 use Rattle.replies.specs.Lent.{with_contacts, with_records}
 use Rattle.node.specs.Node.{linked, Out}
 use Rattle.node_promises.specs.Promises.{Unchanged}
@@ -37,6 +35,8 @@ use Rattle.host_demands.specs.Calls as host
 use Rattle.host_demands.specs.Calls.{Memory, returns, received_by, start_step, next_step, reply_step, heard_step, failure_step}
 use Rattle.host_demands.specs.Hosted.{Keeps, RefusedKeeps, RefusedStart}
 use Rattle.lookup_in_place.proofs.ReadBack.{start-reads}
+use Rattle.std.specs.Prelude.{Ok, Err, Result, ⊤}
+use Rattle.refusal.specs.declared.Refusal.{Refusal}
 
 -- memory too short changes nothing; else what the inner call says
 if-short : {A : Type 0} (b : Bool) (x y : A) (n : ℕ) → cond b 0 n < 64 → (n < 64 → y ≡ x) → cond b x y ≡ x
@@ -65,11 +65,11 @@ module _ (me : List ℕ) (m : Memory) where
     unchanged : answer_number o.got.answer < 64 → Unchanged m.lent o
     unchanged h = go o.got.answer refl h
       where
-        go : (x : Answer) → o.got.answer ≡ x → answer_number x < 64 → Unchanged m.lent o
-        go (Reply n) e l = absurd (omega (arith, l))
-        go (Heard n f) e l = absurd (omega (arith, l))
-        go (Refused r) e l = (leaving.receive (linked (conn_in (m.conns i)) (m.buffers i)) piece m.lent r e).unchanged
-        go More e l = absurd (omega (arith, l))
+        go : (x : Result Answer Refusal) → o.got.answer ≡ x → answer_number x < 64 → Unchanged m.lent o
+        go (Ok (Reply n)) e l = absurd (omega (arith, l))
+        go (Ok (Heard n f)) e l = absurd (omega (arith, l))
+        go (Err r) e l = (leaving.receive (linked (conn_in (m.conns i)) (m.buffers i)) piece m.lent r e).unchanged
+        go (Ok More) e l = absurd (omega (arith, l))
 
     receive-keeps : returns me m (host.receives i piece) < 64 → Keeps me m (host.receives i piece)
     receive-keeps h =
@@ -82,9 +82,9 @@ module _ (me : List ℕ) (m : Memory) where
   put-kept : (key value : List ℕ) → put_number (put_answer m.lent.records key value) < 64 → put_after m.lent.records key value ≡ m.lent.records
   put-kept key value h = go (put_answer m.lent.records key value) refl h
     where
-      go : (x : stored.Answer) → put_answer m.lent.records key value ≡ x → put_number x < 64 → put_after m.lent.records key value ≡ m.lent.records
-      go put.Taken e l = absurd (omega (arith, l))
-      go (put.Refused r) e l = leaving.put m.lent.records key value r e
+      go : (x : Result ⊤ Refusal) → put_answer m.lent.records key value ≡ x → put_number x < 64 → put_after m.lent.records key value ≡ m.lent.records
+      go (Ok tt) e l = absurd (omega (arith, l))
+      go (Err r) e l = leaving.put m.lent.records key value r e
 
   seen-kept : (id : List ℕ) (client : Bool) (addresses : List ℕ) → seen_number (seen_of us m.lent.contacts id client addresses) < 64
       → seen_after us m.lent.contacts id client addresses ≡ m.lent.contacts
@@ -104,13 +104,13 @@ module _ (me : List ℕ) (m : Memory) where
   step_kept : (x : List ℕ) (s : Step) → step_number s.answer < 64 → step_memory x s ≡ x
   step_kept x s h = go s.answer h
     where
-      go : (a : lookup.Answer) → step_number a < 64 → cond (is_refused a) x (sets x 0 (lookup_bytes s.lookup)) ≡ x
-      go (steps.Refused r) l = refl
-      go (steps.Complete n) l = absurd (omega (arith, l))
-      go (steps.CutShort n) l = absurd (omega (arith, l))
-      go steps.Wait l = absurd (omega (arith, l))
-      go (steps.Ask i) l = absurd (omega (arith, l))
-      go steps.Going l = absurd (omega (arith, l))
+      go : (a : Result lookup.Answer Refusal) → step_number a < 64 → cond (is_refused a) x (sets x 0 (lookup_bytes s.lookup)) ≡ x
+      go (Err r) l = refl
+      go (Ok (steps.Complete n)) l = absurd (omega (arith, l))
+      go (Ok (steps.CutShort n)) l = absurd (omega (arith, l))
+      go (Ok steps.Wait) l = absurd (omega (arith, l))
+      go (Ok (steps.Ask i)) l = absurd (omega (arith, l))
+      go (Ok steps.Going) l = absurd (omega (arith, l))
 
   put_back : (j : ℕ) (x : List ℕ) → x ≡ m.lookups j → (k : ℕ) → cond (eqb k j) x (m.lookups k) ≡ m.lookups k
   put_back j x e k = go (eqb k j) refl
@@ -130,13 +130,13 @@ module _ (me : List ℕ) (m : Memory) where
   emptied : (key : List ℕ) (limit : ℕ) → step_number (start_step me m key limit).answer < 64 → (start_step me m key limit).lookup ≡ no_lookup
   emptied key limit h = go (start_step me m key limit).answer refl h
     where
-      go : (a : lookup.Answer) → (start_step me m key limit).answer ≡ a → step_number a < 64 → (start_step me m key limit).lookup ≡ no_lookup
-      go (steps.Refused r) e l = leaving.empties m.lent.contacts key limit r e
-      go (steps.Complete n) e l = absurd (omega (arith, l))
-      go (steps.CutShort n) e l = absurd (omega (arith, l))
-      go steps.Wait e l = absurd (omega (arith, l))
-      go (steps.Ask i) e l = absurd (omega (arith, l))
-      go steps.Going e l = absurd (omega (arith, l))
+      go : (a : Result lookup.Answer Refusal) → (start_step me m key limit).answer ≡ a → step_number a < 64 → (start_step me m key limit).lookup ≡ no_lookup
+      go (Err r) e l = leaving.empties m.lent.contacts key limit r e
+      go (Ok (steps.Complete n)) e l = absurd (omega (arith, l))
+      go (Ok (steps.CutShort n)) e l = absurd (omega (arith, l))
+      go (Ok steps.Wait) e l = absurd (omega (arith, l))
+      go (Ok (steps.Ask i)) e l = absurd (omega (arith, l))
+      go (Ok steps.Going) e l = absurd (omega (arith, l))
 
 pub refused-start : (me : List ℕ) → RefusedStart me
 unfolding too_short lookup_start

@@ -20,22 +20,17 @@ use Rattle.stream.specs.declared.Held.TheVariants.{Nothing, One, Two}
 use Rattle.stream.specs.declared.Framing.{Framing}
 use Rattle.stream.specs.declared.Framing.TheVariants.{Shut, Prefix, Body}
 use Rattle.stream.specs.declared.Ended as stream_end
-use Rattle.stream.specs.declared.Ending.TheVariants as ending
 use Rattle.stream.specs.Stream as streams
 use Rattle.stream.specs.Stream.{is_shut, in_form, end_in, end_of, run_of}
 use Rattle.stream.proofs.Steps.{call-runs}
 use Rattle.connections.specs.declared.Conn.{Conn}
 use Rattle.connections.specs.declared.Ended.{Ended}
 use Rattle.connections.specs.declared.Opened.{Opened}
-use Rattle.connections.specs.declared.Told.{Told}
-use Rattle.connections.specs.declared.Told.TheVariants as tells
 use Rattle.connections.specs.Box as conns
 use Rattle.connections.specs.Box.{own_fits, open_of, conn_form, end_conn}
 use Rattle.cutting.specs.World.{set_at}
 use Rattle.node.specs.declared.Answer.{Answer}
-use Rattle.node.specs.declared.Answer.TheVariants.{Reply, Heard, Refused, More}
-use Rattle.node.specs.declared.Gate.{Gate}
-use Rattle.node.specs.declared.Gate.TheVariants.{Open, Closed}
+use Rattle.node.specs.declared.Answer.TheVariants.{Reply, Heard, More}
 use Rattle.replies.specs.Lent.{Lent}
 use Rattle.node.specs.Node.{linked, Out, by_event, unless, gate_of, taken_of, receive_of}
 use Rattle.node_promises.specs.Promises as promises
@@ -50,6 +45,7 @@ use Rattle.host_demands.specs.Calls as host
 use Rattle.host_demands.specs.Calls.{Memory, Export, returns, leaves, received_by, taken_by}
 use Rattle.host_demands.specs.Hosted.{Early, Late, ConnKept, ShutAtMost, NotOn, RefusedShuts}
 use Rattle.host_demands.proofs.Connections.{open-reads, both-enough}
+use Rattle.std.specs.Prelude.{Ok, Err, Result, ⊤}
 
 -- ---- numbers
 early-nothing : (r : Refusal) → Early (number_of r) → changes_nothing r ≡ true
@@ -71,7 +67,7 @@ record Passes (me : Peer) (c : Conn) (m : List ℕ) : Type 0 where
   room : most_body ≤ length m
   going : is_shut c.framing ≡ false
 
-shut-gate : {X : Type 0} (s : Refusal) → Closed s ≡ Open → X
+shut-gate : {X : Type 0} (s : Refusal) → ◌≡◌ {A = Result ⊤ Refusal} (Err s) (Ok tt) → X
 shut-gate s e = absurd (let z : ◌≡◌ {A = ℕ} 0 1 = cc in omega arith)
 
 true-not : (b : Bool) → not b ≡ false → b ≡ true
@@ -79,7 +75,7 @@ true-not true e = refl
 true-not false e = sym e
 
 module _ (me : Peer) (c : Conn) (m bs : List ℕ) (l : Lent) where
-  passes : gate_of me (linked c m) l ≡ Open → Passes me c m
+  passes : gate_of me (linked c m) l ≡ Ok tt → Passes me c m
   unfolding gate_of
   passes =
       cond_ind P (not (contacts_form l.contacts me.place)) _ _ (λ h. shut-gate no.OutOfForm)
@@ -91,19 +87,19 @@ module _ (me : Peer) (c : Conn) (m bs : List ℕ) (l : Lent) where
       (λ g. cond_ind P (not (own_fits me)) _ _ (λ h. shut-gate no.BadPeer)
       (λ h e. record { form = true-not _ f; room = ltb-false (length m) most_body r; going = g })))))))
     where
-      P : Gate → Type 0
-      P g = g ≡ Open → Passes me c m
+      P : Result ⊤ Refusal → Type 0
+      P g = g ≡ Ok tt → Passes me c m
 
   framing-form : Passes me c m → in_form c.framing ≡ true
   unfolding conn_form
   framing-form p = all_head _ _ (all_rest _ _ (all_rest _ _ (sym (or_off _ _ p.going) ∙ p.form)))
 
-  past-gate : gate_of me (linked c m) l ≡ Open → AnswerRaised (receive_of me (linked c m) bs l).got.answer
+  past-gate : gate_of me (linked c m) l ≡ Ok tt → AnswerRaised (receive_of me (linked c m) bs l).got.answer
   unfolding receive_of taken_of
   past-gate e =
       let p = passes e in
       let o : streams.Out = run_of c.framing m bs in
-      subst (λ (g : Gate). AnswerRaised (unless g (linked c m) l (taken_of me (linked c m) bs l)).got.answer) (sym e)
+      subst (λ (g : Result ⊤ Refusal). AnswerRaised (unless g (linked c m) l (taken_of me (linked c m) bs l)).got.answer) (sym e)
       (subst (λ (o : streams.Out). AnswerRaised (by_event o.got.answer me (linked (conns.with_framing c o.got.framing) o.buffer) o.got.taken l).got.answer)
       (sym (call-runs c.framing m bs (framing-form p) p.room p.going))
       (event-raised me o.got.answer (linked (conns.with_framing c o.got.framing) o.buffer) o.got.taken l (run-raised bs c.framing m)))
@@ -149,10 +145,10 @@ module _ (me : List ℕ) (m : Memory) (i : ℕ) where
     abbrev n : ℕ
     n = answer_number o.got.answer
 
-    refuses : (r : Refusal) → o.got.answer ≡ Refused r → Refuses us (linked (conn_in conn) (m.buffers i)) piece m.lent r
+    refuses : (r : Refusal) → o.got.answer ≡ Err r → Refuses us (linked (conn_in conn) (m.buffers i)) piece m.lent r
     refuses r = (refused-leaves us).receive (linked (conn_in conn) (m.buffers i)) piece m.lent r
 
-    abbrev gate : Gate
+    abbrev gate : Result ⊤ Refusal
     gate = gate_of us (linked (conn_in conn) (m.buffers i)) m.lent
 
     record Left : Type 0 where
@@ -163,39 +159,39 @@ module _ (me : List ℕ) (m : Memory) (i : ℕ) where
     answered-early : Early n → Left
     answered-early = go o.got.answer refl
       where
-        stays : (r : Refusal) → o.got.answer ≡ Refused r → Early (number_of r) → (g : Gate) → gate ≡ g → Left
-        stays r e h (Closed s) q =
+        stays : (r : Refusal) → o.got.answer ≡ Err r → Early (number_of r) → (g : Result ⊤ Refusal) → gate ≡ g → Left
+        stays r e h (Err s) q =
             let c = ((refuses r e).closed s q).2 in
             record {
               taken = c.taken;
               same = ap (answer_framing conn o.got.conn.framing) e ∙ cond_yes (changes_nothing r) _ _ (early-nothing r h);
               buffer = c.buffer;
             }
-        stays r e h Open q =
+        stays r e h (Ok tt) q =
             let a : Raised r = subst AnswerRaised e (past-gate us (conn_in conn) (m.buffers i) piece m.lent q) in
             ⊎_elim {A = number_of r ≤ 2} {B = number_of r ≡ 12} (λ l. absurd (omega (arith, l, a.0))) (λ l. absurd (omega (arith, l, a.1))) h
 
-        go : (x : Answer) → o.got.answer ≡ x → Early (answer_number x) → Left
-        go (Reply l) e h = ⊎_elim (λ z. absurd (omega (arith, z))) (λ z. absurd (omega (arith, z))) h
-        go (Heard l f) e h = ⊎_elim (λ z. absurd (omega (arith, z))) (λ z. absurd (omega (arith, z))) h
-        go (Refused r) e h = stays r e h gate refl
-        go More e h = ⊎_elim (λ z. absurd (omega (arith, z))) (λ z. absurd (omega (arith, z))) h
+        go : (x : Result Answer Refusal) → o.got.answer ≡ x → Early (answer_number x) → Left
+        go (Ok (Reply l)) e h = ⊎_elim (λ z. absurd (omega (arith, z))) (λ z. absurd (omega (arith, z))) h
+        go (Ok (Heard l f)) e h = ⊎_elim (λ z. absurd (omega (arith, z))) (λ z. absurd (omega (arith, z))) h
+        go (Err r) e h = stays r e h gate refl
+        go (Ok More) e h = ⊎_elim (λ z. absurd (omega (arith, z))) (λ z. absurd (omega (arith, z))) h
 
     answered-late : Late n → received_memory conn o.got ≡ with_framing conn Shut
     answered-late = go o.got.answer refl
       where
-        shuts : (r : Refusal) → o.got.answer ≡ Refused r → Late (number_of r) → (g : Gate) → gate ≡ g → received_memory conn o.got ≡ with_framing conn Shut
-        shuts r e h (Closed s) q = ⊎_elim (λ l. absurd (omega (arith, l, h.above))) (λ l. absurd (h.other l)) (early-number r ((refuses r e).closed s q).1)
-        shuts r e h Open q =
+        shuts : (r : Refusal) → o.got.answer ≡ Err r → Late (number_of r) → (g : Result ⊤ Refusal) → gate ≡ g → received_memory conn o.got ≡ with_framing conn Shut
+        shuts r e h (Err s) q = ⊎_elim (λ l. absurd (omega (arith, l, h.above))) (λ l. absurd (h.other l)) (early-number r ((refuses r e).closed s q).1)
+        shuts r e h (Ok tt) q =
             ap (answer_framing conn o.got.conn.framing) e
             ∙ cond_no (changes_nothing r) _ _ (late-changes r h.above h.other)
             ∙ ap (λ (c : Conn). with_framing conn c.framing) ((refuses r e).shuts q)
 
-        go : (x : Answer) → o.got.answer ≡ x → Late (answer_number x) → received_memory conn o.got ≡ with_framing conn Shut
-        go (Reply l) e h = absurd (omega (arith, h.refusal))
-        go (Heard l f) e h = absurd (omega (arith, h.refusal))
-        go (Refused r) e h = shuts r e h gate refl
-        go More e h = absurd (omega (arith, h.refusal))
+        go : (x : Result Answer Refusal) → o.got.answer ≡ x → Late (answer_number x) → received_memory conn o.got ≡ with_framing conn Shut
+        go (Ok (Reply l)) e h = absurd (omega (arith, h.refusal))
+        go (Ok (Heard l f)) e h = absurd (omega (arith, h.refusal))
+        go (Err r) e h = shuts r e h gate refl
+        go (Ok More) e h = absurd (omega (arith, h.refusal))
 
     takes-nothing : Early (returns me m (host.receives i piece)) → taken_by me m i piece ≡ 0
     takes-nothing h = both-early me conn 0 o.got.taken n h (λ l. (answered-early l).taken)
@@ -216,7 +212,7 @@ module _ (me : List ℕ) (m : Memory) (i : ℕ) where
     early : Early (ending_code e.answer) → ended_memory conn e ≡ conn
     late : Late (ending_code e.answer) → ended_memory conn e ≡ with_framing conn Shut
 
-  out-of-form : (c : Conn) → EndLeft (record { conn = c; answer = ending.Refused no.OutOfForm })
+  out-of-form : (c : Conn) → EndLeft (record { conn = c; answer = Err no.OutOfForm })
   unfolding changes_nothing
   out-of-form c = record { early = λ h. refl; late = λ h. absurd (omega (arith, h.above)) }
 
@@ -257,10 +253,10 @@ module _ (me : List ℕ) (m : Memory) (i : ℕ) where
       ∙ ap (λ (c : Conn). c.framing) (open-reads us conn id (says_yes server) (says_yes asking) addresses l)
       ∙ go w.told refl (subst (λ (k : ℕ). k < 64) (both-enough me conn 0 (told_code w.told) h l) z)
     where
-      go : (x : Told) → (open_of us id (says_yes server) (says_yes asking) addresses).told ≡ x → told_code x < 64
+      go : (x : Result ⊤ Refusal) → (open_of us id (says_yes server) (says_yes asking) addresses).told ≡ x → told_code x < 64
           → (open_of us id (says_yes server) (says_yes asking) addresses).conn.framing ≡ Shut
-      go tells.Fine e k = absurd (omega (arith, k))
-      go (tells.Refused r) e k = ((refused-leaves us).values.opens us id (says_yes server) (says_yes asking) addresses r e).0
+      go (Ok tt) e k = absurd (omega (arith, k))
+      go (Err r) e k = ((refused-leaves us).values.opens us id (says_yes server) (says_yes asking) addresses r e).0
 
 -- ---- other connections
 others-stay : (me : List ℕ) (m : Memory) (c : Export) (i : ℕ) → NotOn i c → ConnKept m (leaves me m c) i

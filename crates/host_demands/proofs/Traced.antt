@@ -1,8 +1,8 @@
 -- Each lookup of a program is the run of its own start and calls: from the same of the world that its memory stands for. Assumes nothing.
 use Prim.Native.Nat.{ℕ, zero, suc}
+use native.Mathlib.Omega.{arith}
 use mathlib.Core.Path.{◌≡◌, refl, sym, ap, ◌∙◌, subst}
 use mathlib.Core.List.{List, [], ◌∷◌, ◌++◌, map, map-append, map-map}
-use mathlib.Core.Option.{Option, none, some, some-injective, none-ne-some}
 use lib.ListN.{length, drop, length-map}
 use lib.Seq.{drop-append_seam}
 use Rattle.lookup.specs.Value.{Lookup, Step}
@@ -19,20 +19,22 @@ use Rattle.host_demands.specs.Calls.{Memory, Export, Enough, History, Seen, leav
 use Rattle.host_demands.specs.Hosted.{Started, ReadyFor, Follows}
 use Rattle.host_demands.specs.Lookups.{traced_in, step_seen, LookupBytesAreRuns}
 use Rattle.host_demands.proofs.Running.{one-call, all-calls, ready-after, later-fit}
+use Rattle.std.specs.Prelude.{Some, None, Option}
+use Rattle.std.proofs.lemmas.Option.{same_Some}
 
 -- ---- a trace, as the program sees it
 abbrev seen_trace : Trace Entry → Trace Seen
 seen_trace x = record { table = x.table; key = x.key; limit = x.limit; calls = x.calls; told = map entry_seen x.told }
 
 abbrev seen_if : Option (Trace Entry) → Option (Trace Seen)
-seen_if none = none
-seen_if (some x) = some (seen_trace x)
+seen_if None = None
+seen_if (Some x) = Some (seen_trace x)
 
 seen-with : (t : List ℕ) (es : List Entry) (p : Part) (x : Option (Trace Entry)) → trace_with t (map entry_seen es) p (seen_if x) ≡ seen_if (trace_with t es p x)
 seen-with t es (starts key limit) x = refl
-seen-with t es (goes c) none = refl
-seen-with t es (goes c) (some x) =
-    λ z. some
+seen-with t es (goes c) None = refl
+seen-with t es (goes c) (Some x) =
+    λ z. Some
     (record {
       table = x.table;
       key = x.key;
@@ -89,10 +91,10 @@ module _ (me : List ℕ) (S : Started me) (j : ℕ) where
       is-run (peer_in me) step_seen (seen_trace x) l r.lookup (ap (map entry_seen) r.told ∙ map-map entry_seen (λ (g : Step). called (step_gave g)) gave)
 
   -- a trace that the program has is that of the world, as it sees it
-  seen_if_lem : (l : Lookup) (o : Option (Trace Entry)) → ((y : Trace Entry) → o ≡ some y → IsRun (peer_in me) (λ g. called (step_gave g)) y l)
-      → (x : Trace Seen) → seen_if o ≡ some x → IsRun (peer_in me) step_seen x l
-  seen_if_lem l none r x e = absurd (none-ne-some x e)
-  seen_if_lem l (some y) r x e = subst (λ (z : Trace Seen). IsRun (peer_in me) step_seen z l) (some-injective (seen_trace y) x e) (seen-run l y (r y refl))
+  seen_if_lem : (l : Lookup) (o : Option (Trace Entry)) → ((y : Trace Entry) → o ≡ Some y → IsRun (peer_in me) (λ g. called (step_gave g)) y l)
+      → (x : Trace Seen) → seen_if o ≡ Some x → IsRun (peer_in me) step_seen x l
+  seen_if_lem l None r x e = let z : ◌≡◌ {A = ℕ} 0 1 = cc in absurd (omega arith)
+  seen_if_lem l (Some y) r x e = subst (λ (z : Trace Seen). IsRun (peer_in me) step_seen z l) (same_Some (seen_trace y) x e) (seen-run l y (r y refl))
 
   -- a start gives a trace, and calls keep one
   traced-there : (cs : List Export) (m : Memory) (o : Option (Trace Seen)) → There o → There (traced_in me j m o cs)
@@ -116,8 +118,8 @@ lookup-bytes-are-runs me S =
           let same : lookup_in ((leaves_all me m cs).lookups j) ≡ end.shared.state.lookups j =
           ap (λ (v : World Who Box Ask). v.shared.state.lookups j) (all-calls me S m w cs len ready refl fit).stands in
           subst (λ (l : Lookup). IsRun (peer_in me) step_seen x l) (sym same)
-          (seen_if_lem me S j (end.shared.state.lookups j) (traced (peer_in me) j w none (meant_all me m cs))
+          (seen_if_lem me S j (end.shared.state.lookups j) (traced (peer_in me) j w None (meant_all me m cs))
           (λ y. (lookups-are-runs (peer_in me)).runs w (meant_all me m cs) j y) x
-          (sym (traces-same me S j cs m w none len ready refl fit) ∙ e));
-      begins = λ m before after j key limit. begins-there me S j key limit before after m none;
+          (sym (traces-same me S j cs m w None len ready refl fit) ∙ e));
+      begins = λ m before after j key limit. begins-there me S j key limit before after m None;
     }

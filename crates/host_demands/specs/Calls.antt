@@ -11,8 +11,6 @@ use Rattle.lookup.specs.Lookup.{next_of}
 use Rattle.cutting.specs.World.{Line, World, Mark, happened, asked, Call, hand, does, asks, set_at}
 use Rattle.replies.specs.Lent as lents
 use Rattle.replies.specs.Lent.{Lent}
-use Rattle.node.specs.declared.Sight.{Sight}
-use Rattle.node.specs.declared.Sight.TheVariants.{NotSeen}
 use Rattle.node.specs.Node.{Out}
 use Rattle.host_calls.specs.Hosts.{lookup_start, lookup_reply, lookup_failure}
 use Rattle.flat.specs.Flat.{conn_size, peer_in, conn_in, says_yes}
@@ -25,7 +23,10 @@ use Rattle.lookup_in_place.specs.InPlace.{step_memory, started_memory}
 use Rattle.host_steps.specs.Steps.{step_number, step_numbers}
 use Rattle.host.specs.Host as host
 use Rattle.demands.specs.Box as box
-use Rattle.demands.specs.Box.{Box, Who, who_in, Entry, Outcome, Result, Turn, Ask}
+use Rattle.demands.specs.Box.{Box, Who, who_in, Entry, Outcome, Gave, Turn, Ask}
+use Rattle.std.specs.Prelude.{None, Result, Option}
+use Rattle.refusal.specs.declared.Refusal.{Refusal}
+use Rattle.sightings.specs.declared.Sighting.{Sighting}
 
 -- ---- what a program lends beside the box: contacts, records, a reply buffer; for each connection its bytes and its receive buffer; the bytes of each lookup.
 -- Of each connection it also keeps the message that it gave last, and how many of its bytes were taken since it was opened: it adds up the first numbers that
@@ -341,16 +342,16 @@ Stands m w = world_in m (history_of w) ≡ w
 
 -- ---- what a program sees of an entry of that world's log
 -- the numbers past the first two: what came of the sender's sighting, its slot, and the view of a message
-abbrev pub past_two : Sight → List ℕ → List ℕ → List ℕ
+abbrev pub past_two : Option (Result Sighting Refusal) → List ℕ → List ℕ → List ℕ
 past_two s view out = drop 2 (sets out 0 ((0 ∷ 0 ∷ sight_number s ∷ sight_slot s ∷ []) ++ view))
 
 abbrev pub outcome_seen : ℕ → Outcome → Seen
 outcome_seen at (box.replied bytes s) = record { at = at; number = 65; bytes = bytes; numbers = past_two s [] }
-outcome_seen at (box.heard body view) = record { at = at; number = 66; bytes = body; numbers = past_two NotSeen (view_numbers view) }
-outcome_seen at (box.refused r) = told_at at (number_of r) (past_two NotSeen [])
+outcome_seen at (box.heard body view) = record { at = at; number = 66; bytes = body; numbers = past_two None (view_numbers view) }
+outcome_seen at (box.refused r) = told_at at (number_of r) (past_two None [])
 outcome_seen at (box.ended e) = told_at at (ending_code e) (λ out. out)
 
-abbrev pub result_seen : Result → Seen
+abbrev pub result_seen : Gave → Seen
 result_seen (box.put_gave a) = only_number (put_number a)
 result_seen (box.find_gave f) = told (find_number f) (λ out. find_numbers out f)
 result_seen (box.seen_gave o) = told (seen_number o) (λ out. seen_numbers out o)

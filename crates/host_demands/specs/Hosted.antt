@@ -1,7 +1,6 @@
 -- What holds of a program that calls crate `host`, as statements. `hosted` in proofs/Theorems.antt proves the last, which has all of them; `starts` in
 -- proofs/Starting.antt and `begins` in proofs/Beginning.antt show that there are such boxes and such memory.
 use Rattle.std.specs.Prelude.{ℕ, ◌+◌, ◌≤◌, ◌<◌, ◌≡◌, ◌⊎◌, true, false, List, [], ◌∷◌, ◌++◌, map, length, get_or, take, drop}
-use Rattle.std.proofs.Math.Option.{none, some}
 use Rattle.std.proofs.lemmas.List.Edits.{sets}
 use Rattle.octets.specs.Octets.{Bytes, part}
 use Rattle.limits.specs.Limits.{most_body, least_reply}
@@ -11,10 +10,8 @@ use Rattle.records_history.specs.History.{cleared}
 use Rattle.message.specs.Message.{Record, Message, message_of, decode, encode, frame}
 use Rattle.message.specs.View.{fields_of, reading_of}
 use Rattle.message.specs.declared.Fields.{Fields}
-use Rattle.message.specs.declared.Reading.TheVariants as reading
 use Rattle.lookup.specs.Lookup.{no_lookup}
 use Rattle.lookup_runs.specs.Runs.{accepted}
-use Rattle.stream.specs.declared.Answer.TheVariants as framed
 use Rattle.stream.specs.declared.Framing.TheVariants.{Shut}
 use Rattle.stream.specs.Stream.{receive_of as framed_of}
 use Rattle.cutting.specs.World.{World, Sys, hand, call, calls, given, Ready, AllFit, set_at}
@@ -34,6 +31,7 @@ use Rattle.host_demands.specs.Calls.{Memory, Export, Enough, History, Seen, with
 use Rattle.host_demands.specs.Lookups.{traced_in, LookupBytesAreRuns}
 use Rattle.host_demands.specs.Messages.{ReadAs, MessagesCross}
 use Rattle.host_demands.specs.Recipes.{RecipesCross}
+use Rattle.std.specs.Prelude.{Ok, Some, None}
 
 -- ==== the box, and memory to begin with
 -- the memory of a box that starterbell_start wrote
@@ -119,7 +117,7 @@ module _ (me : List ℕ) where
         → Receives me (m.conns i) (m.buffers i) piece m.lent.contacts m.lent.records m.lent.reply out r conn' buffer' t' k' y' out'
         → r ≡ 66
         → let body = take (length_by me m i piece) buffer' in
-        (reading_of body ≡ reading.Whole (fields_of body)) × (12 ≤ length out → take 8 (drop 4 out') ≡ view_numbers (fields_of body))
+        (reading_of body ≡ Ok (fields_of body)) × (12 ≤ length out → take 8 (drop 4 out') ≡ view_numbers (fields_of body))
     pub start : (j : ℕ) (key : List ℕ) (limit : ℕ) (out : List ℕ) (r : ℕ) (l' out' : List ℕ) → exports.Begins me (m.lookups j) m.lent.contacts key limit out r l' out'
         → (r ≡ returns me m (host.lookup_starts j key limit)) × (with_lookup m j l' ≡ leaves me m (host.lookup_starts j key limit)) × (out' ≡ writes me m (host.lookup_starts j key limit) out)
     pub next : (j : ℕ) (out : List ℕ) (r : ℕ) (l' out' : List ℕ) → Nexts (m.lookups j) out r l' out'
@@ -214,7 +212,7 @@ module _ (me : List ℕ) where
   pub record StepsNotZero (m : Memory) (j : ℕ) : Type 0 where
     pub next : returns me m (host.lookup_next j) ≡ 0 → ⊥
     pub failure : (id : List ℕ) → returns me m (host.lookup_fails j id) ≡ 0 → ⊥
-    pub reply : (id body : List ℕ) (f : Fields) → reading_of body ≡ reading.Whole f → returns me m (host.lookup_replies j id body (view_numbers f)) ≡ 0 → ⊥
+    pub reply : (id body : List ℕ) (f : Fields) → reading_of body ≡ Ok f → returns me m (host.lookup_replies j id body (view_numbers f)) ≡ 0 → ⊥
 
   -- the one exception (RULES, Lookup): after a start that was refused "later steps give 0"
   pub record StepsZero (m : Memory) (j : ℕ) : Type 0 where
@@ -230,7 +228,7 @@ module _ (me : List ℕ) where
   abbrev pub StepsFormed : Type 0
   StepsFormed =
       (m : Memory) (h : History) (cs : List Export) → Enough m → ReadyFor me (world_in m h) → AllFit Fits (meant_all me m cs) → (j : ℕ) (x : Trace Seen)
-      → traced_in me j m none cs ≡ some x → LookupsFormed m cs j x
+      → traced_in me j m None cs ≡ Some x → LookupsFormed m cs j x
 
   -- ==== demand 2: in memory once cleared each contact lies at SHA-256 of its id
   abbrev pub ContactsHashed : Type 0
@@ -278,7 +276,7 @@ module _ (me : List ℕ) where
     pub kind : (message_of (completed m i piece)).kind ≡ put_value
     pub under : (message_of (completed m i piece)).key ≡ key
     pub what : Record
-    pub held : (message_of (completed m i piece)).held ≡ some what
+    pub held : (message_of (completed m i piece)).held ≡ Some what
     pub says : what.value ≡ value
 
   -- "accepted, typed or sent": by the call c on the memory m
@@ -295,9 +293,9 @@ module _ (me : List ℕ) where
   pub record Asks (m : Memory) (i : ℕ) (piece key : List ℕ) : Type 0 where
     pub side : (conn_in (m.conns i)).asking ≡ false
     pub size : ℕ
-    pub whole : (framed_of (conn_in (m.conns i)).framing (m.buffers i) piece).got.answer ≡ framed.Message size
+    pub whole : (framed_of (conn_in (m.conns i)).framing (m.buffers i) piece).got.answer ≡ Ok (Some size)
     pub says : Message
-    pub reads : decode (completed m i piece) ≡ some says
+    pub reads : decode (completed m i piece) ≡ Some says
     pub kind : says.kind ≡ get_value
     pub under : says.key ≡ key
 
@@ -307,8 +305,8 @@ module _ (me : List ℕ) where
     pub reply : returns me m (host.receives i piece) ≡ 65
     pub says : Message
     pub bytes : take (length_by me m i piece) (leaves me m (host.receives i piece)).lent.reply ≡ frame (encode says)
-    pub back : decode (encode says) ≡ some says
-    pub held : says.held ≡ some (record { key = key; value = value })
+    pub back : decode (encode says) ≡ Some says
+    pub held : says.held ≡ Some (record { key = key; value = value })
     pub shown : ReadAs (encode says) says
 
   -- "the one found under its key": find returns 64 and writes to out where in the records its bytes begin and end; and every GET_VALUE is answered with it

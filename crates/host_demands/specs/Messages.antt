@@ -1,22 +1,20 @@
 -- Demand 2 of messages, as C and Rust programs get them: what `starterbell_read`, `starterbell_peer`, `starterbell_peer_address` and `starterbell_write`
 -- return and leave, by the definitions that their contracts name. Proved in proofs/Reading.antt.
 use Rattle.std.specs.Prelude.{ℕ, ◌+◌, ◌*◌, ◌≤◌, ◌<◌, ◌≡◌, true, false, List, [], ◌∷◌, ◌++◌, length, get_or, take, drop}
-use Rattle.std.proofs.Math.Option.{Option, none, some}
 use Rattle.octets.specs.Octets.{part}
 use Rattle.limits.specs.Limits.{most_body, least_reply, most_kind}
 use Rattle.wire.specs.declared.Span.{Span}
-use Rattle.wire.specs.declared.Found.{Found}
 use Rattle.message.specs.Message.{Peer, Record, Message, decode, encode}
 use Rattle.message.specs.View.{reading_of}
 use Rattle.message.specs.Claims.{Cuttable}
 use Rattle.message.specs.declared.Fields.{Fields}
-use Rattle.message.specs.declared.Reading.TheVariants.{Whole}
 use Rattle.peer_walk.specs.PeerWalk.{most_places}
 use Rattle.pieces.specs.Writable.{writable}
 use Rattle.writer.specs.Writer.{answer_of, out_after}
 use Rattle.host_numbers.specs.Numbers.{view_numbers}
 use Rattle.host_answers.specs.Answers.{read_number, read_numbers, entry_from, address_from, part_number, peer_numbers, address_numbers, write_number, write_numbers}
 use Rattle.demands.specs.Demands.{Writes}
+use Rattle.std.specs.Prelude.{Ok, Some, None, Option}
 
 -- ---- what numbers in out show
 -- from start up to end there are these bytes of the body, and both lie in it
@@ -27,8 +25,8 @@ pub record IsPart (body : List ℕ) (start end : ℕ) (bytes : List ℕ) : Type 
 
 -- a record: 1, and where its key and its value are. None: 0
 abbrev pub RecordShown : List ℕ → List ℕ → Option Record → Type 0
-RecordShown body o none = get_or o 3 0 ≡ 0
-RecordShown body o (some r) = (get_or o 3 0 ≡ 1) × IsPart body (get_or o 4 0) (get_or o 5 0) r.key × IsPart body (get_or o 6 0) (get_or o 7 0) r.value
+RecordShown body o None = get_or o 3 0 ≡ 0
+RecordShown body o (Some r) = (get_or o 3 0 ≡ 1) × IsPart body (get_or o 4 0) (get_or o 5 0) r.key × IsPart body (get_or o 6 0) (get_or o 7 0) r.value
 
 -- eight numbers: a message's type, where its key is, and its record
 pub record Shows (body : List ℕ) (m : Message) (o : List ℕ) : Type 0 where
@@ -47,17 +45,17 @@ pub record ReadAs (body : List ℕ) (m : Message) : Type 0 where
 -- and any other is refused with 4, 5 or 6
 pub record ReadTold (body : List ℕ) : Type 0 where
   pub long : most_body < length body → read_number (reading_of body) ≡ 4
-  pub malformed : length body ≤ most_body → decode body ≡ none → read_number (reading_of body) ≡ 5
-  pub unknown : length body ≤ most_body → (m : Message) → decode body ≡ some m → most_kind < m.kind → read_number (reading_of body) ≡ 6
-  pub whole : length body ≤ most_body → (m : Message) → decode body ≡ some m → m.kind ≤ most_kind → ReadAs body m
+  pub malformed : length body ≤ most_body → decode body ≡ None → read_number (reading_of body) ≡ 5
+  pub unknown : length body ≤ most_body → (m : Message) → decode body ≡ Some m → most_kind < m.kind → read_number (reading_of body) ≡ 6
+  pub whole : length body ≤ most_body → (m : Message) → decode body ≡ Some m → m.kind ≤ most_kind → ReadAs body m
   -- refused, it leaves out as it was
   pub refused : read_number (reading_of body) < 64 → (out : List ℕ) → read_numbers out (reading_of body) ≡ out
   -- and the eight numbers that a receive gives with 66 (`AsExported`) show the message that it gives
-  pub heard : (f : Fields) → reading_of body ≡ Whole f → (m : Message) × (decode body ≡ some m) × Shows body m (view_numbers f)
+  pub heard : (f : Fields) → reading_of body ≡ Ok f → (m : Message) × (decode body ≡ Some m) × Shows body m (view_numbers f)
 
 -- ---- starterbell_peer_address, of the entry from start up to end
 -- a call that finds f: 64, and out begins with where these bytes of the body are; its other numbers stay
-pub record AddressGiven (body : List ℕ) (f : Found) (p : Span) (bytes : List ℕ) : Type 0 where
+pub record AddressGiven (body : List ℕ) (f : Option Span) (p : Span) (bytes : List ℕ) : Type 0 where
   pub number : part_number f ≡ 64
   pub numbers : (out : List ℕ) → 2 ≤ length out → address_numbers out f ≡ p.at ∷ p.end ∷ drop 2 out
   pub says : IsPart body p.at p.end bytes
@@ -71,7 +69,7 @@ Addresses body start end from (a ∷ l) = (p : Span) × AddressGiven body (addre
 -- ---- starterbell_peer
 -- a call that finds f: 64, and out begins with 22 numbers, or as many of them as it has room for: where the entry is, where its id is, its connection, how many
 -- addresses it has, and sixteen places. The calls on its addresses, from 0 or its start, give them all
-pub record PeerGiven (body : List ℕ) (f : Found) (p : Span) (who : Peer) : Type 0 where
+pub record PeerGiven (body : List ℕ) (f : Option Span) (p : Span) (who : Peer) : Type 0 where
   pub number : part_number f ≡ 64
   pub id : Span
   pub places : List ℕ
@@ -115,5 +113,5 @@ pub record WriteTold (y : List ℕ) (m : Message) : Type 0 where
 
 pub record MessagesCross : Type 0 where
   pub reads : (body : List ℕ) → ReadTold body
-  pub peers : (body : List ℕ) (m : Message) → decode body ≡ some m → PeersTold body m
+  pub peers : (body : List ℕ) (m : Message) → decode body ≡ Some m → PeersTold body m
   pub writes : (y : List ℕ) (m : Message) → WriteTold y m

@@ -2,20 +2,20 @@
 use Rattle.std.specs.Prelude.{ℕ, cond, List, [], ◌∷◌, get_or}
 use Rattle.refusal.specs.Refusal.{number_of}
 use Rattle.message.specs.declared.Fields.{Fields}
-use Rattle.connections.specs.declared.Told.{Told}
-use Rattle.connections.specs.declared.Told.TheVariants as told
 use Rattle.flat.specs.Flat.{says_yes}
+use Rattle.std.specs.Prelude.{Ok, Err, Result, ⊤}
+use Rattle.refusal.specs.declared.Refusal.{Refusal}
 
 -- ---- what a call was told
 -- a refusal's number, or 64
-abbrev pub told_code : Told → ℕ
-told_code told.Fine = 64
-told_code (told.Refused r) = number_of r
+abbrev pub told_code : Result ⊤ Refusal → ℕ
+told_code (Ok tt) = 64
+told_code (Err r) = number_of r
 
 -- the first, or the second where the call was refused
-abbrev pub unless_refused : {A : Type 0} → Told → A → A → A
-unless_refused told.Fine x y = x
-unless_refused (told.Refused r) x y = y
+abbrev pub unless_refused : {A : Type 0} → Result ⊤ Refusal → A → A → A
+unless_refused (Ok tt) x y = x
+unless_refused (Err r) x y = y
 
 -- ---- a message's view
 -- a message's type, where its key is, whether it has a record, and where the record's key and value are

@@ -8,7 +8,6 @@ ghost use Rattle.flat.specs.Flat.{says_yes};
 ghost use Rattle.host_numbers.specs.Numbers.{told_code, view_numbers, view_in};
 
 use message::{Fields, Held};
-use node::Told;
 use refusal::Refusal;
 use wire::Span;
 
@@ -53,10 +52,8 @@ pub fn put_numbers(out: &mut [u64], at: usize, numbers: &[usize])
     ensures { out.new ≡ sets out.old at numbers.now }
 {
     let n = room(out.len(), at, numbers.len());
-    let mut i: usize = 0;
-    while i < n {
+    for i in 0..n {
         out[at + i] = numbers[i] as u64;
-        i += 1;
     }
 }
 
@@ -69,12 +66,12 @@ pub fn put_number(out: &mut [u64], number: usize)
 }
 
 // 64 for fine, or a refusal.
-pub fn told_code(t: Told) -> u32
+pub fn told_code(t: Result<(), Refusal>) -> u32
     ensures { result ≡ told_code t }
 {
     match t {
-        Told::Fine => 64,
-        Told::Refused(r) => code_of(r),
+        Ok(()) => 64,
+        Err(r) => code_of(r),
     }
 }
 

@@ -11,23 +11,21 @@ use Rattle.octets.proofs.Stores.{sets-append}
 use Rattle.refusal.specs.declared.Refusal.{Refusal}
 use Rattle.refusal.specs.Refusal.{number_of}
 use Rattle.stream.specs.declared.Framing.{Framing}
-use Rattle.stream.specs.declared.Ending.TheVariants as ending
-use Rattle.connections.specs.declared.Told.{Told}
-use Rattle.connections.specs.declared.Told.TheVariants as told
 use Rattle.connections.specs.declared.Started.{Started}
 use Rattle.connections.specs.declared.Ended.{Ended}
 use Rattle.flat.specs.Flat.{peer_bytes, with_framing}
 use Rattle.node.specs.declared.Received.{Received}
 use Rattle.host_numbers.specs.Numbers.{told_code, unless_refused}
 use Rattle.host_state.specs.State.{box_after, changes_nothing, refused_framing, ending_code, ending_framing, ended_memory, answer_length, answer_view, sight_number, sight_slot, received_numbers}
+use Rattle.std.specs.Prelude.{Ok, Err, Result, ⊤}
 
 -- ---- start
 module _ (me : List ℕ) (s : Started) where
-  pub box-kept : (new : List ℕ) → s.told ≡ told.Fine → new ≡ sets me 0 (peer_bytes s.me) → (64 ≡ told_code s.told) × (new ≡ box_after me s)
-  box-kept new e h = (sym (ap told_code e), h ∙ sym (ap (λ (t : Told). unless_refused t (sets me 0 (peer_bytes s.me)) me) e))
+  pub box-kept : (new : List ℕ) → s.told ≡ Ok tt → new ≡ sets me 0 (peer_bytes s.me) → (64 ≡ told_code s.told) × (new ≡ box_after me s)
+  box-kept new e h = (sym (ap told_code e), h ∙ sym (ap (λ (t : Result ⊤ Refusal). unless_refused t (sets me 0 (peer_bytes s.me)) me) e))
 
-  pub box-left : (n : ℕ) (r : Refusal) → s.told ≡ told.Refused r → n ≡ number_of r → (n ≡ told_code s.told) × (me ≡ box_after me s)
-  box-left n r e h = (h ∙ sym (ap told_code e), sym (ap (λ (t : Told). unless_refused t (sets me 0 (peer_bytes s.me)) me) e))
+  pub box-left : (n : ℕ) (r : Refusal) → s.told ≡ Err r → n ≡ number_of r → (n ≡ told_code s.told) × (me ≡ box_after me s)
+  box-left n r e h = (h ∙ sym (ap told_code e), sym (ap (λ (t : Result ⊤ Refusal). unless_refused t (sets me 0 (peer_bytes s.me)) me) e))
 
 -- ---- a refusal on a connection, and its end
 module _ (r : Refusal) (n : ℕ) (e : n ≡ number_of r) where
@@ -48,11 +46,11 @@ module _ (conn : List ℕ) (f : Framing) (r : Refusal) (b : Bool) (e : b ≡ cha
   framing-written new h w = w ∙ sym (cond_no (changes_nothing r) conn (with_framing conn f) (sym e ∙ h))
 
 module _ (conn : List ℕ) (x : Ended) where
-  pub end_clean : (new : List ℕ) → x.answer ≡ ending.Clean → new ≡ with_framing conn x.conn.framing
+  pub end_clean : (new : List ℕ) → x.answer ≡ Ok tt → new ≡ with_framing conn x.conn.framing
       → (64 ≡ ending_code x.answer) × (new ≡ ended_memory conn x)
   end_clean new e h = (sym (ap ending_code e), h ∙ sym (ap (ending_framing conn x.conn.framing) e))
 
-  pub end_refused : (new : List ℕ) (n : ℕ) (r : Refusal) → x.answer ≡ ending.Refused r
+  pub end_refused : (new : List ℕ) (n : ℕ) (r : Refusal) → x.answer ≡ Err r
       → (n ≡ number_of r) × (new ≡ refused_framing conn x.conn.framing r) → (n ≡ ending_code x.answer) × (new ≡ ended_memory conn x)
   end_refused new n r e h = (h.0 ∙ sym (ap ending_code e), h.1 ∙ sym (ap (ending_framing conn x.conn.framing) e))
 

@@ -4,19 +4,16 @@ use Rattle.std.proofs.lemmas.List.Edits.{sets}
 use Rattle.refusal.specs.declared.Refusal.{Refusal}
 use Rattle.refusal.specs.Refusal.{number_of}
 use Rattle.stream.specs.declared.Framing.{Framing}
-use Rattle.stream.specs.declared.Ending.{Ending}
-use Rattle.stream.specs.declared.Ending.TheVariants as ending
 use Rattle.sightings.specs.declared.Sighting.{Sighting}
 use Rattle.sightings.specs.declared.Sighting.TheVariants as sighting
 use Rattle.connections.specs.declared.Started.{Started}
 use Rattle.connections.specs.declared.Ended.{Ended}
 use Rattle.node.specs.declared.Answer as node
 use Rattle.node.specs.declared.Answer.TheVariants as answer
-use Rattle.node.specs.declared.Sight.{Sight}
-use Rattle.node.specs.declared.Sight.TheVariants as sight
 use Rattle.node.specs.declared.Received.{Received}
 use Rattle.flat.specs.Flat.{peer_bytes, with_framing}
 use Rattle.host_numbers.specs.Numbers.{unless_refused, view_numbers}
+use Rattle.std.specs.Prelude.{Ok, Err, Some, None, Result, Option, ⊤}
 
 -- ---- start
 -- a refused start leaves the box memory as it was
@@ -31,65 +28,65 @@ changes_nothing r = leb (number_of r) 2 || eqb (number_of r) 12
 abbrev pub refused_framing : List ℕ → Framing → Refusal → List ℕ
 refused_framing conn f r = cond (changes_nothing r) conn (with_framing conn f)
 
-abbrev pub ending_code : Ending → ℕ
-ending_code ending.Clean = 64
-ending_code (ending.Refused r) = number_of r
+abbrev pub ending_code : Result ⊤ Refusal → ℕ
+ending_code (Ok tt) = 64
+ending_code (Err r) = number_of r
 
-abbrev pub ending_framing : List ℕ → Framing → Ending → List ℕ
-ending_framing conn f ending.Clean = with_framing conn f
-ending_framing conn f (ending.Refused r) = refused_framing conn f r
+abbrev pub ending_framing : List ℕ → Framing → Result ⊤ Refusal → List ℕ
+ending_framing conn f (Ok tt) = with_framing conn f
+ending_framing conn f (Err r) = refused_framing conn f r
 
 abbrev pub ended_memory : List ℕ → Ended → List ℕ
 ended_memory conn e = ending_framing conn e.conn.framing e.answer
 
 -- ---- receiving
 -- 64 more, 65 a reply, 66 a message for a lookup
-abbrev pub answer_number : node.Answer → ℕ
-answer_number (answer.Reply n) = 65
-answer_number (answer.Heard n m) = 66
-answer_number (answer.Refused r) = number_of r
-answer_number answer.More = 64
+abbrev pub answer_number : Result node.Answer Refusal → ℕ
+answer_number (Ok (answer.Reply n)) = 65
+answer_number (Ok (answer.Heard n m)) = 66
+answer_number (Err r) = number_of r
+answer_number (Ok answer.More) = 64
 
 -- the length of the reply or of the message
-abbrev pub answer_length : node.Answer → ℕ
-answer_length (answer.Reply n) = n
-answer_length (answer.Heard n m) = n
-answer_length (answer.Refused r) = 0
-answer_length answer.More = 0
+abbrev pub answer_length : Result node.Answer Refusal → ℕ
+answer_length (Ok (answer.Reply n)) = n
+answer_length (Ok (answer.Heard n m)) = n
+answer_length (Err r) = 0
+answer_length (Ok answer.More) = 0
 
-abbrev pub answer_view : node.Answer → List ℕ
-answer_view (answer.Reply n) = []
-answer_view (answer.Heard n m) = view_numbers m
-answer_view (answer.Refused r) = []
-answer_view answer.More = []
+abbrev pub answer_view : Result node.Answer Refusal → List ℕ
+answer_view (Ok (answer.Reply n)) = []
+answer_view (Ok (answer.Heard n m)) = view_numbers m
+answer_view (Err r) = []
+answer_view (Ok answer.More) = []
 
-abbrev pub answer_framing : List ℕ → Framing → node.Answer → List ℕ
-answer_framing conn f (answer.Reply n) = with_framing conn f
-answer_framing conn f (answer.Heard n m) = with_framing conn f
-answer_framing conn f (answer.Refused r) = refused_framing conn f r
-answer_framing conn f answer.More = with_framing conn f
+abbrev pub answer_framing : List ℕ → Framing → Result node.Answer Refusal → List ℕ
+answer_framing conn f (Ok (answer.Reply n)) = with_framing conn f
+answer_framing conn f (Ok (answer.Heard n m)) = with_framing conn f
+answer_framing conn f (Err r) = refused_framing conn f r
+answer_framing conn f (Ok answer.More) = with_framing conn f
 
 -- 1 moved, 2 joined, 3 the bucket is full, 4 no slot, for which alone a message's sighting is refused; and the slot, or that of the bucket's head
-abbrev pub sighting_number : Sighting → ℕ
-sighting_number (sighting.Moved i) = 1
-sighting_number (sighting.Joined i) = 2
-sighting_number (sighting.Probe h) = 3
-sighting_number (sighting.Refused r) = 4
+abbrev pub sighting_number : Result Sighting Refusal → ℕ
+sighting_number (Ok (sighting.Moved i)) = 1
+sighting_number (Ok (sighting.Joined i)) = 2
+sighting_number (Ok (sighting.Probe h)) = 3
+sighting_number (Err r) = 4
 
-abbrev pub sighting_slot : Sighting → ℕ
-sighting_slot (sighting.Moved i) = i
-sighting_slot (sighting.Joined i) = i
-sighting_slot (sighting.Probe h) = h
-sighting_slot (sighting.Refused r) = 0
+abbrev pub sighting_slot : Result Sighting Refusal → ℕ
+sighting_slot (Ok (sighting.Moved i)) = i
+sighting_slot (Ok (sighting.Joined i)) = i
+sighting_slot (Ok (sighting.Probe h)) = h
+sighting_slot (Err r) = 0
 
 -- 0 for no sighting
-abbrev pub sight_number : Sight → ℕ
-sight_number sight.NotSeen = 0
-sight_number (sight.Seen s) = sighting_number s
+abbrev pub sight_number : Option (Result Sighting Refusal) → ℕ
+sight_number None = 0
+sight_number (Some s) = sighting_number s
 
-abbrev pub sight_slot : Sight → ℕ
-sight_slot sight.NotSeen = 0
-sight_slot (sight.Seen s) = sighting_slot s
+abbrev pub sight_slot : Option (Result Sighting Refusal) → ℕ
+sight_slot None = 0
+sight_slot (Some s) = sighting_slot s
 
 -- bytes taken, length, sighting and slot, and the view of a message for a lookup
 abbrev pub received_numbers : List ℕ → Received → List ℕ

@@ -7,10 +7,10 @@ ghost use Rattle.host_numbers.specs.Numbers.{told_code};
 ghost use Rattle.host_state.specs.State.{box_after, changes_nothing, refused_framing, ending_code, ended_memory, answer_number, answer_length, answer_view, answer_framing};
 ghost use Rattle.host_state.specs.State.{sighting_number, sighting_slot, sight_number, sight_slot, received_numbers, received_memory, nothing_taken};
 
-use node::{Answer, Ended, Received, Sight, Started, Told};
+use node::{Answer, Ended, Received, Started};
 use refusal::Refusal;
 use sightings::Sighting;
-use stream::{Ending, Framing};
+use stream::Framing;
 
 // Keeps the box that a start gave.
 pub fn keep_box(me: &mut [u8], s: Started) -> u32
@@ -19,11 +19,11 @@ pub fn keep_box(me: &mut [u8], s: Started) -> u32
     let told = s.told;
     let p = s.me;
     match told {
-        Told::Fine => {
+        Ok(()) => {
             flat::put_peer(me, p);
             64
         }
-        Told::Refused(r) => host_numbers::code_of(r),
+        Err(r) => host_numbers::code_of(r),
     }
 }
 
@@ -57,74 +57,74 @@ pub fn keep_end(conn: &mut [u8], e: Ended) -> u32
     let f = c.framing;
     let a = e.answer;
     match a {
-        Ending::Clean => {
+        Ok(()) => {
             flat::put_framing(conn, f);
             64
         }
-        Ending::Refused(r) => refuse_on(conn, f, r),
+        Err(r) => refuse_on(conn, f, r),
     }
 }
 
-fn sighting_number(s: Sighting) -> usize
+fn sighting_number(s: Result<Sighting, Refusal>) -> usize
     ensures { result ≡ sighting_number s }
 {
     match s {
-        Sighting::Moved(_) => 1,
-        Sighting::Joined(_) => 2,
-        Sighting::Probe(_) => 3,
-        Sighting::Refused(_) => 4,
+        Ok(Sighting::Moved(_)) => 1,
+        Ok(Sighting::Joined(_)) => 2,
+        Ok(Sighting::Probe(_)) => 3,
+        Err(_) => 4,
     }
 }
 
-fn sighting_slot(s: Sighting) -> usize
+fn sighting_slot(s: Result<Sighting, Refusal>) -> usize
     ensures { result ≡ sighting_slot s }
 {
     match s {
-        Sighting::Moved(i) => i,
-        Sighting::Joined(i) => i,
-        Sighting::Probe(h) => h,
-        Sighting::Refused(_) => 0,
+        Ok(Sighting::Moved(i)) => i,
+        Ok(Sighting::Joined(i)) => i,
+        Ok(Sighting::Probe(h)) => h,
+        Err(_) => 0,
     }
 }
 
-fn sight_number(s: Sight) -> usize
+fn sight_number(s: Option<Result<Sighting, Refusal>>) -> usize
     ensures { result ≡ sight_number s }
 {
     match s {
-        Sight::NotSeen => 0,
-        Sight::Seen(seen) => sighting_number(seen),
+        None => 0,
+        Some(seen) => sighting_number(seen),
     }
 }
 
-fn sight_slot(s: Sight) -> usize
+fn sight_slot(s: Option<Result<Sighting, Refusal>>) -> usize
     ensures { result ≡ sight_slot s }
 {
     match s {
-        Sight::NotSeen => 0,
-        Sight::Seen(seen) => sighting_slot(seen),
+        None => 0,
+        Some(seen) => sighting_slot(seen),
     }
 }
 
-fn answer_length(a: Answer) -> usize
+fn answer_length(a: Result<Answer, Refusal>) -> usize
     ensures { result ≡ answer_length a }
 {
     match a {
-        Answer::Reply(n) => n,
-        Answer::Heard(n, _) => n,
-        Answer::Refused(_) => 0,
-        Answer::More => 0,
+        Ok(Answer::Reply(n)) => n,
+        Ok(Answer::Heard(n, _)) => n,
+        Err(_) => 0,
+        Ok(Answer::More) => 0,
     }
 }
 
 // Writes the view of a message that was heard, after the first four numbers.
-fn put_heard(out: &mut [u64], a: Answer)
+fn put_heard(out: &mut [u64], a: Result<Answer, Refusal>)
     ensures { out.new ≡ sets out.old 4 (answer_view a) }
 {
     match a {
-        Answer::Reply(_) => {}
-        Answer::Heard(_, m) => host_numbers::put_view(out, 4, m),
-        Answer::Refused(_) => {}
-        Answer::More => {}
+        Ok(Answer::Reply(_)) => {}
+        Ok(Answer::Heard(_, m)) => host_numbers::put_view(out, 4, m),
+        Err(_) => {}
+        Ok(Answer::More) => {}
     }
 }
 
@@ -140,20 +140,20 @@ fn put_received(out: &mut [u64], got: Received)
 }
 
 // The number of an answer. The framing that came back is written, unless the answer is a refusal that changes nothing.
-fn keep_framing(conn: &mut [u8], f: Framing, a: Answer) -> u32
+fn keep_framing(conn: &mut [u8], f: Framing, a: Result<Answer, Refusal>) -> u32
     ensures { (result ≡ answer_number a) × (conn.new ≡ answer_framing conn.old f a) }
 {
     match a {
-        Answer::Reply(_) => {
+        Ok(Answer::Reply(_)) => {
             flat::put_framing(conn, f);
             65
         }
-        Answer::Heard(_, _) => {
+        Ok(Answer::Heard(_, _)) => {
             flat::put_framing(conn, f);
             66
         }
-        Answer::Refused(r) => refuse_on(conn, f, r),
-        Answer::More => {
+        Err(r) => refuse_on(conn, f, r),
+        Ok(Answer::More) => {
             flat::put_framing(conn, f);
             64
         }

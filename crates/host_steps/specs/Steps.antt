@@ -7,25 +7,27 @@ use Rattle.lookup.specs.declared.Answer.TheVariants as step
 use Rattle.lookup.specs.Value.{Step}
 use Rattle.lookup_in_place.specs.declared.Outcome.{Outcome}
 use Rattle.lookup_in_place.specs.InPlace.{outcome_of, is_refused}
+use Rattle.std.specs.Prelude.{Ok, Err, Result}
+use Rattle.refusal.specs.declared.Refusal.{Refusal}
 
 -- ---- lookups
 -- 64 going, 65 wait, 66 ask, 67 complete, 68 cut short
-abbrev pub step_number : lookup.Answer → ℕ
-step_number (step.Refused r) = number_of r
-step_number (step.Complete n) = 67
-step_number (step.CutShort n) = 68
-step_number step.Wait = 65
-step_number (step.Ask i) = 66
-step_number step.Going = 64
+abbrev pub step_number : Result lookup.Answer Refusal → ℕ
+step_number (Err r) = number_of r
+step_number (Ok (step.Complete n)) = 67
+step_number (Ok (step.CutShort n)) = 68
+step_number (Ok step.Wait) = 65
+step_number (Ok (step.Ask i)) = 66
+step_number (Ok step.Going) = 64
 
 -- the rank to ask, or the requests sent
-abbrev pub step_first : lookup.Answer → ℕ
-step_first (step.Refused r) = 0
-step_first (step.Complete n) = n
-step_first (step.CutShort n) = n
-step_first step.Wait = 0
-step_first (step.Ask i) = i
-step_first step.Going = 0
+abbrev pub step_first : Result lookup.Answer Refusal → ℕ
+step_first (Err r) = 0
+step_first (Ok (step.Complete n)) = n
+step_first (Ok (step.CutShort n)) = n
+step_first (Ok step.Wait) = 0
+step_first (Ok (step.Ask i)) = i
+step_first (Ok step.Going) = 0
 
 -- that number, how many were found, and their twenty ranks; nothing where the step was refused
 abbrev pub outcome_numbers : List ℕ → Outcome → List ℕ

@@ -5,32 +5,33 @@ ghost use Rattle.host_steps.specs.Steps.{step_number, step_first, outcome_number
 
 use lookup::Answer;
 use lookup_in_place::Outcome;
+use refusal::Refusal;
 
 // 64 going, 65 wait, 66 ask, 67 complete, 68 cut short, or a refusal.
-fn step_code(a: Answer) -> u32
+fn step_code(a: Result<Answer, Refusal>) -> u32
     ensures { result ≡ step_number a }
 {
     match a {
-        Answer::Refused(r) => host_numbers::code_of(r),
-        Answer::Complete(_) => 67,
-        Answer::CutShort(_) => 68,
-        Answer::Wait => 65,
-        Answer::Ask(_) => 66,
-        Answer::Going => 64,
+        Err(r) => host_numbers::code_of(r),
+        Ok(Answer::Complete(_)) => 67,
+        Ok(Answer::CutShort(_)) => 68,
+        Ok(Answer::Wait) => 65,
+        Ok(Answer::Ask(_)) => 66,
+        Ok(Answer::Going) => 64,
     }
 }
 
 // The rank to ask, or the requests sent.
-fn step_first(a: Answer) -> usize
+fn step_first(a: Result<Answer, Refusal>) -> usize
     ensures { result ≡ step_first a }
 {
     match a {
-        Answer::Refused(_) => 0,
-        Answer::Complete(n) => n,
-        Answer::CutShort(n) => n,
-        Answer::Wait => 0,
-        Answer::Ask(i) => i,
-        Answer::Going => 0,
+        Err(_) => 0,
+        Ok(Answer::Complete(n)) => n,
+        Ok(Answer::CutShort(n)) => n,
+        Ok(Answer::Wait) => 0,
+        Ok(Answer::Ask(i)) => i,
+        Ok(Answer::Going) => 0,
     }
 }
 

@@ -1,5 +1,5 @@
 -- Laws of the test of keys: slot numbers in the order of their keys, each found by halving and put in its place. Assumes nothing.
-use mathlib.Core.Path.{◌≡◌, refl, sym, ap, ap₂, ◌∙◌, subst}
+use mathlib.Core.Path.{◌≡◌, sym, ap, ap₂, ◌∙◌, subst}
 use mathlib.Core.Logic.{◌⊎◌, inl, inr, ⊎_elim}
 use mathlib.Core.Bool.{Bool, true, false, not, ◌&&◌}
 use mathlib.Core.List.{List}
@@ -7,12 +7,11 @@ use Prim.Native.Nat.{ℕ, ◌+◌, ◌-◌, ◌<◌, ◌≤◌}
 use native.Mathlib.Omega.{arith}
 use native.Mathlib.Nat.{eq-or-lt_of_le, not-suc-le-zero}
 use lib.Dec.{ltb}
-use lib.ListN.{length, get_or, set, length-set}
-use lib.Seq.{get_or-set_same, get_or-set_other}
+use lib.ListN.{length, get_or}
 use borrow.Author.Tests.{lt-ltb, le-ltb, ltb-true, ltb-false}
 use Rattle.octets.specs.Octets.{lower}
 use Rattle.octets.specs.Search.{all}
-use Rattle.octets.proofs.Bools.{and_l, and_r, and_i, not-both, to-false, either, eq-or-ne}
+use Rattle.octets.proofs.Bools.{and_l, and_r, and_i, not-both, to-false, either}
 use Rattle.octets.proofs.Searching.{all-intro, all-fails}
 use Rattle.octets.proofs.Strings.{lower-trans, lower-total, lower-irrefl}
 use Rattle.limits.specs.Limits.{most_records}
@@ -80,48 +79,6 @@ pub record Moving (o₀ : List ℕ) (held p : ℕ) (o : List ℕ) (m : ℕ) : Ty
   pub size : length o ≡ length o₀
   pub still : (q : ℕ) → q ≤ m → get_or o q 0 ≡ get_or o₀ q 0
   pub moved : (q : ℕ) → m < q → q ≤ held → get_or o q 0 ≡ get_or o₀ (q - 1) 0
-
-pub moving : (o : List ℕ) (held p : ℕ) → p ≤ held → Moving o held p o held
-moving o held p h = record { least = h; most = omega arith; size = refl; still = λ q l. refl; moved = λ q a l. absurd (bad a l) }
-  where
-    bad : {q : ℕ} → held < q → q ≤ held → ⊥
-    bad a l = omega arith
-
-module _ (o₀ : List ℕ) (held p : ℕ) (room : held < length o₀) (o : List ℕ) (m : ℕ) (g : Moving o₀ held p o m) where
-  pub move-on : p < m → Moving o₀ held p (set o m (get_or o (m - 1) 0)) (m - 1)
-  move-on h = record { least = omega arith; most = omega (arith, g.most); size = length-set o m (get_or o (m - 1) 0) ∙ g.size; still = λ q l. still-at q l; moved = λ q a l. moved_at q a l (eq-or-ne q m) }
-    where
-      off : (q : ℕ) → q ≤ m - 1 → q ≡ m → ⊥
-      off q l z = omega arith
-
-      still-at : (q : ℕ) → q ≤ m - 1 → get_or (set o m (get_or o (m - 1) 0)) q 0 ≡ get_or o₀ q 0
-      still-at q l = get_or-set_other o m q (get_or o (m - 1) 0) 0 (off q l) ∙ g.still q (omega arith)
-
-      here : get_or (set o m (get_or o (m - 1) 0)) m 0 ≡ get_or o₀ (m - 1) 0
-      here = get_or-set_same o m (get_or o (m - 1) 0) 0 (omega (arith, g.size, g.most)) ∙ g.still (m - 1) (omega arith)
-
-      moved_at : (q : ℕ) → m - 1 < q → q ≤ held → (q ≡ m) ⊎ (q ≡ m → ⊥) → get_or (set o m (get_or o (m - 1) 0)) q 0 ≡ get_or o₀ (q - 1) 0
-      moved_at q a l (inl z) = subst (λ (n : ℕ). get_or (set o m (get_or o (m - 1) 0)) n 0 ≡ get_or o₀ (n - 1) 0) (sym z) here
-      moved_at q a l (inr z) = get_or-set_other o m q (get_or o (m - 1) 0) 0 z ∙ g.moved q (past z) l
-        where
-          past : (q ≡ m → ⊥) → m < q
-          past w = ⊎_elim (λ y. absurd (w (sym y))) (λ y. y) (eq-or-lt_of_le {n = m} {m = q} (omega arith))
-
-  pub inserted : m ≤ p → (x : ℕ) → Inserted o₀ (set o p x) held p x
-  inserted h x =
-      let e : m ≡ p = omega (arith, g.least) in
-      record {
-        size = length-set o p x ∙ g.size;
-        before = λ q l. get_or-set_other o p q x 0 (under q l) ∙ g.still q (omega arith);
-        at = get_or-set_same o p x 0 (omega (arith, g.size, g.most));
-        after = λ q a l. get_or-set_other o p q x 0 (above q a) ∙ g.moved q (omega arith) l;
-      }
-    where
-      under : (q : ℕ) → q < p → q ≡ p → ⊥
-      under q l z = omega arith
-
-      above : (q : ℕ) → p < q → q ≡ p → ⊥
-      above q l z = omega arith
 
 -- ---- one slot more
 module _ (sz : ℕ) (t o : List ℕ) (held i : ℕ) (g : Ordered sz t o held i) (li : i < slots_of sz t) where

@@ -67,6 +67,7 @@ fn slot_holds(store: &[u8], size: usize, key: &[u8], i: usize) -> bool
 // So a key is compared with eight others at most, not with all.
 
 // The place of a key in the order: all before it are lower, and no other is.
+// By hand, since `partition_point` wants a closure that may be called for any byte, and a slot has to be there for its number.
 fn place_for(store: &[u8], size: usize, order: &[u8], held: usize, key: &[u8]) -> usize
     requires { Rising size store.now order.now held }
     ensures { Between size store.now order.now held key.now result }
@@ -98,14 +99,13 @@ fn stands_at(store: &[u8], size: usize, order: &[u8], held: usize, p: usize, key
 }
 
 // Puts a slot number into the order at a place, and moves those after it on.
+// One by one, since `rotate_right` calls memmove: what a host links needs memcpy and memset and nothing else.
 fn insert(order: &mut [u8], held: usize, p: usize, i: u8)
     requires { (p ≤ held) × (held < length order.old) }
     ensures { Inserted order.old order.new held p i }
 {
-    let mut m = held;
-    while p < m {
-        order[m] = order[m - 1];
-        m -= 1;
+    for m in (p..held).rev() {
+        order[m + 1] = order[m];
     }
     order[p] = i;
 }
@@ -135,13 +135,11 @@ pub fn keys_apart(store: &[u8], size: usize) -> bool
     let n = slots(store, size);
     let mut order = [0u8; 256];
     let mut held: usize = 0;
-    let mut i: usize = 0;
-    while i < n {
+    for i in 0..n {
         held = settle(store, size, &mut order, held, i);
         if limits::MOST_RECORDS < held {
             return false;
         }
-        i += 1;
     }
     true
 }
@@ -151,12 +149,10 @@ pub fn slot_with(store: &[u8], size: usize, key: &[u8]) -> usize
     ensures { result ≡ slot_with size store.now key.now }
 {
     let n = slots(store, size);
-    let mut i: usize = 0;
-    while i < n {
+    for i in 0..n {
         if slot_holds(store, size, key, i) {
             return i;
         }
-        i += 1;
     }
     n
 }
@@ -166,13 +162,11 @@ pub fn free_slot(store: &[u8], size: usize) -> usize
     ensures { result ≡ free_slot size store.now }
 {
     let n = slots(store, size);
-    let mut i: usize = 0;
-    while i < n {
+    for i in 0..n {
         let s = slot_at(store, size, i);
         if s[0] < 1 {
             return i;
         }
-        i += 1;
     }
     n
 }

@@ -32,8 +32,7 @@ use Rattle.lookup.specs.Lookup.{room, candidates_of, turn_away, put, mark, refus
 use Rattle.lookup_candidates.specs.Candidates.{id_fits, fresh}
 use Rattle.lookup_candidates.specs.declared.Candidate.{Candidate}
 use Rattle.lookup.specs.Value.{Lookup, Step}
-use Rattle.lookup.specs.declared.Whom.{Whom}
-use Rattle.lookup.specs.declared.Whom.TheVariants.{Nobody, At}
+use Rattle.std.specs.Prelude.{Ok, Err, Result}
 
 -- ---- one more candidate leaves no more than there is room for
 pub enter-length : (t : List ℕ) (c : Candidate) (cs : List Candidate) → length (enter t c cs) ≡ suc (length cs)
@@ -210,13 +209,13 @@ module _ (l : Lookup) (own ours id body : List ℕ) (v : Fields) (b : Bool) (eb 
   unfolding reply_of
   reply-bad h e = e ∙ sym (cond_yes (not (is_view body v)) (refuses l OutOfForm) _ (ap not (sym eb) ∙ h))
 
-  module _ (h : not b ≡ false) (w : Whom) (ew : w ≡ whom_of l own ours id) where
+  module _ (h : not b ≡ false) (w : Result ℕ Refusal) (ew : w ≡ whom_of l own ours id) where
     viewed : reported l (whom_of l own ours id) (heard_from ours body v.kind l) ≡ reply_of l own ours id body v
     unfolding reply_of
     viewed = sym (cond_no (not (is_view body v)) (refuses l OutOfForm) (reported l (whom_of l own ours id) (heard_from ours body v.kind l)) (ap not (sym eb) ∙ h))
 
-    pub reply-refused : (r : Refusal) → w ≡ Nobody r → s ≡ refuses l r → s ≡ reply_of l own ours id body v
-    reply-refused r q e = e ∙ ap (λ (x : Whom). reported l x (heard_from ours body v.kind l)) (sym q ∙ ew) ∙ viewed
+    pub reply-refused : (r : Refusal) → w ≡ Err r → s ≡ refuses l r → s ≡ reply_of l own ours id body v
+    reply-refused r q e = e ∙ ap (λ (x : Result ℕ Refusal). reported l x (heard_from ours body v.kind l)) (sym q ∙ ew) ∙ viewed
 
-    pub reply-at : (i : ℕ) (k : Lookup) → w ≡ At i → k ≡ heard_from ours body v.kind l i → s ≡ settled k → s ≡ reply_of l own ours id body v
-    reply-at i k q ek e = e ∙ ap settled ek ∙ ap (λ (x : Whom). reported l x (heard_from ours body v.kind l)) (sym q ∙ ew) ∙ viewed
+    pub reply-at : (i : ℕ) (k : Lookup) → w ≡ Ok i → k ≡ heard_from ours body v.kind l i → s ≡ settled k → s ≡ reply_of l own ours id body v
+    reply-at i k q ek e = e ∙ ap settled ek ∙ ap (λ (x : Result ℕ Refusal). reported l x (heard_from ours body v.kind l)) (sym q ∙ ew) ∙ viewed

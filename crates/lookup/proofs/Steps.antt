@@ -24,11 +24,10 @@ use Rattle.lookup_candidates.specs.declared.Candidate.{Candidate}
 use Rattle.lookup.specs.Value.{Lookup, Step}
 use Rattle.lookup.specs.declared.Answer.{Answer}
 use Rattle.lookup.specs.declared.Answer.TheVariants.{Complete, CutShort, Wait, Ask, Going}
-use Rattle.lookup.specs.declared.Whom.{Whom}
-use Rattle.lookup.specs.declared.Whom.TheVariants.{Nobody, At}
 use Rattle.octets.proofs.Lists.{map-take}
 use Rattle.lookup.proofs.Form.{formed}
 use Rattle.lookup.proofs.Scans.{put-enter}
+use Rattle.std.specs.Prelude.{Ok, Err, Result}
 
 -- ---- marks
 pub marks-part : (l : Lookup) (ms : List ℕ) → ms ≡ map mark_of l.candidates → take l.count ms ≡ marks_of l
@@ -40,10 +39,10 @@ marks-count l ms e hl h = sym (length-take-le l.count ms (omega (arith, ap lengt
 -- ---- over or going: the lookup stays as it is
 pub settled-lookup : (l : Lookup) → (settled l).lookup ≡ l
 unfolding settled
-settled-lookup l = cond_ind (λ (s : Step). s.lookup ≡ l) (is_over (marks_of l)) (ends l) (gives l Going) (λ e. refl) (λ e. refl)
+settled-lookup l = cond_ind (λ (s : Step). s.lookup ≡ l) (is_over (marks_of l)) (ends l) (gives l (Ok Going)) (λ e. refl) (λ e. refl)
 
 -- ---- the answer of a lookup that is over
-abbrev pub step_of : Lookup → Ranks → Answer → Step
+abbrev pub step_of : Lookup → Ranks → Result Answer Refusal → Step
 step_of l f a = record { lookup = l; found = f; answer = a }
 
 module _ (l : Lookup) (ms : List ℕ) (f : Ranks) (s : ℕ) (em : ms ≡ marks_of l) (ef : f ≡ ranks_of (twenty_of ms)) (es : s ≡ sent_of ms) where
@@ -53,15 +52,15 @@ module _ (l : Lookup) (ms : List ℕ) (f : Ranks) (s : ℕ) (em : ms ≡ marks_o
   sent : s ≡ sent_of (marks_of l)
   sent = es ∙ ap sent_of em
 
-  pub end-cut : l.turned ≡ true → step_of l f (CutShort s) ≡ ends l
+  pub end-cut : l.turned ≡ true → step_of l f (Ok (CutShort s)) ≡ ends l
   end-cut t =
-      ap₂ (λ (x : Ranks) (y : ℕ). step_of l x (CutShort y)) found sent
-      ∙ sym (ap (λ (a : Answer). step_of l (ranks_of (twenty_of (marks_of l))) a) (cond_yes l.turned (CutShort (sent_of (marks_of l))) (Complete (sent_of (marks_of l))) t))
+      ap₂ (λ (x : Ranks) (y : ℕ). step_of l x (Ok (CutShort y))) found sent
+      ∙ sym (ap (λ (a : Result Answer Refusal). step_of l (ranks_of (twenty_of (marks_of l))) a) (cond_yes l.turned ((Ok (CutShort (sent_of (marks_of l))))) ((Ok (Complete (sent_of (marks_of l))))) t))
 
-  pub end_whole : l.turned ≡ false → step_of l f (Complete s) ≡ ends l
+  pub end_whole : l.turned ≡ false → step_of l f (Ok (Complete s)) ≡ ends l
   end_whole t =
-      ap₂ (λ (x : Ranks) (y : ℕ). step_of l x (Complete y)) found sent
-      ∙ sym (ap (λ (a : Answer). step_of l (ranks_of (twenty_of (marks_of l))) a) (cond_no l.turned (CutShort (sent_of (marks_of l))) (Complete (sent_of (marks_of l))) t))
+      ap₂ (λ (x : Ranks) (y : ℕ). step_of l x (Ok (Complete y))) found sent
+      ∙ sym (ap (λ (a : Result Answer Refusal). step_of l (ranks_of (twenty_of (marks_of l))) a) (cond_no l.turned ((Ok (CutShort (sent_of (marks_of l))))) ((Ok (Complete (sent_of (marks_of l))))) t))
 
 -- ---- over or going
 module _ (l : Lookup) (ms : List ℕ) (em : ms ≡ marks_of l) (o : Bool) (eo : o ≡ is_over ms) (r : Step) where
@@ -70,11 +69,11 @@ module _ (l : Lookup) (ms : List ℕ) (em : ms ≡ marks_of l) (o : Bool) (eo : 
 
   pub settle-over : o ≡ true → r ≡ ends l → r ≡ settled l
   unfolding settled
-  settle-over t e = e ∙ sym (cond_yes (is_over (marks_of l)) (ends l) (gives l Going) (sym is-over ∙ t))
+  settle-over t e = e ∙ sym (cond_yes (is_over (marks_of l)) (ends l) (gives l (Ok Going)) (sym is-over ∙ t))
 
-  pub settle-going : o ≡ false → r ≡ gives l Going → r ≡ settled l
+  pub settle-going : o ≡ false → r ≡ gives l (Ok Going) → r ≡ settled l
   unfolding settled
-  settle-going t e = e ∙ sym (cond_no (is_over (marks_of l)) (ends l) (gives l Going) (sym is-over ∙ t))
+  settle-going t e = e ∙ sym (cond_no (is_over (marks_of l)) (ends l) (gives l (Ok Going)) (sym is-over ∙ t))
 
 -- ---- next
 module _ (l : Lookup) (b : Bool) (eb : b ≡ in_form l) (r : Step) where
@@ -100,31 +99,31 @@ module _ (l : Lookup) (b : Bool) (eb : b ≡ in_form l) (r : Step) where
       full : (x : Bool) → leb l.limit f ≡ x → leb l.limit (flights_of (marks_of l)) ≡ x
       full x e = ap (leb l.limit) (sym flights) ∙ e
 
-      pub next-full : l.limit ≤ f → r ≡ gives l Wait → r ≡ next_of l
+      pub next-full : l.limit ≤ f → r ≡ gives l (Ok Wait) → r ≡ next_of l
       unfolding next_of
       next-full g e =
           e ∙ sym (cond_no (not (in_form l)) (refuses l OutOfForm) _ in-form ∙ cond_no (is_over (marks_of l)) (ends l) _ (sym over ∙ t)
-          ∙ cond_yes (leb l.limit (flights_of (marks_of l))) (gives l Wait) _ (full true (le-leb l.limit f g)))
+          ∙ cond_yes (leb l.limit (flights_of (marks_of l))) (gives l (Ok Wait)) _ (full true (le-leb l.limit f g)))
 
       module _ (g : f < l.limit) (i : ℕ) (ei : i ≡ idle_of ms) where
         nearest : i ≡ idle_of (marks_of l)
         nearest = ei ∙ ap idle_of em
 
-        pub next-ask : (k : Lookup) → i < l.count → k ≡ mark i flying l → r ≡ gives k (Ask i) → r ≡ next_of l
+        pub next-ask : (k : Lookup) → i < l.count → k ≡ mark i flying l → r ≡ gives k (Ok (Ask i)) → r ≡ next_of l
         unfolding next_of
         next-ask k z ek e =
-            e ∙ ap (λ (x : Lookup). gives x (Ask i)) ek ∙ ap (λ (j : ℕ). gives (mark j flying l) (Ask j)) nearest
+            e ∙ ap (λ (x : Lookup). gives x (Ok (Ask i))) ek ∙ ap (λ (j : ℕ). gives (mark j flying l) (Ok (Ask j))) nearest
             ∙ sym (cond_no (not (in_form l)) (refuses l OutOfForm) _ in-form ∙ cond_no (is_over (marks_of l)) (ends l) _ (sym over ∙ t)
-            ∙ cond_no (leb l.limit (flights_of (marks_of l))) (gives l Wait) _ (full false (lt-leb l.limit f g))
-            ∙ cond_yes (ltb (idle_of (marks_of l)) l.count) (gives (mark (idle_of (marks_of l)) flying l) (Ask (idle_of (marks_of l)))) (gives l Wait)
+            ∙ cond_no (leb l.limit (flights_of (marks_of l))) (gives l (Ok Wait)) _ (full false (lt-leb l.limit f g))
+            ∙ cond_yes (ltb (idle_of (marks_of l)) l.count) (gives (mark (idle_of (marks_of l)) flying l) ((Ok (Ask (idle_of (marks_of l)))))) (gives l (Ok Wait))
             (ap (λ (j : ℕ). ltb j l.count) (sym nearest) ∙ lt-ltb i l.count z))
 
-        pub next-wait : l.count ≤ i → r ≡ gives l Wait → r ≡ next_of l
+        pub next-wait : l.count ≤ i → r ≡ gives l (Ok Wait) → r ≡ next_of l
         unfolding next_of
         next-wait z e =
             e ∙ sym (cond_no (not (in_form l)) (refuses l OutOfForm) _ in-form ∙ cond_no (is_over (marks_of l)) (ends l) _ (sym over ∙ t)
-            ∙ cond_no (leb l.limit (flights_of (marks_of l))) (gives l Wait) _ (full false (lt-leb l.limit f g))
-            ∙ cond_no (ltb (idle_of (marks_of l)) l.count) (gives (mark (idle_of (marks_of l)) flying l) (Ask (idle_of (marks_of l)))) (gives l Wait)
+            ∙ cond_no (leb l.limit (flights_of (marks_of l))) (gives l (Ok Wait)) _ (full false (lt-leb l.limit f g))
+            ∙ cond_no (ltb (idle_of (marks_of l)) l.count) (gives (mark (idle_of (marks_of l)) flying l) ((Ok (Ask (idle_of (marks_of l)))))) (gives l (Ok Wait))
             (ap (λ (j : ℕ). ltb j l.count) (sym nearest) ∙ le-ltb i l.count z))
 
 -- ---- ids and peers
@@ -151,51 +150,51 @@ module _ (own ours id : List ℕ) (a : Bool) (ea : a ≡ id_fits own) where
 
 -- ---- whom a report is about
 module _ (l : Lookup) (own ours id : List ℕ) (b : Bool) (eb : b ≡ in_form l) where
-  pub whom-form : not b ≡ true → Nobody OutOfForm ≡ whom_of l own ours id
+  pub whom-form : not b ≡ true → Err OutOfForm ≡ whom_of l own ours id
   unfolding whom_of
-  whom-form h = sym (cond_yes (not (in_form l)) (Nobody OutOfForm) _ (ap not (sym eb) ∙ h))
+  whom-form h = sym (cond_yes (not (in_form l)) (Err OutOfForm) _ (ap not (sym eb) ∙ h))
 
   module _ (h : not b ≡ false) where
     formedness : not (in_form l) ≡ false
     formedness = ap not (sym eb) ∙ h
 
-    pub whom-bad : bad_step own ours id ≡ true → Nobody BadPeer ≡ whom_of l own ours id
+    pub whom-bad : bad_step own ours id ≡ true → Err BadPeer ≡ whom_of l own ours id
     unfolding whom_of
-    whom-bad t = sym (cond_no (not (in_form l)) (Nobody OutOfForm) _ formedness ∙ cond_yes (bad_step own ours id) (Nobody BadPeer) _ t)
+    whom-bad t = sym (cond_no (not (in_form l)) (Err OutOfForm) _ formedness ∙ cond_yes (bad_step own ours id) (Err BadPeer) _ t)
 
     module _ (t : bad_step own ours id ≡ false) (ms : List ℕ) (em : ms ≡ marks_of l) (o : Bool) (eo : o ≡ is_over ms) where
       ended : o ≡ is_over (marks_of l)
       ended = eo ∙ ap is_over em
 
-      pub whom-over : o ≡ true → Nobody LookupOver ≡ whom_of l own ours id
+      pub whom-over : o ≡ true → Err LookupOver ≡ whom_of l own ours id
       unfolding whom_of
       whom-over w =
-          sym (cond_no (not (in_form l)) (Nobody OutOfForm) _ formedness ∙ cond_no (bad_step own ours id) (Nobody BadPeer) _ t
-          ∙ cond_yes (is_over (marks_of l)) (Nobody LookupOver) _ (sym ended ∙ w))
+          sym (cond_no (not (in_form l)) (Err OutOfForm) _ formedness ∙ cond_no (bad_step own ours id) (Err BadPeer) _ t
+          ∙ cond_yes (is_over (marks_of l)) (Err LookupOver) _ (sym ended ∙ w))
 
       module _ (w : o ≡ false) (p : List ℕ) (ep : p ≡ sha256 id) (i : ℕ) (ei : i ≡ flyer_of p (candidates_of l)) where
         flyer : i ≡ flyer_of (sha256 id) (candidates_of l)
         flyer = ei ∙ ap (λ (x : List ℕ). flyer_of x (candidates_of l)) ep
 
-        pub whom-none : l.count ≤ i → Nobody NotInFlight ≡ whom_of l own ours id
+        pub whom-none : l.count ≤ i → Err NotInFlight ≡ whom_of l own ours id
         unfolding whom_of
         whom-none z =
-            sym (cond_no (not (in_form l)) (Nobody OutOfForm) _ formedness ∙ cond_no (bad_step own ours id) (Nobody BadPeer) _ t
-            ∙ cond_no (is_over (marks_of l)) (Nobody LookupOver) _ (sym ended ∙ w)
-            ∙ cond_yes (leb l.count (flyer_of (sha256 id) (candidates_of l))) (Nobody NotInFlight) _ (ap (leb l.count) (sym flyer) ∙ le-leb l.count i z))
+            sym (cond_no (not (in_form l)) (Err OutOfForm) _ formedness ∙ cond_no (bad_step own ours id) (Err BadPeer) _ t
+            ∙ cond_no (is_over (marks_of l)) (Err LookupOver) _ (sym ended ∙ w)
+            ∙ cond_yes (leb l.count (flyer_of (sha256 id) (candidates_of l))) (Err NotInFlight) _ (ap (leb l.count) (sym flyer) ∙ le-leb l.count i z))
 
-        pub whom-at : i < l.count → At i ≡ whom_of l own ours id
+        pub whom-at : i < l.count → Ok i ≡ whom_of l own ours id
         unfolding whom_of
         whom-at z =
-            ap At flyer
-            ∙ sym (cond_no (not (in_form l)) (Nobody OutOfForm) _ formedness ∙ cond_no (bad_step own ours id) (Nobody BadPeer) _ t
-            ∙ cond_no (is_over (marks_of l)) (Nobody LookupOver) _ (sym ended ∙ w)
-            ∙ cond_no (leb l.count (flyer_of (sha256 id) (candidates_of l))) (Nobody NotInFlight) (At (flyer_of (sha256 id) (candidates_of l))) (ap (leb l.count) (sym flyer) ∙ lt-leb l.count i z))
+            ap Ok flyer
+            ∙ sym (cond_no (not (in_form l)) (Err OutOfForm) _ formedness ∙ cond_no (bad_step own ours id) (Err BadPeer) _ t
+            ∙ cond_no (is_over (marks_of l)) (Err LookupOver) _ (sym ended ∙ w)
+            ∙ cond_no (leb l.count (flyer_of (sha256 id) (candidates_of l))) (Err NotInFlight) (Ok (flyer_of (sha256 id) (candidates_of l))) (ap (leb l.count) (sym flyer) ∙ lt-leb l.count i z))
 
 -- who is found stands in the array
-abbrev Within : Lookup → Whom → Type 0
-Within l (Nobody r) = Unit {0}
-Within l (At i) = (i < l.count) × (l.count ≤ room)
+abbrev Within : Lookup → Result ℕ Refusal → Type 0
+Within l (Err r) = Unit {0}
+Within l (Ok i) = (i < l.count) × (l.count ≤ room)
 
 within : (l : Lookup) (own ours id : List ℕ) → Within l (whom_of l own ours id)
 unfolding whom_of
@@ -206,18 +205,18 @@ within l own ours id =
     (λ o. cond_ind (Within l) (leb l.count (flyer_of (sha256 id) (candidates_of l))) _ _ (λ e. tt)
     (λ e. (leb-false l.count (flyer_of (sha256 id) (candidates_of l)) e, (formed l (not-false (in_form l) f)).fits)))))
 
-pub found_within : (l : Lookup) (own ours id : List ℕ) (w : Whom) (i : ℕ) → w ≡ whom_of l own ours id → w ≡ At i → (i < l.count) × (l.count ≤ room)
+pub found_within : (l : Lookup) (own ours id : List ℕ) (w : Result ℕ Refusal) (i : ℕ) → w ≡ whom_of l own ours id → w ≡ Ok i → (i < l.count) × (l.count ≤ room)
 found_within l own ours id w i e q = subst (Within l) (sym e ∙ q) (within l own ours id)
 
 -- ---- failure
-module _ (l : Lookup) (own ours id : List ℕ) (w : Whom) (ew : w ≡ whom_of l own ours id) (s : Step) where
-  pub fail-refused : (r : Refusal) → w ≡ Nobody r → s ≡ refuses l r → s ≡ failure_of l own ours id
+module _ (l : Lookup) (own ours id : List ℕ) (w : Result ℕ Refusal) (ew : w ≡ whom_of l own ours id) (s : Step) where
+  pub fail-refused : (r : Refusal) → w ≡ Err r → s ≡ refuses l r → s ≡ failure_of l own ours id
   unfolding failure_of
-  fail-refused r q e = e ∙ ap (λ (x : Whom). reported l x (λ i. mark i failed l)) (sym q ∙ ew)
+  fail-refused r q e = e ∙ ap (λ (x : Result ℕ Refusal). reported l x (λ i. mark i failed l)) (sym q ∙ ew)
 
-  pub fail-at : (i : ℕ) (k : Lookup) → w ≡ At i → k ≡ mark i failed l → s ≡ settled k → s ≡ failure_of l own ours id
+  pub fail-at : (i : ℕ) (k : Lookup) → w ≡ Ok i → k ≡ mark i failed l → s ≡ settled k → s ≡ failure_of l own ours id
   unfolding failure_of
-  fail-at i k q ek e = e ∙ ap settled ek ∙ ap (λ (x : Whom). reported l x (λ i. mark i failed l)) (sym q ∙ ew)
+  fail-at i k q ek e = e ∙ ap settled ek ∙ ap (λ (x : Result ℕ Refusal). reported l x (λ i. mark i failed l)) (sym q ∙ ew)
 
 -- ---- hearing of a peer
 module _ (c : Candidate) (l : Lookup) (b : Bool) (eb : b ≡ known c.place (candidates_of l)) where

@@ -19,11 +19,10 @@ use Rattle.peer.specs.Peers.{bad_peer}
 use Rattle.lookup_candidates.specs.declared.Candidate.{Candidate}
 use Rattle.lookup.specs.Value.{Lookup, Step}
 use Rattle.lookup.specs.declared.Answer.{Answer}
-use Rattle.lookup.specs.declared.Answer.TheVariants.{Refused, Complete, CutShort, Wait, Ask, Going}
-use Rattle.lookup.specs.declared.Whom.{Whom}
-use Rattle.lookup.specs.declared.Whom.TheVariants.{Nobody, At}
+use Rattle.lookup.specs.declared.Answer.TheVariants.{Complete, CutShort, Wait, Ask, Going}
 pub use Rattle.lookup_candidates.specs.Candidates.{mark_of, lies_at, padded, fresh, nobody, contact_at}
 unfoldable pub use Rattle.lookup_candidates.specs.Candidates.{id_fits, well_made, flies}
+use Rattle.std.specs.Prelude.{Ok, Err, Result}
 
 -- ---- limits
 -- "Room for 256."
@@ -106,11 +105,11 @@ abbrev pub mark : ℕ → ℕ → Lookup → Lookup
 mark i m l = with_candidates l l.count (mark_at i m l.candidates)
 
 -- ---- answers
-abbrev pub gives : Lookup → Answer → Step
+abbrev pub gives : Lookup → Result Answer Refusal → Step
 gives l a = record { lookup = l; found = ranks_of []; answer = a }
 
 abbrev pub refuses : Lookup → Refusal → Step
-refuses l r = gives l (Refused r)
+refuses l r = gives l (Err r)
 
 -- "Over means complete, or cut short if marked, with the answered ones of those 20 in order and the number of requests sent"
 abbrev pub ends : Lookup → Step
@@ -118,12 +117,12 @@ ends l =
     record {
       lookup = l;
       found = ranks_of (twenty_of (marks_of l));
-      answer = cond l.turned (CutShort (sent_of (marks_of l))) (Complete (sent_of (marks_of l)));
+      answer = cond l.turned ((Ok (CutShort (sent_of (marks_of l))))) ((Ok (Complete (sent_of (marks_of l)))));
     }
 
 -- "The test for over is made after every start, reply and failure"
 unfoldable pub settled : Lookup → Step
-settled l = cond (is_over (marks_of l)) (ends l) (gives l Going)
+settled l = cond (is_over (marks_of l)) (ends l) (gives l (Ok Going))
 
 -- ---- next: "over, if all of the 20 nearest not failed have answered; else wait, if the limit is in flight; else ask the nearest idle one
 -- among those 20; else wait"
@@ -131,9 +130,9 @@ unfoldable pub next_of : Lookup → Step
 next_of l =
     cond (not (in_form l)) (refuses l OutOfForm)
     (cond (is_over (marks_of l)) (ends l)
-    (cond (leb l.limit (flights_of (marks_of l))) (gives l Wait)
-    (cond (ltb (idle_of (marks_of l)) l.count) (gives (mark (idle_of (marks_of l)) flying l) (Ask (idle_of (marks_of l))))
-    (gives l Wait))))
+    (cond (leb l.limit (flights_of (marks_of l))) (gives l (Ok Wait))
+    (cond (ltb (idle_of (marks_of l)) l.count) (gives (mark (idle_of (marks_of l)) flying l) ((Ok (Ask (idle_of (marks_of l))))))
+    (gives l (Ok Wait)))))
 
 -- ---- reply and failure: who it is about
 -- refusal 12, of who is reported about; a box whose own id is no peer id refuses the same way
@@ -145,18 +144,18 @@ abbrev pub flyer_of : List ℕ → List Candidate → ℕ
 flyer_of p cs = first_in (flies p) cs
 
 -- whom a report is about, by rank; or the refusal: 0, 12, 17 or 16
-unfoldable pub whom_of : Lookup → List ℕ → List ℕ → List ℕ → Whom
+unfoldable pub whom_of : Lookup → List ℕ → List ℕ → List ℕ → Result ℕ Refusal
 whom_of l own ours id =
-    cond (not (in_form l)) (Nobody OutOfForm)
-    (cond (bad_step own ours id) (Nobody BadPeer)
-    (cond (is_over (marks_of l)) (Nobody LookupOver)
-    (cond (leb l.count (flyer_of (sha256 id) (candidates_of l))) (Nobody NotInFlight)
-    (At (flyer_of (sha256 id) (candidates_of l))))))
+    cond (not (in_form l)) (Err OutOfForm)
+    (cond (bad_step own ours id) (Err BadPeer)
+    (cond (is_over (marks_of l)) (Err LookupOver)
+    (cond (leb l.count (flyer_of (sha256 id) (candidates_of l))) (Err NotInFlight)
+    (Ok (flyer_of (sha256 id) (candidates_of l))))))
 
 -- refused, or what the lookup becomes
-abbrev pub reported : Lookup → Whom → (ℕ → Lookup) → Step
-reported l (Nobody r) next = refuses l r
-reported l (At i) next = settled (next i)
+abbrev pub reported : Lookup → Result ℕ Refusal → (ℕ → Lookup) → Step
+reported l (Err r) next = refuses l r
+reported l (Ok i) next = settled (next i)
 
 -- "a failure report, marks the peer failed for good"
 unfoldable pub failure_of : Lookup → List ℕ → List ℕ → List ℕ → Step

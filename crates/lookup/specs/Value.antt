@@ -3,6 +3,8 @@ use Rattle.std.specs.Prelude.{ℕ, Bool, List}
 use Rattle.lookup_candidates.specs.declared.Candidate.{Candidate}
 use Rattle.lookup_marks.specs.declared.Ranks.{Ranks}
 use Rattle.lookup.specs.declared.Answer.{Answer}
+use Rattle.std.specs.Prelude.{Result}
+use Rattle.refusal.specs.declared.Refusal.{Refusal}
 
 -- its candidates nearest first, the first `count` of an array of 256; the key with its size and place; how many may be in flight; and whether someone
 -- was turned away
@@ -19,4 +21,4 @@ pub record Lookup : Type 0 where
 pub record Step : Type 0 where
   pub lookup : Lookup
   pub found : Ranks
-  pub answer : Answer
+  pub answer : Result Answer Refusal

@@ -3,7 +3,7 @@
 // Nothing is claimed of what is answered but that each run is safe and ends; `lookup_value` has the contracts.
 use lookup::{Answer, Candidate};
 use lookup_value::Lookup;
-use message::{Fields, Reading};
+use message::Fields;
 
 // The size of each message that is handed in: 20 peers, each with an id of 34 bytes and an address of 12.
 const SIZE: usize = 1042;
@@ -72,26 +72,20 @@ fn stepped(l: Lookup, own: &[u8], ours: [u8; 32], body: &[u8], view: Fields) -> 
     let asked = s.lookup;
     let a = s.answer;
     match a {
-        Answer::Ask(i) => heard(asked, i, own, ours, body, view),
-        Answer::Refused(_) => asked,
-        Answer::Complete(_) => asked,
-        Answer::CutShort(_) => asked,
-        Answer::Wait => asked,
-        Answer::Going => asked,
+        Ok(Answer::Ask(i)) => heard(asked, i, own, ours, body, view),
+        Err(_) => asked,
+        Ok(Answer::Complete(_)) => asked,
+        Ok(Answer::CutShort(_)) => asked,
+        Ok(Answer::Wait) => asked,
+        Ok(Answer::Going) => asked,
     }
 }
 
 // The lookup after as many steps as there are messages.
 fn filled(l: Lookup, own: &[u8], ours: [u8; 32], bodies: &[u8], view: Fields) -> Lookup {
-    let n = bodies.len();
     let mut k = l;
-    let mut at: usize = 0;
-    while at < n {
-        k = stepped(k, own, ours, message_at(bodies, at), view);
-        if n - at < SIZE {
-            return k;
-        }
-        at += SIZE;
+    for body in bodies.chunks(SIZE) {
+        k = stepped(k, own, ours, body, view);
     }
     k
 }
@@ -108,13 +102,11 @@ fn turned(
     let n = bodies.len();
     let mut sum: usize = 0;
     let mut at: usize = 0;
-    let mut i: usize = 0;
-    while i < turns {
+    for i in 0..turns {
         let k = stepped(l, own, ours, message_at(bodies, at), view);
         let bytes = k.bytes;
         sum = std::num::wrapping_add_usize(sum, flat_lookup::count_in(&bytes));
         at = following(n, at);
-        i += 1;
     }
     sum
 }
@@ -137,7 +129,7 @@ pub extern "C" fn starterbell_lookup_turns(
     let s = Lookup::start(table, own, ours, key, 3);
     let l = s.lookup;
     let r = message::read(message_at(bodies, 0));
-    let Reading::Whole(view) = r else {
+    let Ok(view) = r else {
         return 0;
     };
     let k = filled(l, own, ours, before, view);

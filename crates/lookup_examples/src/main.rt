@@ -7,7 +7,7 @@ ghost use Rattle.std.specs.Prelude.{◌<◌, ◌≤◌};
 use lookup::{Answer, Candidate};
 use lookup_marks::Ranks;
 use lookup_value::Lookup;
-use message::Reading;
+use refusal::Refusal;
 use std::io;
 use std::io::{Print, Stdout};
 
@@ -103,12 +103,10 @@ fn place_at(places: &[u8], k: usize) -> &[u8] {
 }
 
 fn fill_places(places: &mut [u8]) {
-    let mut k: usize = 0;
-    while k < MOST {
+    for k in 0..MOST {
         let id = id_of(k, REAL);
         let p = sha256::hash(&id);
         octets::copy(places, start_of(k), &p);
-        k += 1;
     }
 }
 
@@ -125,16 +123,10 @@ fn comes_before(places: &[u8], target: [u8; 32], a: usize, b: usize) -> bool {
 // The peer k at its place among the nearest.
 fn put_peer(near: &mut [usize], places: &[u8], target: [u8; 32], k: usize) {
     let mut moving = k;
-    let mut i: usize = 0;
-    while i < near.len() {
-        let x = near[i];
-        let before = comes_before(places, target, moving, x);
-        i += 1;
-        if !before {
-            continue;
+    for x in near.iter_mut() {
+        if comes_before(places, target, moving, *x) {
+            std::mem::swap(x, &mut moving);
         }
-        near[i - 1] = moving;
-        moving = x;
     }
 }
 
@@ -171,18 +163,12 @@ fn one_more(many: u8) -> u8 {
 fn nearest_known(places: &[u8], n: usize, target: [u8; 32], other: usize) -> [usize; 20] {
     let mut known = [0u8; 257];
     let mut near = [NOBODY; 20];
-    let mut k: usize = 0;
-    while k < n {
+    for k in 0..n {
         let b = bucket_for(places, other, k);
-        let many = known[b];
-        let room = has_room(other, b, many);
-        let peer = k;
-        k += 1;
-        if !room {
-            continue;
+        if has_room(other, b, known[b]) {
+            known[b] = one_more(known[b]);
+            put_peer(&mut near, places, target, k);
         }
-        known[b] = one_more(many);
-        put_peer(&mut near, places, target, peer);
     }
     near
 }
@@ -256,11 +242,9 @@ fn reply_of(places: &[u8], n: usize, target: [u8; 32], k: usize, chatty: bool) -
     let mut body = [0u8; REPLY];
     body[0] = 8;
     body[1] = 4;
-    let mut j: usize = 0;
-    while j < 20 {
+    for j in 0..20 {
         let x = near[j];
         put_entry(&mut body, 2 + 7 * j, named(k, j, x, chatty));
-        j += 1;
     }
     body
 }
@@ -269,7 +253,7 @@ fn reply_of(places: &[u8], n: usize, target: [u8; 32], k: usize, chatty: bool) -
 fn hand_in(l: Lookup, id: [u8; 3], body: &[u8]) -> Lookup {
     let me = our_id();
     let r = message::read(body);
-    let Reading::Whole(view) = r else {
+    let Ok(view) = r else {
         return l;
     };
     let s = l.reply(&me, our_place(), &id, body, view);
@@ -303,48 +287,46 @@ fn behaved(l: Lookup, c: Candidate, network: u8, places: &[u8], n: usize) -> Loo
 // The farthest candidate in flight, or the nearest of all.
 fn last_in_flight(l: Lookup) -> Candidate {
     let bytes = l.bytes;
-    let mut i: usize = 255;
-    while 0 < i {
+    for i in (1..256).rev() {
         let c = flat_lookup::candidate_at(&bytes, i);
         if c.mark == lookup_marks::IN_FLIGHT {
             return c;
         }
-        i -= 1;
     }
     flat_lookup::candidate_at(&bytes, 0)
 }
 
 // Over: 1 complete, 2 cut short; else 0.
-fn over_of(a: Answer) -> u8 {
+fn over_of(a: Result<Answer, Refusal>) -> u8 {
     match a {
-        Answer::Complete(_) => 1,
-        Answer::CutShort(_) => 2,
-        Answer::Refused(_) => 0,
-        Answer::Wait => 0,
-        Answer::Ask(_) => 0,
-        Answer::Going => 0,
+        Ok(Answer::Complete(_)) => 1,
+        Ok(Answer::CutShort(_)) => 2,
+        Err(_) => 0,
+        Ok(Answer::Wait) => 0,
+        Ok(Answer::Ask(_)) => 0,
+        Ok(Answer::Going) => 0,
     }
 }
 
-fn sent_of(a: Answer) -> usize {
+fn sent_of(a: Result<Answer, Refusal>) -> usize {
     match a {
-        Answer::Complete(n) => n,
-        Answer::CutShort(n) => n,
-        Answer::Refused(_) => 0,
-        Answer::Wait => 0,
-        Answer::Ask(_) => 0,
-        Answer::Going => 0,
+        Ok(Answer::Complete(n)) => n,
+        Ok(Answer::CutShort(n)) => n,
+        Err(_) => 0,
+        Ok(Answer::Wait) => 0,
+        Ok(Answer::Ask(_)) => 0,
+        Ok(Answer::Going) => 0,
     }
 }
 
-fn waits(a: Answer) -> bool {
+fn waits(a: Result<Answer, Refusal>) -> bool {
     match a {
-        Answer::Complete(_) => false,
-        Answer::CutShort(_) => false,
-        Answer::Refused(_) => false,
-        Answer::Wait => true,
-        Answer::Ask(_) => false,
-        Answer::Going => false,
+        Ok(Answer::Complete(_)) => false,
+        Ok(Answer::CutShort(_)) => false,
+        Err(_) => false,
+        Ok(Answer::Wait) => true,
+        Ok(Answer::Ask(_)) => false,
+        Ok(Answer::Going) => false,
     }
 }
 
@@ -369,13 +351,11 @@ fn turn(l: Lookup, network: u8, places: &[u8], n: usize) -> Lookup {
 // Turns until the lookup is over, or 2,000.
 fn run_on(first: Lookup, network: u8, places: &[u8], n: usize) -> Lookup {
     let mut l = first;
-    let mut turns: usize = 0;
-    while turns < 2000 {
+    for _ in 0..2000 {
         if state_of(l) != 0 {
             return l;
         }
         l = turn(l, network, places, n);
-        turns += 1;
     }
     l
 }
@@ -385,41 +365,15 @@ fn run_on(first: Lookup, network: u8, places: &[u8], n: usize) -> Lookup {
 // Whether the peer k is among the candidates that were found.
 fn was_found(l: Lookup, found: Ranks, k: usize) -> bool {
     let bytes = l.bytes;
-    let at = found.at;
-    let mut i: usize = 0;
-    while i < 20 {
-        let r = at[i];
-        let used = i < found.n;
-        i += 1;
-        if !used {
-            continue;
-        }
-        let c = flat_lookup::candidate_at(&bytes, r);
-        let id = c.id;
-        if id[2] != REAL {
-            continue;
-        }
-        if number_of(id[0], id[1]) == k {
-            return true;
-        }
-    }
-    false
+    found.at.iter().take(found.n).any(|r| {
+        let id = flat_lookup::candidate_at(&bytes, *r).id;
+        id[2] == REAL && number_of(id[0], id[1]) == k
+    })
 }
 
 // How many of the true twenty nearest peers were found.
 fn true_ones(l: Lookup, found: Ranks, near: [usize; 20]) -> usize {
-    let mut n: usize = 0;
-    let mut i: usize = 0;
-    while i < 20 {
-        let k = near[i];
-        let there = was_found(l, found, k);
-        i += 1;
-        if !there {
-            continue;
-        }
-        n = std::num::wrapping_add_usize(n, 1);
-    }
-    n
+    near.iter().filter(|k| was_found(l, found, **k)).count()
 }
 
 fn say_state(out: Stdout, state: u8) -> io::Result<()> {
@@ -470,10 +424,8 @@ fn newcomers(n: usize) -> [u8; 142]
     let mut body = [0u8; REPLY];
     body[0] = 8;
     body[1] = 4;
-    let mut j: usize = 0;
-    while j < 20 {
+    for j in 0..20 {
         put_entry(&mut body, 2 + 7 * j, id_of(n + j, NEW));
-        j += 1;
     }
     body
 }
@@ -509,10 +461,8 @@ fn say_filled(out: Stdout, l: Lookup) -> io::Result<()> {
 // Twelve times 20 newcomers, and 15 more.
 fn filled(first: Lookup) -> Lookup {
     let mut l = first;
-    let mut n: usize = 0;
-    while n < 240 {
-        l = fill_up(l, n);
-        n += 20;
+    for k in 0..12 {
+        l = fill_up(l, 20 * k);
     }
     fill_up(l, 235)
 }

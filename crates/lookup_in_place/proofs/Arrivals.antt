@@ -83,7 +83,7 @@ move-one m₀ a e m g l h v =
           ∙ sym (ap (sets m₀ (k + candidate_size)) more);
     }
 
-pub move-long : (m₀ : List ℕ) (a e : ℕ) (m : List ℕ) (g : ℕ) → Moving m₀ a e m g → length m ≡ length m₀
+move-long : (m₀ : List ℕ) (a e : ℕ) (m : List ℕ) (g : ℕ) → Moving m₀ a e m g → length m ≡ length m₀
 move-long m₀ a e m g v = ap length v.done ∙ length-sets m₀ (g + candidate_size) (part m₀ g e)
 
 pub move_all : (m₀ : List ℕ) (a e : ℕ) (m : List ℕ) (g : ℕ) → g ≤ a → Moving m₀ a e m g → m ≡ sets m₀ (a + candidate_size) (part m₀ a e)

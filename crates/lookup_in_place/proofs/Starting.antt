@@ -18,7 +18,6 @@ use Rattle.contacts.specs.declared.Closest.{Closest}
 use Rattle.contacts.proofs.Sorting.{take-filled}
 use Rattle.lookup_candidates.specs.declared.Candidate.{Candidate}
 use Rattle.lookup.specs.Value.{Lookup, Step}
-use Rattle.lookup.specs.declared.Answer.TheVariants.{Refused}
 use Rattle.lookup.specs.Lookup.{room, limit_most, padded, nobody, contact_at, refuses, settled, no_lookup, first_ones, begun}
 use Rattle.lookup.proofs.Starting.{nearest-few, near-count}
 use Rattle.flat_lookup.specs.FlatLookup.{candidate_size, candidates_at, flat_size, lookup_in, candidate_bytes, head_bytes, lookup_bytes}
@@ -29,6 +28,7 @@ use Rattle.lookup_in_place.specs.Inner.{opened, members_of}
 use Rattle.lookup_in_place.proofs.Steps.{short-step}
 use Rattle.lookup.proofs.Steps.{settled-lookup}
 use Rattle.lookup_in_place.proofs.ReadBack.{reads-back, first-few, begun-storable}
+use Rattle.std.specs.Prelude.{Err}
 
 -- ---- contacts as candidates, nobody after them
 contact-in : (t is : List ℕ) (i : ℕ) → i < length is → get_or (map (contact_at t) is) i nobody ≡ contact_at t (get_or is i 0)
@@ -102,7 +102,7 @@ begins m m' t key target kept limit near h k l et en ek e =
 abbrev pub Left : Step → List ℕ → List ℕ → Outcome → Type 0
 Left s m m' o = (o ≡ outcome_of (step_in m s)) × (m' ≡ start_memory m s)
 
-pub start-short : (m : List ℕ) (s : Step) (o : Outcome) → length m < flat_size → o ≡ answers (Refused OutOfForm) → Left s m m o
+pub start-short : (m : List ℕ) (s : Step) (o : Outcome) → length m < flat_size → o ≡ answers (Err OutOfForm) → Left s m m o
 start-short m s o h e =
     ((short-step m s o h e).0, sym (cond_yes (ltb (length m) flat_size) m (started_memory m s) (lt-ltb (length m) flat_size h)))
 
@@ -112,7 +112,7 @@ start-long m m' s o h e q =
     (e ∙ ap outcome_of (sym (cond_no (ltb (length m) flat_size) (refuses (lookup_in m) OutOfForm) s no)), q ∙ sym (cond_no (ltb (length m) flat_size) m (started_memory m s) no))
 
 pub start-refused : (m m' : List ℕ) (s : Step) (r : Refusal) (o : Outcome) → flat_size ≤ length m → refuses no_lookup r ≡ s
-    → (o ≡ answers (Refused r)) × (m' ≡ sets m 0 (lookup_bytes no_lookup)) → Left s m m' o
+    → (o ≡ answers (Err r)) × (m' ≡ sets m 0 (lookup_bytes no_lookup)) → Left s m m' o
 start-refused m m' s r o h e q = subst (λ (x : Step). Left x m m' o) e (start-long m m' (refuses no_lookup r) o h q.0 q.1)
 
 pub start-settled : (m m' t key : List ℕ) (limit : ℕ) (s : Step) (o : Outcome) → flat_size ≤ length m → settled (begun t key limit) ≡ s

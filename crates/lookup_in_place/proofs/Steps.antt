@@ -25,9 +25,7 @@ use Rattle.lookup_candidates.specs.declared.Candidate.{Candidate}
 use Rattle.lookup.specs.Inner.{beyond, rank_of}
 use Rattle.lookup.specs.Value.{Lookup, Step}
 use Rattle.lookup.specs.declared.Answer.{Answer}
-use Rattle.lookup.specs.declared.Answer.TheVariants.{Refused, Complete, CutShort, Wait, Ask, Going}
-use Rattle.lookup.specs.declared.Whom.{Whom}
-use Rattle.lookup.specs.declared.Whom.TheVariants.{Nobody, At}
+use Rattle.lookup.specs.declared.Answer.TheVariants.{Complete, CutShort, Wait, Ask, Going}
 use Rattle.message.specs.Kinds.{find_node}
 use Rattle.lookup.specs.Lookup.{room, limit_most, candidates_of, marks_of, nearest_first, in_form, mark, refuses, gives, ends, settled, next_of, bad_step, flyer_of, whom_of, failure_of, turn_away, known, meet, hear, hear_all, heard_ids, heard_from, reply_of}
 use Rattle.lookup.proofs.Form.{formed, form-size-low, form-size-high, form-limit-low, form-limit-high, form-count, form-rest}
@@ -40,6 +38,7 @@ use Rattle.lookup_in_place.specs.InPlace.{answers, outcome_of, is_refused, step_
 use Rattle.lookup_in_place.specs.Inner.{asked_of, joined, Becomes}
 use Rattle.lookup_in_place.proofs.Parts.{all_there}
 use Rattle.lookup_in_place.proofs.Whole.{becomes-nothing}
+use Rattle.std.specs.Prelude.{Ok, Err, Result}
 
 -- ---- form, by the numbers that were read
 module _ (m : List ℕ) (size limit n : ℕ) (es : size ≡ (lookup_in m).size) (el : limit ≡ (lookup_in m).limit) (en : n ≡ (lookup_in m).count) where
@@ -94,20 +93,20 @@ room_in m b n e h en = subst (λ (x : ℕ). x ≤ 256) (sym en) (formed (lookup_
 -- ---- next
 module _ (m ms : List ℕ) (b o : Bool) (n limit f : ℕ) (eb : b ≡ in_form (lookup_in m)) (h : not b ≡ false) (en : n ≡ (lookup_in m).count) (em : ms ≡ marks_of (lookup_in m))
     (eo : o ≡ is_over ms) (t : o ≡ false) (el : limit ≡ (lookup_in m).limit) (ef : f ≡ flights_of ms) where
-  pub next-full-in : limit ≤ f → answers Wait ≡ outcome_of (next_of (lookup_in m))
+  pub next-full-in : limit ≤ f → answers (Ok Wait) ≡ outcome_of (next_of (lookup_in m))
   next-full-in g =
-      ap outcome_of (next-full (lookup_in m) b eb (gives (lookup_in m) Wait) h ms em o eo t f ef (subst (λ (x : ℕ). x ≤ f) el g) refl)
+      ap outcome_of (next-full (lookup_in m) b eb (gives (lookup_in m) (Ok Wait)) h ms em o eo t f ef (subst (λ (x : ℕ). x ≤ f) el g) refl)
 
   module _ (g : f < limit) (i : ℕ) (ei : i ≡ idle_of ms) where
     few : f < (lookup_in m).limit
     few = subst (λ (x : ℕ). f < x) el g
 
-    pub next-ask-in : i < n → answers (Ask i) ≡ outcome_of (next_of (lookup_in m))
+    pub next-ask-in : i < n → answers (Ok (Ask i)) ≡ outcome_of (next_of (lookup_in m))
     next-ask-in z =
-        ap outcome_of (next-ask (lookup_in m) b eb (gives (mark i flying (lookup_in m)) (Ask i)) h ms em o eo t f ef few i ei (mark i flying (lookup_in m)) (subst (λ (x : ℕ). i < x) en z) refl refl)
+        ap outcome_of (next-ask (lookup_in m) b eb (gives (mark i flying (lookup_in m)) (Ok (Ask i))) h ms em o eo t f ef few i ei (mark i flying (lookup_in m)) (subst (λ (x : ℕ). i < x) en z) refl refl)
 
-    pub next-wait-in : n ≤ i → answers Wait ≡ outcome_of (next_of (lookup_in m))
-    next-wait-in z = ap outcome_of (next-wait (lookup_in m) b eb (gives (lookup_in m) Wait) h ms em o eo t f ef few i ei (subst (λ (x : ℕ). x ≤ i) en z) refl)
+    pub next-wait-in : n ≤ i → answers (Ok Wait) ≡ outcome_of (next_of (lookup_in m))
+    next-wait-in z = ap outcome_of (next-wait (lookup_in m) b eb (gives (lookup_in m) (Ok Wait)) h ms em o eo t f ef few i ei (subst (λ (x : ℕ). x ≤ i) en z) refl)
 
 -- ---- whom a report is about
 module _ (m own ours id : List ℕ) (b : Bool) (eb : b ≡ in_form (lookup_in m)) (h : not b ≡ false) (t : bad_step own ours id ≡ false) (ms : List ℕ) (n : ℕ)
@@ -116,10 +115,10 @@ module _ (m own ours id : List ℕ) (b : Bool) (eb : b ≡ in_form (lookup_in m)
   flyer-in : i ≡ flyer_of p (candidates_of (lookup_in m))
   flyer-in = ei ∙ ap (λ (k : ℕ). flyer_of p (take k (lookup_in m).candidates)) en
 
-  pub whom-none-in : n ≤ i → Nobody NotInFlight ≡ whom_of (lookup_in m) own ours id
+  pub whom-none-in : n ≤ i → Err NotInFlight ≡ whom_of (lookup_in m) own ours id
   whom-none-in z = whom-none (lookup_in m) own ours id b eb h t ms em o eo w p ep i flyer-in (subst (λ (x : ℕ). x ≤ i) en z)
 
-  pub whom-at-in : i < n → At i ≡ whom_of (lookup_in m) own ours id
+  pub whom-at-in : i < n → Ok i ≡ whom_of (lookup_in m) own ours id
   whom-at-in z = whom-at (lookup_in m) own ours id b eb h t ms em o eo w p ep i flyer-in (subst (λ (x : ℕ). i < x) en z)
 
 -- ---- what a next step leaves, by its answer
@@ -130,24 +129,24 @@ next-left : (l : Lookup) → Left l (next_of l)
 unfolding next_of
 next-left l =
     let i : ℕ = idle_of (marks_of l) in
-    let asks : Step = cond (ltb i l.count) (gives (mark i flying l) (Ask i)) (gives l Wait) in
-    let goes : Step = cond (leb l.limit (flights_of (marks_of l))) (gives l Wait) asks in
+    let asks : Step = cond (ltb i l.count) (gives (mark i flying l) (Ok (Ask i))) (gives l (Ok Wait)) in
+    let goes : Step = cond (leb l.limit (flights_of (marks_of l))) (gives l (Ok Wait)) asks in
     cond_ind (Left l) (not (in_form l)) (refuses l OutOfForm) (cond (is_over (marks_of l)) (ends l) goes) (λ e. record { is = refl })
     (λ f. cond_ind (Left l) (is_over (marks_of l)) (ends l) goes (λ e. record { is = over-left })
-    (λ o. cond_ind (Left l) (leb l.limit (flights_of (marks_of l))) (gives l Wait) asks (λ e. record { is = refl })
-    (λ g. cond_ind (Left l) (ltb i l.count) (gives (mark i flying l) (Ask i)) (gives l Wait)
+    (λ o. cond_ind (Left l) (leb l.limit (flights_of (marks_of l))) (gives l (Ok Wait)) asks (λ e. record { is = refl })
+    (λ g. cond_ind (Left l) (ltb i l.count) (gives (mark i flying l) (Ok (Ask i))) (gives l (Ok Wait))
     (λ e. asked-left i (omega (arith, ltb-true i l.count e, (formed l (not-false (in_form l) f)).fits)))
     (λ e. record { is = refl }))))
   where
     over-left : l ≡ cond (ltb (asked_of (ends l).answer) room) (mark (asked_of (ends l).answer) flying l) l
     over-left =
-        cond_ind (λ (a : Answer). l ≡ cond (ltb (asked_of a) room) (mark (asked_of a) flying l) l) l.turned (CutShort (sent_of (marks_of l))) (Complete (sent_of (marks_of l)))
+        cond_ind (λ (a : Result Answer Refusal). l ≡ cond (ltb (asked_of a) room) (mark (asked_of a) flying l) l) l.turned ((Ok (CutShort (sent_of (marks_of l))))) ((Ok (Complete (sent_of (marks_of l)))))
         (λ e. refl) (λ e. refl)
 
-    asked-left : (i : ℕ) → i < room → Left l (gives (mark i flying l) (Ask i))
+    asked-left : (i : ℕ) → i < room → Left l (gives (mark i flying l) (Ok (Ask i)))
     asked-left i h = record { is = sym (cond_yes (ltb i room) (mark i flying l) l (lt-ltb i room h)) }
 
-module _ (m m' : List ℕ) (a : Answer) (ea : a ≡ (next_of (lookup_in m)).answer) where
+module _ (m m' : List ℕ) (a : Result Answer Refusal) (ea : a ≡ (next_of (lookup_in m)).answer) where
   module _ (b : Bool) (e : b ≡ is_refused a) (h : b ≡ false) (i : ℕ) (ei : i ≡ asked_of a) where
     kept : sets m 0 (lookup_bytes (cond (ltb i room) (mark i flying (lookup_in m)) (lookup_in m))) ≡ step_memory m (next_of (lookup_in m))
     kept =
@@ -166,7 +165,7 @@ module _ (m m' : List ℕ) (a : Answer) (ea : a ≡ (next_of (lookup_in m)).answ
 abbrev pub Both : Step → List ℕ → List ℕ → Outcome → Type 0
 Both s m m' o = (o ≡ outcome_of s) × (m' ≡ step_memory m s)
 
-pub short-step : (m : List ℕ) (s : Step) (o : Outcome) → length m < flat_size → o ≡ answers (Refused OutOfForm) → Both (step_in m s) m m o
+pub short-step : (m : List ℕ) (s : Step) (o : Outcome) → length m < flat_size → o ≡ answers (Err OutOfForm) → Both (step_in m s) m m o
 short-step m s o h e =
     subst (λ (x : Step). Both x m m o) (sym (cond_yes (ltb (length m) flat_size) (refuses (lookup_in m) OutOfForm) s (lt-ltb (length m) flat_size h))) (e, refl)
 
@@ -176,8 +175,8 @@ long-step m m' s o h b = subst (λ (x : Step). Both x m m' o) (sym (cond_no (ltb
 settled-left : (l : Lookup) (m : List ℕ) → sets m 0 (lookup_bytes l) ≡ step_memory m (settled l)
 unfolding settled
 settled-left l m =
-    cond_ind Writes (is_over (marks_of l)) (ends l) (gives l Going)
-    (λ e. cond_ind (λ (a : Answer). sets m 0 (lookup_bytes l) ≡ cond (is_refused a) m (sets m 0 (lookup_bytes l))) l.turned (CutShort (sent_of (marks_of l))) (Complete (sent_of (marks_of l))) (λ q. refl) (λ q. refl))
+    cond_ind Writes (is_over (marks_of l)) (ends l) (gives l (Ok Going))
+    (λ e. cond_ind (λ (a : Result Answer Refusal). sets m 0 (lookup_bytes l) ≡ cond (is_refused a) m (sets m 0 (lookup_bytes l))) l.turned ((Ok (CutShort (sent_of (marks_of l))))) ((Ok (Complete (sent_of (marks_of l))))) (λ q. refl) (λ q. refl))
     (λ e. refl)
   where
     Writes : Step → Type 0
@@ -187,13 +186,13 @@ pub settled-does : (l : Lookup) (m m' : List ℕ) (o : Outcome) → (o ≡ outco
 settled-does l m m' o e = (e.0, e.1 ∙ settled-left l m)
 
 -- ---- failure
-module _ (m own ours id : List ℕ) (h : flat_size ≤ length m) (w : Whom) (ew : w ≡ whom_of (lookup_in m) own ours id) where
-  pub failure-refused : (r : Refusal) (o : Outcome) → w ≡ Nobody r → o ≡ answers (Refused r) → Both (failure_in m own ours id) m m o
+module _ (m own ours id : List ℕ) (h : flat_size ≤ length m) (w : Result ℕ Refusal) (ew : w ≡ whom_of (lookup_in m) own ours id) where
+  pub failure-refused : (r : Refusal) (o : Outcome) → w ≡ Err r → o ≡ answers (Err r) → Both (failure_in m own ours id) m m o
   failure-refused r o q e =
       long-step m m (failure_of (lookup_in m) own ours id) o h
       (subst (λ (s : Step). Both s m m o) (fail-refused (lookup_in m) own ours id w ew (refuses (lookup_in m) r) r q refl) (e, refl))
 
-  pub failure-at : (i : ℕ) (m' : List ℕ) (o : Outcome) → w ≡ At i
+  pub failure-at : (i : ℕ) (m' : List ℕ) (o : Outcome) → w ≡ Ok i
       → (o ≡ outcome_of (settled (mark i failed (lookup_in m)))) × (m' ≡ sets m 0 (lookup_bytes (mark i failed (lookup_in m)))) → Both (failure_in m own ours id) m m' o
   failure-at i m' o q e =
       long-step m m' (failure_of (lookup_in m) own ours id) o h
@@ -279,18 +278,18 @@ module _ (m ours body : List ℕ) (kind i : ℕ) (h : (lookup_in m).count ≤ 25
 
 -- ---- reply
 module _ (m own ours id body : List ℕ) (v : Fields) (l : flat_size ≤ length m) (b : Bool) (eb : b ≡ is_view body v) where
-  pub reply-bad-in : (o : Outcome) → not b ≡ true → o ≡ answers (Refused OutOfForm) → Both (reply_in m own ours id body v) m m o
+  pub reply-bad-in : (o : Outcome) → not b ≡ true → o ≡ answers (Err OutOfForm) → Both (reply_in m own ours id body v) m m o
   reply-bad-in o h e =
       long-step m m (reply_of (lookup_in m) own ours id body v) o l
       (subst (λ (s : Step). Both s m m o) (reply-bad (lookup_in m) own ours id body v b eb (refuses (lookup_in m) OutOfForm) h refl) (e, refl))
 
-  module _ (h : not b ≡ false) (w : Whom) (ew : w ≡ whom_of (lookup_in m) own ours id) where
-    pub reply-refused-in : (r : Refusal) (o : Outcome) → w ≡ Nobody r → o ≡ answers (Refused r) → Both (reply_in m own ours id body v) m m o
+  module _ (h : not b ≡ false) (w : Result ℕ Refusal) (ew : w ≡ whom_of (lookup_in m) own ours id) where
+    pub reply-refused-in : (r : Refusal) (o : Outcome) → w ≡ Err r → o ≡ answers (Err r) → Both (reply_in m own ours id body v) m m o
     reply-refused-in r o q e =
         long-step m m (reply_of (lookup_in m) own ours id body v) o l
         (subst (λ (s : Step). Both s m m o) (reply-refused (lookup_in m) own ours id body v b eb (refuses (lookup_in m) r) h w ew r q refl) (e, refl))
 
-    pub reply-at-in : (i : ℕ) (m' : List ℕ) (o : Outcome) → w ≡ At i
+    pub reply-at-in : (i : ℕ) (m' : List ℕ) (o : Outcome) → w ≡ Ok i
         → (o ≡ outcome_of (settled (heard_from ours body v.kind (lookup_in m) i))) × (m' ≡ sets m 0 (lookup_bytes (heard_from ours body v.kind (lookup_in m) i)))
         → Both (reply_in m own ours id body v) m m' o
     reply-at-in i m' o q e =

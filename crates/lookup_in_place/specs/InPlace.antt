@@ -5,27 +5,29 @@ use Rattle.refusal.specs.declared.Refusal.TheVariants.{OutOfForm}
 use Rattle.lookup_marks.specs.Marks.{ranks_of}
 use Rattle.message.specs.declared.Fields.{Fields}
 use Rattle.lookup.specs.declared.Answer.{Answer}
-use Rattle.lookup.specs.declared.Answer.TheVariants.{Refused, Complete, CutShort, Wait, Ask, Going}
+use Rattle.lookup.specs.declared.Answer.TheVariants.{Complete, CutShort, Wait, Ask, Going}
 use Rattle.lookup.specs.Value.{Step}
 use Rattle.lookup.specs.Lookup.{refuses, next_of, failure_of, reply_of, start_of}
 use Rattle.flat_lookup.specs.FlatLookup.{flat_size, lookup_in, lookup_bytes}
 use Rattle.lookup_in_place.specs.declared.Outcome.{Outcome}
+use Rattle.std.specs.Prelude.{Ok, Err, Result}
+use Rattle.refusal.specs.declared.Refusal.{Refusal}
 
 -- what a step answers beside the lookup
 abbrev pub outcome_of : Step → Outcome
 outcome_of s = record { found = s.found; answer = s.answer }
 
 -- an answer with nobody found
-abbrev pub answers : Answer → Outcome
+abbrev pub answers : Result Answer Refusal → Outcome
 answers a = record { found = ranks_of []; answer = a }
 
-abbrev pub is_refused : Answer → Bool
-is_refused (Refused r) = true
-is_refused (Complete n) = false
-is_refused (CutShort n) = false
-is_refused Wait = false
-is_refused (Ask i) = false
-is_refused Going = false
+abbrev pub is_refused : Result Answer Refusal → Bool
+is_refused (Err r) = true
+is_refused (Ok (Complete n)) = false
+is_refused (Ok (CutShort n)) = false
+is_refused (Ok Wait) = false
+is_refused (Ok (Ask i)) = false
+is_refused (Ok Going) = false
 
 -- the lookup is written back, unless the step was refused
 abbrev pub step_memory : List ℕ → Step → List ℕ

@@ -3,18 +3,20 @@ use Rattle.std.specs.Prelude.{ℕ, ◌+◌, ◌-◌, ◌≡◌, false, List, ◌
 use Rattle.lookup_candidates.specs.declared.Candidate.{Candidate}
 use Rattle.lookup.specs.Value.{Lookup}
 use Rattle.lookup.specs.declared.Answer.{Answer}
-use Rattle.lookup.specs.declared.Answer.TheVariants.{Refused, Complete, CutShort, Wait, Ask, Going}
+use Rattle.lookup.specs.declared.Answer.TheVariants.{Complete, CutShort, Wait, Ask, Going}
 use Rattle.lookup.specs.Lookup.{room, nobody, contact_at, with_candidates}
 use Rattle.flat_lookup.specs.FlatLookup.{flat_size, lookup_in}
+use Rattle.std.specs.Prelude.{Ok, Err, Result}
+use Rattle.refusal.specs.declared.Refusal.{Refusal}
 
 -- the rank to ask, or the number of candidates that there is room for
-abbrev pub asked_of : Answer → ℕ
-asked_of (Refused r) = room
-asked_of (Complete n) = room
-asked_of (CutShort n) = room
-asked_of Wait = room
-asked_of (Ask i) = i
-asked_of Going = room
+abbrev pub asked_of : Result Answer Refusal → ℕ
+asked_of (Err r) = room
+asked_of (Ok (Complete n)) = room
+asked_of (Ok (CutShort n)) = room
+asked_of (Ok Wait) = room
+asked_of (Ok (Ask i)) = i
+asked_of (Ok Going) = room
 
 -- of n candidates those from rank r on have moved up, and c has that rank
 abbrev pub joined : Lookup → ℕ → ℕ → Candidate → Lookup

@@ -9,7 +9,6 @@ ghost use Rattle.place.specs.Place.{nearer_to};
 ghost use Rattle.lookup_marks.specs.Marks.{flying, failed};
 ghost use Rattle.lookup_candidates.specs.Candidates.{mark_of, well_made, flies, lies_at};
 ghost use Rattle.lookup.specs.Lookup.{room, limit_most, marks_of, nearest_first, in_form, mark, ends, settled, next_of, flyer_of, whom_of, with_candidates, turn_away, known, meet, hear, hear_all, heard_ids, heard_from, nobody, no_lookup, begun, limit_fits, start_of};
-ghost use Rattle.lookup.specs.declared.Answer.TheVariants.{Refused};
 ghost use Rattle.lookup.specs.Inner.{beyond, rank_of};
 ghost use Rattle.flat_lookup.specs.FlatLookup.{candidate_size, flat_size, lookup_in, candidate_bytes, head_bytes, lookup_bytes, candidate_at};
 ghost use Rattle.lookup_in_place.specs.InPlace.{answers, outcome_of, is_refused, step_memory, next_in, failure_in, reply_in, start_in, start_memory};
@@ -19,7 +18,7 @@ use flat_lookup::{
     CANDIDATE, CANDIDATES_AT, COUNT_AT, ID_AT, KEY_AT, LEN_AT, LIMIT_AT, PLACE_AT, SIZE, SIZE_AT,
     TARGET_AT, TURNED_AT,
 };
-use lookup::{Answer, Candidate, Whom};
+use lookup::{Answer, Candidate};
 use lookup_marks::Ranks;
 use message::Fields;
 use refusal::Refusal;
@@ -28,7 +27,7 @@ use refusal::Refusal;
 #[derive(Drop)]
 pub struct Outcome {
     pub found: Ranks,
-    pub answer: Answer,
+    pub answer: Result<Answer, Refusal>,
 }
 
 // ---- the parts of a lookup
@@ -108,12 +107,10 @@ fn in_order(m: &[u8], n: usize) -> bool
     if !well_made_at(m, 0) {
         return false;
     }
-    let mut i: usize = 0;
-    while i + 1 < n {
+    for i in 0..n - 1 {
         if !follows_at(m, i) {
             return false;
         }
-        i += 1;
     }
     true
 }
@@ -152,17 +149,15 @@ fn marks_in(m: &[u8]) -> [u8; lookup::ROOM]
     ensures { result ≡ map mark_of (lookup_in m.now).candidates }
 {
     let mut marks = [0u8; lookup::ROOM];
-    let mut i: usize = 0;
-    while i < lookup::ROOM {
+    for i in 0..lookup::ROOM {
         let v = mark_at(m, i);
         marks[i] = v;
-        i += 1;
     }
     marks
 }
 
 // An answer with nobody found.
-fn give(answer: Answer) -> Outcome
+fn give(answer: Result<Answer, Refusal>) -> Outcome
     ensures { result ≡ answers answer }
 {
     let at = [0usize; limits::MOST_NEAR];
@@ -180,12 +175,12 @@ fn end(m: &[u8], marks: &[u8]) -> Outcome
     if flat_lookup::turned_in(m) {
         return Outcome {
             found,
-            answer: Answer::CutShort(sent),
+            answer: Ok(Answer::CutShort(sent)),
         };
     }
     Outcome {
         found,
-        answer: Answer::Complete(sent),
+        answer: Ok(Answer::Complete(sent)),
     }
 }
 
@@ -200,7 +195,7 @@ fn settle(m: &[u8]) -> Outcome
     if lookup_marks::over(held) {
         return end(m, held);
     }
-    give(Answer::Going)
+    give(Ok(Answer::Going))
 }
 
 // What the next step answers.
@@ -209,7 +204,7 @@ fn next_answer(m: &[u8]) -> Outcome
     ensures { result ≡ outcome_of (next_of (lookup_in m.now)) }
 {
     if !in_form(m) {
-        return give(Answer::Refused(Refusal::OutOfForm));
+        return give(Err(Refusal::OutOfForm));
     }
     let n = flat_lookup::count_in(m);
     let marks = marks_in(m);
@@ -219,13 +214,13 @@ fn next_answer(m: &[u8]) -> Outcome
     }
     let limit = flat_lookup::number(m, LIMIT_AT);
     if limit <= lookup_marks::in_flight(held) {
-        return give(Answer::Wait);
+        return give(Ok(Answer::Wait));
     }
     let i = lookup_marks::idle(held);
     if i < n {
-        return give(Answer::Ask(i));
+        return give(Ok(Answer::Ask(i)));
     }
-    give(Answer::Wait)
+    give(Ok(Answer::Wait))
 }
 
 // Whether the candidate of rank i lies at this place and is in flight.
@@ -245,45 +240,43 @@ fn flyer(m: &[u8], n: usize, place: &[u8]) -> usize
     requires { (flat_size ≤ length m.now) × (n ≤ room) }
     ensures { result ≡ flyer_of place.now (take n (lookup_in m.now).candidates) }
 {
-    let mut i: usize = 0;
-    while i < n {
+    for i in 0..n {
         if flies_at(m, i, place) {
             return i;
         }
-        i += 1;
     }
     n
 }
 
 // Whom a report on the peer with this id is about. The box's own id and place come with it.
-fn about(m: &[u8], own: &[u8], ours: [u8; 32], id: &[u8]) -> Whom
+fn about(m: &[u8], own: &[u8], ours: [u8; 32], id: &[u8]) -> Result<usize, Refusal>
     requires { flat_size ≤ length m.now }
     ensures { result ≡ whom_of (lookup_in m.now) own.now ours id.now }
 {
     if !in_form(m) {
-        return Whom::Nobody(Refusal::OutOfForm);
+        return Err(Refusal::OutOfForm);
     }
     if !lookup_candidates::id_fits(own) {
-        return Whom::Nobody(Refusal::BadPeer);
+        return Err(Refusal::BadPeer);
     }
     if !lookup_candidates::id_fits(id) {
-        return Whom::Nobody(Refusal::BadPeer);
+        return Err(Refusal::BadPeer);
     }
     let place = sha256::hash(id);
     if octets::same_bytes(&place, &ours) {
-        return Whom::Nobody(Refusal::BadPeer);
+        return Err(Refusal::BadPeer);
     }
     let n = flat_lookup::count_in(m);
     let marks = marks_in(m);
     let held = &marks[..n];
     if lookup_marks::over(held) {
-        return Whom::Nobody(Refusal::LookupOver);
+        return Err(Refusal::LookupOver);
     }
     let i = flyer(m, n, &place);
     if n <= i {
-        return Whom::Nobody(Refusal::NotInFlight);
+        return Err(Refusal::NotInFlight);
     }
-    Whom::At(i)
+    Ok(i)
 }
 
 // ---- changes
@@ -325,35 +318,35 @@ fn ask(m: &mut [u8], i: usize)
 }
 
 // Whether an answer is a refusal.
-pub fn is_refused(a: Answer) -> bool
+pub fn is_refused(a: Result<Answer, Refusal>) -> bool
     ensures { result ≡ is_refused a }
 {
     match a {
-        Answer::Refused(_) => true,
-        Answer::Complete(_) => false,
-        Answer::CutShort(_) => false,
-        Answer::Wait => false,
-        Answer::Ask(_) => false,
-        Answer::Going => false,
+        Err(_) => true,
+        Ok(Answer::Complete(_)) => false,
+        Ok(Answer::CutShort(_)) => false,
+        Ok(Answer::Wait) => false,
+        Ok(Answer::Ask(_)) => false,
+        Ok(Answer::Going) => false,
     }
 }
 
 // The rank of the peer to ask, or 256.
-fn asked(a: Answer) -> usize
+fn asked(a: Result<Answer, Refusal>) -> usize
     ensures { result ≡ asked_of a }
 {
     match a {
-        Answer::Refused(_) => lookup::ROOM,
-        Answer::Complete(_) => lookup::ROOM,
-        Answer::CutShort(_) => lookup::ROOM,
-        Answer::Wait => lookup::ROOM,
-        Answer::Ask(i) => i,
-        Answer::Going => lookup::ROOM,
+        Err(_) => lookup::ROOM,
+        Ok(Answer::Complete(_)) => lookup::ROOM,
+        Ok(Answer::CutShort(_)) => lookup::ROOM,
+        Ok(Answer::Wait) => lookup::ROOM,
+        Ok(Answer::Ask(i)) => i,
+        Ok(Answer::Going) => lookup::ROOM,
     }
 }
 
 // What a next step with this answer leaves.
-fn keep_next(m: &mut [u8], answer: Answer)
+fn keep_next(m: &mut [u8], answer: Result<Answer, Refusal>)
     requires { (flat_size ≤ length m.old) × (answer ≡ (next_of (lookup_in m.old)).answer) }
     ensures { m.new ≡ step_memory m.old (next_of (lookup_in m.old)) }
 {
@@ -402,12 +395,10 @@ fn is_known(m: &[u8], n: usize, place: &[u8]) -> bool
     requires { (flat_size ≤ length m.now) × (n ≤ room) }
     ensures { result ≡ known place.now (take n (lookup_in m.now).candidates) }
 {
-    let mut i: usize = 0;
-    while i < n {
+    for i in 0..n {
         if lies_at(m, i, place) {
             return true;
         }
-        i += 1;
     }
     false
 }
@@ -425,26 +416,22 @@ fn rank(m: &[u8], n: usize, place: &[u8]) -> usize
     requires { (flat_size ≤ length m.now) × (n ≤ room) }
     ensures { (result ≡ rank_of (lookup_in m.now).target place.now (take n (lookup_in m.now).candidates)) × (result ≤ n) }
 {
-    let mut i: usize = 0;
-    while i < n {
+    for i in 0..n {
         if is_beyond(m, i, place) {
             return i;
         }
-        i += 1;
     }
     n
 }
 
-// The bytes from a up to e move up by a candidate.
+// The bytes from a up to e move up by a candidate, the last first.
+// One by one, since `copy_within` calls memmove: what a host links needs memcpy and memset and nothing else.
 fn make_gap(m: &mut [u8], a: usize, e: usize)
     requires { (a ≤ e) × (e + candidate_size ≤ length m.old) }
     ensures { m.new ≡ sets m.old (a + candidate_size) (part m.old a e) }
 {
-    let mut g = e;
-    while a < g {
-        g -= 1;
-        let b = m[g];
-        m[g + CANDIDATE] = b;
+    for g in (a..e).rev() {
+        m[g + CANDIDATE] = m[g];
     }
 }
 
@@ -529,12 +516,10 @@ fn hear_all(m: &mut [u8], ours: [u8; 32], body: &[u8])
     let at = ids.at;
     let end = ids.end;
     let n = ids.n;
-    let mut i: usize = 0;
-    while i < n {
+    for i in 0..n {
         let a = at[i];
         let e = end[i];
         hear_one(m, ours, &body[a..e]);
-        i += 1;
     }
 }
 
@@ -616,10 +601,8 @@ fn put_lookup(
     ensures { m.new ≡ sets m.old 0 (lookup_bytes (opened key target n size limit (members_of table.now at n))) }
 {
     put_head(m, key, target, n, size, limit);
-    let mut i: usize = 0;
-    while i < lookup::ROOM {
+    for i in 0..lookup::ROOM {
         put_at(m, CANDIDATES_AT + i * CANDIDATE, member(table, at, n, i));
-        i += 1;
     }
 }
 
@@ -639,13 +622,13 @@ fn begin(m: &mut [u8], table: &[u8], key: &[u8], limit: usize)
 
 // The lookup that a refused start leaves, and its answer.
 fn refuse(m: &mut [u8], r: Refusal) -> Outcome
-    ensures { (result ≡ answers (Refused r)) × (m.new ≡ sets m.old 0 (lookup_bytes no_lookup)) }
+    ensures { (result ≡ answers (Err r)) × (m.new ≡ sets m.old 0 (lookup_bytes no_lookup)) }
 {
     let at = [0usize; limits::MOST_NEAR];
     let key = [0u8; limits::MOST_KEY];
     let target = [0u8; 32];
     put_lookup(m, key, target, 0, 0, &key, at, 0);
-    give(Answer::Refused(r))
+    give(Err(r))
 }
 
 // Whether so many requests may be in flight.
@@ -672,7 +655,7 @@ pub fn start(
     ensures { (result ≡ outcome_of (start_in m.old table.now own.now ours key.now limit)) × (m.new ≡ start_memory m.old (start_of table.now own.now ours key.now limit)) }
 {
     if m.len() < SIZE {
-        return give(Answer::Refused(Refusal::OutOfForm));
+        return give(Err(Refusal::OutOfForm));
     }
     if !contacts::in_form(table, &ours) {
         return refuse(m, Refusal::OutOfForm);
@@ -695,7 +678,7 @@ pub fn next(m: &mut [u8]) -> Outcome
     ensures { (result ≡ outcome_of (next_in m.old)) × (m.new ≡ step_memory m.old (next_in m.old)) }
 {
     if m.len() < SIZE {
-        return give(Answer::Refused(Refusal::OutOfForm));
+        return give(Err(Refusal::OutOfForm));
     }
     let said = next_answer(m);
     let answer = said.answer;
@@ -708,12 +691,12 @@ pub fn failure(m: &mut [u8], own: &[u8], ours: [u8; 32], id: &[u8]) -> Outcome
     ensures { (result ≡ outcome_of (failure_in m.old own.now ours id.now)) × (m.new ≡ step_memory m.old (failure_in m.old own.now ours id.now)) }
 {
     if m.len() < SIZE {
-        return give(Answer::Refused(Refusal::OutOfForm));
+        return give(Err(Refusal::OutOfForm));
     }
     let w = about(m, own, ours, id);
     match w {
-        Whom::Nobody(r) => give(Answer::Refused(r)),
-        Whom::At(i) => fail(m, i),
+        Err(r) => give(Err(r)),
+        Ok(i) => fail(m, i),
     }
 }
 
@@ -729,14 +712,14 @@ pub fn reply(
     ensures { (result ≡ outcome_of (reply_in m.old own.now ours id.now body.now view)) × (m.new ≡ step_memory m.old (reply_in m.old own.now ours id.now body.now view)) }
 {
     if m.len() < SIZE {
-        return give(Answer::Refused(Refusal::OutOfForm));
+        return give(Err(Refusal::OutOfForm));
     }
     if !parts::is_view(body, view) {
-        return give(Answer::Refused(Refusal::OutOfForm));
+        return give(Err(Refusal::OutOfForm));
     }
     let w = about(m, own, ours, id);
     match w {
-        Whom::Nobody(r) => give(Answer::Refused(r)),
-        Whom::At(i) => hear_out(m, i, ours, body, view.kind),
+        Err(r) => give(Err(r)),
+        Ok(i) => hear_out(m, i, ours, body, view.kind),
     }
 }

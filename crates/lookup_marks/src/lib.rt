@@ -24,20 +24,16 @@ pub fn over(marks: &[u8]) -> bool
     ensures { result ≡ is_over marks.now }
 {
     let mut left: usize = limits::MOST_NEAR;
-    let mut i: usize = 0;
-    while i < marks.len() {
+    for m in marks {
         if left == 0 {
             return true;
         }
-        let m = marks[i];
-        i += 1;
-        if m == FAILED {
-            continue;
+        if *m != FAILED {
+            if *m != ANSWERED {
+                return false;
+            }
+            left -= 1;
         }
-        if m != ANSWERED {
-            return false;
-        }
-        left -= 1;
     }
     true
 }
@@ -48,20 +44,16 @@ pub fn idle(marks: &[u8]) -> usize
 {
     let n = marks.len();
     let mut left: usize = limits::MOST_NEAR;
-    let mut i: usize = 0;
-    while i < n {
+    for (i, m) in marks.iter().enumerate() {
         if left == 0 {
             return n;
         }
-        let m = marks[i];
-        if m == IDLE {
+        if *m == IDLE {
             return i;
         }
-        i += 1;
-        if m == FAILED {
-            continue;
+        if *m != FAILED {
+            left -= 1;
         }
-        left -= 1;
     }
     n
 }
@@ -71,14 +63,10 @@ fn with_mark(marks: &[u8], mark: u8) -> usize
     ensures { result ≡ count (length marks.now) (marked mark marks.now) }
 {
     let mut n: usize = 0;
-    let mut i: usize = 0;
-    while i < marks.len() {
-        let m = marks[i];
-        i += 1;
-        if m != mark {
-            continue;
+    for m in marks {
+        if *m == mark {
+            n += 1;
         }
-        n += 1;
     }
     n
 }
@@ -103,8 +91,7 @@ pub fn twenty(marks: &[u8]) -> Ranks
 {
     let mut at = [0usize; limits::MOST_NEAR];
     let mut n: usize = 0;
-    let mut i: usize = 0;
-    while i < marks.len() {
+    for i in 0..marks.len() {
         if n == limits::MOST_NEAR {
             return Ranks { at, n };
         }
@@ -113,7 +100,6 @@ pub fn twenty(marks: &[u8]) -> Ranks
             at[n] = i;
             n += 1;
         }
-        i += 1;
     }
     Ranks { at, n }
 }

@@ -16,7 +16,7 @@ use Rattle.lookup.specs.Lookup.{room, candidates_of, marks_of, turn_away, put, w
 use Rattle.lookup_candidates.specs.declared.Candidate.{Candidate}
 use Rattle.lookup.specs.Value.{Lookup, Step}
 use Rattle.lookup.specs.declared.Answer.{Answer}
-use Rattle.lookup.specs.declared.Answer.TheVariants.{Refused, Complete, CutShort, Wait, Ask, Going}
+use Rattle.lookup.specs.declared.Answer.TheVariants.{Complete, CutShort, Wait, Ask, Going}
 use Rattle.lookup.proofs.Form.{formed}
 use Rattle.lookup_runs.specs.Runs.{Call, step, outcome}
 use Rattle.lookup_runs.specs.History.{Event, history, asks_for, is_ask, how_many, times_asked, requests}
@@ -25,6 +25,8 @@ use Rattle.lookup_runs.proofs.Marking.{marked-candidates, put-candidates, at_mar
 use Rattle.lookup_runs.proofs.Order.{apart}
 use Rattle.lookup_runs.proofs.Moves.{Quiet, Has, Move, stays, asks, fails, answers, moved}
 use Rattle.lookup_runs.proofs.Sound.{Sound, sound-step, sound-outcome, begun-candidates}
+use Rattle.std.specs.Prelude.{Ok, Err, Result}
+use Rattle.refusal.specs.declared.Refusal.{Refusal}
 
 -- ---- a weight that a newcomer has not
 module _ (w : Candidate → ℕ) (none : (id : List ℕ) → w (fresh id) ≡ 0) where
@@ -71,21 +73,21 @@ module _ (v : List ℕ → ℕ) where
   spent-le c = cond_ind (λ (n : ℕ). n ≤ v c.place) (eqb c.mark idle) 0 (v c.place) (λ e. omega arith) (λ e. omega arith)
 
   -- what an answer weighs, where cs are the candidates of the lookup handed back
-  abbrev weighed : List Candidate → Answer → ℕ
-  weighed cs (Ask i) = v (get_or cs i nobody).place
-  weighed cs (Refused r) = 0
-  weighed cs (Complete n) = 0
-  weighed cs (CutShort n) = 0
-  weighed cs Wait = 0
-  weighed cs Going = 0
+  abbrev weighed : List Candidate → Result Answer Refusal → ℕ
+  weighed cs (Ok (Ask i)) = v (get_or cs i nobody).place
+  weighed cs (Err r) = 0
+  weighed cs (Ok (Complete n)) = 0
+  weighed cs (Ok (CutShort n)) = 0
+  weighed cs (Ok Wait) = 0
+  weighed cs (Ok Going) = 0
 
-  quiet_none : (cs : List Candidate) (a : Answer) → Quiet a → weighed cs a ≡ 0
-  quiet_none cs (Ask i) q = absurd q
-  quiet_none cs (Refused r) q = refl
-  quiet_none cs (Complete n) q = refl
-  quiet_none cs (CutShort n) q = refl
-  quiet_none cs Wait q = refl
-  quiet_none cs Going q = refl
+  quiet_none : (cs : List Candidate) (a : Result Answer Refusal) → Quiet a → weighed cs a ≡ 0
+  quiet_none cs (Ok (Ask i)) q = absurd q
+  quiet_none cs (Err r) q = refl
+  quiet_none cs (Ok (Complete n)) q = refl
+  quiet_none cs (Ok (CutShort n)) q = refl
+  quiet_none cs (Ok Wait) q = refl
+  quiet_none cs (Ok Going) q = refl
 
   step-spends : (c : Call) (l : Lookup) → Sound l
       → sum_of spent (candidates_of (step c l).lookup) ≡ weighed (candidates_of (step c l).lookup) (step c l).answer + sum_of spent (candidates_of l)
@@ -154,13 +156,13 @@ module _ (p : List ℕ) where
   abbrev here : List ℕ → ℕ
   here x = cond (same x p) 1 0
 
-  asks-one : (cs : List Candidate) (a : Answer) → cond (asks_for p cs a) 1 0 ≡ weighed here cs a
-  asks-one cs (Ask i) = refl
-  asks-one cs (Refused r) = refl
-  asks-one cs (Complete n) = refl
-  asks-one cs (CutShort n) = refl
-  asks-one cs Wait = refl
-  asks-one cs Going = refl
+  asks-one : (cs : List Candidate) (a : Result Answer Refusal) → cond (asks_for p cs a) 1 0 ≡ weighed here cs a
+  asks-one cs (Ok (Ask i)) = refl
+  asks-one cs (Err r) = refl
+  asks-one cs (Ok (Complete n)) = refl
+  asks-one cs (Ok (CutShort n)) = refl
+  asks-one cs (Ok Wait) = refl
+  asks-one cs (Ok Going) = refl
 
   -- along any calls the peer at p is asked at most once
   pub asked-once : (cs : List Call) (s : Step) → Sound s.lookup → times_asked p (history step s cs) ≤ 1
@@ -177,13 +179,13 @@ module _ (p : List ℕ) where
 abbrev each : List ℕ → ℕ
 each x = 1
 
-asks-each : (cs : List Candidate) (a : Answer) → cond (is_ask a) 1 0 ≡ weighed each cs a
-asks-each cs (Ask i) = refl
-asks-each cs (Refused r) = refl
-asks-each cs (Complete n) = refl
-asks-each cs (CutShort n) = refl
-asks-each cs Wait = refl
-asks-each cs Going = refl
+asks-each : (cs : List Candidate) (a : Result Answer Refusal) → cond (is_ask a) 1 0 ≡ weighed each cs a
+asks-each cs (Ok (Ask i)) = refl
+asks-each cs (Err r) = refl
+asks-each cs (Ok (Complete n)) = refl
+asks-each cs (Ok (CutShort n)) = refl
+asks-each cs (Ok Wait) = refl
+asks-each cs (Ok Going) = refl
 
 spent-each : (c : Candidate) → asked_one c ≡ spent each c
 unfolding spent

@@ -21,14 +21,14 @@ use Rattle.sha256.specs.Sha256.{sha256}
 use Rattle.lookup.specs.Lookup.{room, candidates_of, mark_of, marks_of, in_form, mark, gives, refuses, ends, settled, next_of, bad_step, flyer_of, whom_of, reported, failure_of, heard_from, reply_of}
 use Rattle.lookup.specs.Value.{Lookup, Step}
 use Rattle.lookup.specs.declared.Answer.{Answer}
-use Rattle.lookup.specs.declared.Answer.TheVariants.{Refused, Complete, CutShort, Wait, Ask, Going}
-use Rattle.lookup.specs.declared.Whom.{Whom}
-use Rattle.lookup.specs.declared.Whom.TheVariants.{Nobody, At}
+use Rattle.lookup.specs.declared.Answer.TheVariants.{Complete, CutShort, Wait, Ask, Going}
 use Rattle.lookup.proofs.Form.{formed}
 use Rattle.lookup_runs.specs.Runs.{accepted, Call, go_next, go_reply, go_fail, step, outcome}
 use Rattle.lookup_runs.specs.Claims.{Viewed}
 use Rattle.lookup_runs.proofs.Moves.{Move, stays, asks, fails, answers, moved, ends-accepted, settled-accepted}
 use Rattle.lookup_runs.proofs.Sound.{Sound, sound-step}
+use Rattle.std.specs.Prelude.{Ok, Err, Result}
+use Rattle.refusal.specs.declared.Refusal.{Refusal}
 
 -- ---- an answer of over: the test holds, the number is that of the candidates no longer idle, and those found are the first twenty not failed
 pub record Ended (l : Lookup) (found : Ranks) (n : ℕ) : Type 0 where
@@ -36,25 +36,25 @@ pub record Ended (l : Lookup) (found : Ranks) (n : ℕ) : Type 0 where
   pub sent : n ≡ sent_of (marks_of l)
   pub ranks : found ≡ ranks_of (twenty_of (marks_of l))
 
-abbrev pub EndsWell : Lookup → Ranks → Answer → Type 0
-EndsWell l f (Complete n) = Ended l f n × (l.turned ≡ false)
-EndsWell l f (CutShort n) = Ended l f n × (l.turned ≡ true)
-EndsWell l f (Refused r) = Unit {0}
-EndsWell l f (Ask i) = Unit {0}
-EndsWell l f Wait = Unit {0}
-EndsWell l f Going = Unit {0}
+abbrev pub EndsWell : Lookup → Ranks → Result Answer Refusal → Type 0
+EndsWell l f (Ok (Complete n)) = Ended l f n × (l.turned ≡ false)
+EndsWell l f (Ok (CutShort n)) = Ended l f n × (l.turned ≡ true)
+EndsWell l f (Err r) = Unit {0}
+EndsWell l f (Ok (Ask i)) = Unit {0}
+EndsWell l f (Ok Wait) = Unit {0}
+EndsWell l f (Ok Going) = Unit {0}
 
 abbrev pub Well : Step → Type 0
 Well s = EndsWell s.lookup s.found s.answer
 
 ends-well : (l : Lookup) → is_over (marks_of l) ≡ true → Well (ends l)
 ends-well l o =
-    cond_ind (EndsWell l (ends l).found) l.turned (CutShort (sent_of (marks_of l))) (Complete (sent_of (marks_of l)))
+    cond_ind (EndsWell l (ends l).found) l.turned ((Ok (CutShort (sent_of (marks_of l))))) ((Ok (Complete (sent_of (marks_of l)))))
     (λ e. (record { over = o; sent = refl; ranks = refl }, e)) (λ e. (record { over = o; sent = refl; ranks = refl }, e))
 
 pub settled-well : (l : Lookup) → Well (settled l)
 unfolding settled
-settled-well l = cond_ind Well (is_over (marks_of l)) (ends l) (gives l Going) (λ e. ends-well l e) (λ e. tt)
+settled-well l = cond_ind Well (is_over (marks_of l)) (ends l) (gives l (Ok Going)) (λ e. ends-well l e) (λ e. tt)
 
 next-well : (l : Lookup) → Well (next_of l)
 unfolding next_of
@@ -64,9 +64,9 @@ next-well l =
     (λ o. cond_ind Well (leb l.limit (flights_of (marks_of l))) _ _ (λ e. tt)
     (λ g. cond_ind Well (ltb (idle_of (marks_of l)) l.count) _ _ (λ e. tt) (λ e. tt))))
 
-reported-well : (l : Lookup) (w : Whom) (after : ℕ → Lookup) → Well (reported l w after)
-reported-well l (Nobody r) after = tt
-reported-well l (At i) after = settled-well (after i)
+reported-well : (l : Lookup) (w : Result ℕ Refusal) (after : ℕ → Lookup) → Well (reported l w after)
+reported-well l (Err r) after = tt
+reported-well l (Ok i) after = settled-well (after i)
 
 reply-well : (own ours id body : List ℕ) (v : Fields) (l : Lookup) → Well (reply_of l own ours id body v)
 unfolding reply_of
@@ -123,25 +123,25 @@ unfolding next_of
 repeats l f o = cond_no (not (in_form l)) (refuses l OutOfForm) _ (not_yes (in_form l) f) ∙ cond_yes (is_over (marks_of l)) (ends l) _ o
 
 -- ---- no call gives 0
-abbrev Above : Answer → Type 0
-Above (Refused r) = 1 ≤ number_of r
-Above (Complete n) = Unit {0}
-Above (CutShort n) = Unit {0}
-Above Wait = Unit {0}
-Above (Ask i) = Unit {0}
-Above Going = Unit {0}
+abbrev Above : Result Answer Refusal → Type 0
+Above (Err r) = 1 ≤ number_of r
+Above (Ok (Complete n)) = Unit {0}
+Above (Ok (CutShort n)) = Unit {0}
+Above (Ok Wait) = Unit {0}
+Above (Ok (Ask i)) = Unit {0}
+Above (Ok Going) = Unit {0}
 
-accepted-above : (a : Answer) → accepted a ≡ true → Above a
-accepted-above (Refused r) e = absurd (not-both false e refl)
-accepted-above (Complete n) e = tt
-accepted-above (CutShort n) e = tt
-accepted-above Wait e = tt
-accepted-above (Ask i) e = tt
-accepted-above Going e = tt
+accepted-above : (a : Result Answer Refusal) → accepted a ≡ true → Above a
+accepted-above (Err r) e = absurd (not-both false e refl)
+accepted-above (Ok (Complete n)) e = tt
+accepted-above (Ok (CutShort n)) e = tt
+accepted-above (Ok Wait) e = tt
+accepted-above (Ok (Ask i)) e = tt
+accepted-above (Ok Going) e = tt
 
-abbrev AboutAbove : Whom → Type 0
-AboutAbove (Nobody r) = 1 ≤ number_of r
-AboutAbove (At i) = Unit {0}
+abbrev AboutAbove : Result ℕ Refusal → Type 0
+AboutAbove (Err r) = 1 ≤ number_of r
+AboutAbove (Ok i) = Unit {0}
 
 -- a test of form that passes
 passes : {X : Type 0} (b : Bool) → b ≡ true → not b ≡ true → X
@@ -155,9 +155,9 @@ whom-above l own ours id f =
     (λ b. cond_ind AboutAbove (is_over (marks_of l)) _ _ (λ e. omega arith)
     (λ o. cond_ind AboutAbove (leb l.count (flyer_of (sha256 id) (candidates_of l))) _ _ (λ e. omega arith) (λ e. tt))))
 
-reported-above : (l : Lookup) (w : Whom) (after : ℕ → Lookup) → AboutAbove w → Above (reported l w after).answer
-reported-above l (Nobody r) after h = h
-reported-above l (At i) after h = accepted-above (settled (after i)).answer (settled-accepted (after i))
+reported-above : (l : Lookup) (w : Result ℕ Refusal) (after : ℕ → Lookup) → AboutAbove w → Above (reported l w after).answer
+reported-above l (Err r) after h = h
+reported-above l (Ok i) after h = accepted-above (settled (after i)).answer (settled-accepted (after i))
 
 next-above : (l : Lookup) → in_form l ≡ true → Above (next_of l).answer
 unfolding next_of
@@ -178,5 +178,5 @@ step-above (go_reply own ours id body v) l f h =
     (passes (is_view body v) (read_view body v h)) (λ e. reported-above l (whom_of l own ours id) (heard_from ours body v.kind l) (whom-above l own ours id f))
 step-above (go_fail own ours id) l f h = reported-above l (whom_of l own ours id) (λ i. mark i failed l) (whom-above l own ours id f)
 
-pub never-0 : (c : Call) (l : Lookup) → in_form l ≡ true → Viewed c → (step c l).answer ≡ Refused OutOfForm → ⊥
+pub never-0 : (c : Call) (l : Lookup) → in_form l ≡ true → Viewed c → (step c l).answer ≡ Err OutOfForm → ⊥
 never-0 c l f v e = let h : 1 ≤ 0 = subst Above e (step-above c l f v) in omega arith

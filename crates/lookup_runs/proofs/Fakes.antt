@@ -25,8 +25,6 @@ use Rattle.lookup_candidates.specs.declared.Candidate.{Candidate}
 use Rattle.lookup.specs.Value.{Lookup, Step}
 use Rattle.lookup.specs.declared.Answer.{Answer}
 use Rattle.lookup.specs.declared.Answer.TheVariants.{Ask, Going, Complete, CutShort}
-use Rattle.lookup.specs.declared.Whom.{Whom}
-use Rattle.lookup.specs.declared.Whom.TheVariants.{At}
 use Rattle.lookup.proofs.Form.{formed}
 use Rattle.lookup_runs.specs.Runs.{accepted, Started, Call, go_next, go_reply, go_fail, outcome}
 use Rattle.lookup_runs.specs.History.{Event, history, has_answered, has_failed, asks_for, has_been_asked, is_contact, heard_of, mark_by, places_found, TwentyNearest}
@@ -41,16 +39,18 @@ use Rattle.lookup_runs.proofs.Sound.{Sound, sound-mark, taken, begun-candidates}
 use Rattle.lookup_runs.proofs.Asking.{idle-weigh}
 use Rattle.lookup_runs.proofs.Tracking.{none-idle}
 use Rattle.lookup_runs.proofs.Theorems.{Begins, begins}
+use Rattle.std.specs.Prelude.{Ok, Result}
+use Rattle.refusal.specs.declared.Refusal.{Refusal}
 
 -- ---- next, where it asks
 next-asks : (l : Lookup) (k : ℕ) → in_form l ≡ true → is_over (marks_of l) ≡ false → flights_of (marks_of l) < l.limit → idle_of (marks_of l) ≡ k → k < l.count
-    → next_of l ≡ gives (mark k flying l) (Ask k)
+    → next_of l ≡ gives (mark k flying l) (Ok (Ask k))
 unfolding next_of
 next-asks l k f o g e h =
     cond_no (not (in_form l)) _ _ (not_yes (in_form l) f) ∙ cond_no (is_over (marks_of l)) _ _ o
     ∙ cond_no (leb l.limit (flights_of (marks_of l))) _ _ (lt-leb l.limit (flights_of (marks_of l)) g)
     ∙ cond_yes (ltb (idle_of (marks_of l)) l.count) _ _ (ap (λ (n : ℕ). ltb n l.count) e ∙ lt-ltb k l.count h)
-    ∙ ap (λ (n : ℕ). gives (mark n flying l) (Ask n)) e
+    ∙ ap (λ (n : ℕ). gives (mark n flying l) (Ok (Ask n))) e
 
 -- a report about the first candidate, in flight
 flyer-first : (p : List ℕ) (c : Candidate) (rest : List Candidate) → same c.place p ≡ true → flyer_of p (with_mark flying c ∷ rest) ≡ 0
@@ -58,11 +58,11 @@ unfolding first_in flies
 flyer-first p c rest e = cond_yes (same c.place p) 0 (suc (first_in (flies p) rest)) e
 
 about-first : (l : Lookup) (own ours id : List ℕ) (c : Candidate) (rest : List Candidate) → in_form l ≡ true → bad_step own ours id ≡ false → is_over (marks_of l) ≡ false
-    → candidates_of l ≡ with_mark flying c ∷ rest → sha256 id ≡ c.place → 0 < l.count → whom_of l own ours id ≡ At 0
+    → candidates_of l ≡ with_mark flying c ∷ rest → sha256 id ≡ c.place → 0 < l.count → whom_of l own ours id ≡ Ok 0
 unfolding whom_of
 about-first l own ours id c rest f p o cs at h =
     cond_no (not (in_form l)) _ _ (not_yes (in_form l) f) ∙ cond_no (bad_step own ours id) _ _ p ∙ cond_no (is_over (marks_of l)) _ _ o
-    ∙ cond_no (leb l.count (flyer_of (sha256 id) (candidates_of l))) _ _ (ap (leb l.count) first ∙ lt-leb l.count 0 h) ∙ ap At first
+    ∙ cond_no (leb l.count (flyer_of (sha256 id) (candidates_of l))) _ _ (ap (leb l.count) first ∙ lt-leb l.count 0 h) ∙ ap Ok first
   where
     first : flyer_of (sha256 id) (candidates_of l) ≡ 0
     first = ap (flyer_of (sha256 id)) cs ∙ flyer-first (sha256 id) c rest (same-yes c.place (sha256 id) (sym at))
@@ -83,11 +83,11 @@ idle-second ms = refl
 
 -- over, and complete
 over-complete : (l : Lookup) → is_over (marks_of l) ≡ true → l.turned ≡ false
-    → settled l ≡ record { lookup = l; found = ranks_of (twenty_of (marks_of l)); answer = Complete (sent_of (marks_of l)) }
+    → settled l ≡ record { lookup = l; found = ranks_of (twenty_of (marks_of l)); answer = (Ok (Complete (sent_of (marks_of l)))) }
 unfolding settled
 over-complete l o u =
-    cond_yes (is_over (marks_of l)) (ends l) (gives l Going) o
-    ∙ ap (λ (a : Answer). record { lookup = l; found = ranks_of (twenty_of (marks_of l)); answer = a }) (cond_no l.turned (CutShort (sent_of (marks_of l))) (Complete (sent_of (marks_of l))) u)
+    cond_yes (is_over (marks_of l)) (ends l) (gives l (Ok Going)) o
+    ∙ ap (λ (a : Result Answer Refusal). record { lookup = l; found = ranks_of (twenty_of (marks_of l)); answer = a }) (cond_no l.turned ((Ok (CutShort (sent_of (marks_of l))))) ((Ok (Complete (sent_of (marks_of l))))) u)
 
 take-failed : (n : ℕ) (cs : List Candidate) → take n (map (with_mark failed) cs) ≡ map (with_mark failed) (take n cs)
 take-failed zero [] = refl
@@ -151,7 +151,7 @@ module _ (t own ours key : List ℕ) (limit i j : ℕ) (js id : List ℕ) (st : 
   marks = ap (map mark_of) lists
 
   -- the first is asked
-  first : next_of s.lookup ≡ gives (mark 0 flying s.lookup) (Ask 0)
+  first : next_of s.lookup ≡ gives (mark 0 flying s.lookup) (Ok (Ask 0))
   first =
       next-asks s.lookup 0 b.sound.form (ap is_over marks ∙ over-two idle (idle ∷ map mark_of rest) refl refl)
       (omega (arith, flights-none, limit_is, limit-some)) (ap idle_of marks ∙ idle-first (idle ∷ map mark_of rest)) (omega (arith, many))
@@ -170,11 +170,11 @@ module _ (t own ours key : List ℕ) (limit i j : ℕ) (js id : List ℕ) (st : 
   ongoing1 = ap (λ (cs : List Candidate). is_over (map mark_of cs)) lists1 ∙ over-two flying (idle ∷ map mark_of rest) refl refl
 
   -- a report about it
-  about : whom_of (mark 0 flying s.lookup) own ours id ≡ At 0
+  about : whom_of (mark 0 flying s.lookup) own ours id ≡ Ok 0
   about = about-first (mark 0 flying s.lookup) own ours id c (d ∷ rest) sound1.form good ongoing1 lists1 at (omega (arith, many))
 
   -- with room for two, the second is next
-  second : 2 ≤ limit → next_of (mark 0 flying s.lookup) ≡ gives (mark 1 flying (mark 0 flying s.lookup)) (Ask 1)
+  second : 2 ≤ limit → next_of (mark 0 flying s.lookup) ≡ gives (mark 1 flying (mark 0 flying s.lookup)) (Ok (Ask 1))
   second h =
       next-asks (mark 0 flying s.lookup) 1 sound1.form ongoing1
       (omega (arith, flights-sum (candidates_of (mark 0 flying s.lookup)), ap (sum_of flying_one) lists1, sum-cons flying_one (with_mark flying c) (d ∷ rest), one-flies, none-fly (j ∷ js), limit_is))
@@ -220,15 +220,15 @@ module _ (t own ours key : List ℕ) (limit i j : ℕ) (js id : List ℕ) (st : 
   unfolding is_over every
   over2 = ap (every (marked answered (marks_of l2))) none_left
 
-  failing-is : outcome all_fail s failing ≡ record { lookup = l2; found = ranks_of (twenty_of (marks_of l2)); answer = Complete (sent_of (marks_of l2)) }
+  failing-is : outcome all_fail s failing ≡ record { lookup = l2; found = ranks_of (twenty_of (marks_of l2)); answer = (Ok (Complete (sent_of (marks_of l2)))) }
   unfolding outcome
   failing-is =
-      ap (λ (x : Step). all_fail (go_fail own ours id) x.lookup) first ∙ ap (λ (w : Whom). reported l1 w (λ k. l2)) about ∙ over-complete l2 over2 unturned
+      ap (λ (x : Step). all_fail (go_fail own ours id) x.lookup) first ∙ ap (λ (w : Result ℕ Refusal). reported l1 w (λ k. l2)) about ∙ over-complete l2 over2 unturned
 
   nobody-found : length (places_found (outcome all_fail s failing)) ≡ 0
   nobody-found =
       ap (λ (x : Step). length (places_found x)) failing-is
-      ∙ ap (λ (l : List ℕ). length (places_found (record { lookup = l2; found = ranks_of l; answer = Complete (sent_of (marks_of l2)) }))) none_left
+      ∙ ap (λ (l : List ℕ). length (places_found (record { lookup = l2; found = ranks_of l; answer = (Ok (Complete (sent_of (marks_of l2)))) }))) none_left
 
   not-failed : has_failed d.place (history all_fail s failing) ≡ false
   unfolding history any_in
@@ -280,12 +280,12 @@ module _ (t own ours key : List ℕ) (limit i j : ℕ) (js id : List ℕ) (st : 
     unfolding is_over every twenty_of live
     over4 = ap (λ (cs : List Candidate). is_over (map mark_of cs)) lists4
 
-    dropping-is : outcome drops_contacts s dropping ≡ record { lookup = l4; found = ranks_of (twenty_of (marks_of l4)); answer = Complete (sent_of (marks_of l4)) }
+    dropping-is : outcome drops_contacts s dropping ≡ record { lookup = l4; found = ranks_of (twenty_of (marks_of l4)); answer = (Ok (Complete (sent_of (marks_of l4)))) }
     unfolding outcome
     dropping-is =
         ap (λ (x : Step). drops_contacts (go_reply own ours id body v) x.lookup) first
         ∙ cond_no (any_in (λ (x : Candidate). eqb x.mark answered) (candidates_of l1)) _ _ first-reply ∙ cond_yes (is_view body v) _ _ view
-        ∙ ap (λ (w : Whom). reported l1 w (λ k. heard_from ours body v.kind (put l1 (get_or (candidates_of l1) k nobody ∷ [])) 0)) about
+        ∙ ap (λ (w : Result ℕ Refusal). reported l1 w (λ k. heard_from ours body v.kind (put l1 (get_or (candidates_of l1) k nobody ∷ [])) 0)) about
         ∙ ap settled heard ∙ over-complete l4 over4 unturned
 
     one_found : places_found (outcome drops_contacts s dropping) ≡ c.place ∷ []

@@ -19,25 +19,25 @@ use Rattle.message.specs.Kinds.{find_node}
 use Rattle.lookup.specs.Lookup.{candidates_of, marks_of, in_form, mark, gives, refuses, ends, settled, next_of, bad_step, flyer_of, whom_of, reported, failure_of, hear_all, heard_ids, heard_from, reply_of, nobody}
 use Rattle.lookup.specs.Value.{Lookup, Step}
 use Rattle.lookup.specs.declared.Answer.{Answer}
-use Rattle.lookup.specs.declared.Answer.TheVariants.{Refused, Complete, CutShort, Wait, Ask, Going}
-use Rattle.lookup.specs.declared.Whom.{Whom}
-use Rattle.lookup.specs.declared.Whom.TheVariants.{Nobody, At}
+use Rattle.lookup.specs.declared.Answer.TheVariants.{Complete, CutShort, Wait, Ask, Going}
 use Rattle.lookup.proofs.Steps.{settled-lookup}
 use Rattle.lookup.proofs.Form.{formed}
 use Rattle.lookup_runs.specs.Runs.{accepted, Call, go_next, go_reply, go_fail, step}
 use Rattle.lookup_runs.proofs.Marking.{asked-idle, flyer-flies}
+use Rattle.std.specs.Prelude.{Ok, Err, Result}
+use Rattle.refusal.specs.declared.Refusal.{Refusal}
 
 -- an answer that asks nobody
-abbrev pub Quiet : Answer → Type 0
-Quiet (Ask i) = ⊥
-Quiet (Refused r) = Unit {0}
-Quiet (Complete n) = Unit {0}
-Quiet (CutShort n) = Unit {0}
-Quiet Wait = Unit {0}
-Quiet Going = Unit {0}
+abbrev pub Quiet : Result Answer Refusal → Type 0
+Quiet (Ok (Ask i)) = ⊥
+Quiet (Err r) = Unit {0}
+Quiet (Ok (Complete n)) = Unit {0}
+Quiet (Ok (CutShort n)) = Unit {0}
+Quiet (Ok Wait) = Unit {0}
+Quiet (Ok Going) = Unit {0}
 
 -- a call that tells nothing: next, or one that is refused
-abbrev pub Silent : Call → Answer → Type 0
+abbrev pub Silent : Call → Result Answer Refusal → Type 0
 Silent go_next a = Unit {0}
 Silent (go_reply own ours id body v) a = accepted a ≡ false
 Silent (go_fail own ours id) a = accepted a ≡ false
@@ -57,7 +57,7 @@ pub record Has (l : Lookup) (i m : ℕ) : Type 0 where
 
 pub data Move (c : Call) (l : Lookup) (s : Step) : Type 0 where
   stays : s.lookup ≡ l → Quiet s.answer → Silent c s.answer → Move c l s
-  asks : (i : ℕ) → c ≡ go_next → Has l i idle → flights_of (marks_of l) < l.limit → s.lookup ≡ mark i flying l → s.answer ≡ Ask i → Move c l s
+  asks : (i : ℕ) → c ≡ go_next → Has l i idle → flights_of (marks_of l) < l.limit → s.lookup ≡ mark i flying l → s.answer ≡ Ok (Ask i) → Move c l s
   fails : (id : List ℕ) (i : ℕ) → Fails id c → Has l i flying → (get_or (candidates_of l) i nobody).place ≡ sha256 id → s.lookup ≡ mark i failed l → Quiet s.answer
       → accepted s.answer ≡ true → Move c l s
   answers : (own ours id body : List ℕ) (v : Fields) (i : ℕ) → c ≡ go_reply own ours id body v → v.kind ≡ find_node → Has l i flying
@@ -70,20 +70,20 @@ count-le l = omega (arith, length-take l.count l.candidates)
 
 -- ---- over or going: the lookup stays as it is
 ends-quiet : (l : Lookup) → Quiet (ends l).answer
-ends-quiet l = cond_ind Quiet l.turned (CutShort _) (Complete _) (λ e. tt) (λ e. tt)
+ends-quiet l = cond_ind Quiet l.turned (Ok (CutShort _)) (Ok (Complete _)) (λ e. tt) (λ e. tt)
 
 pub settled-quiet : (l : Lookup) → Quiet (settled l).answer
 unfolding settled
-settled-quiet l = cond_ind (λ (s : Step). Quiet s.answer) (is_over (marks_of l)) (ends l) (gives l Going) (λ e. ends-quiet l) (λ e. tt)
+settled-quiet l = cond_ind (λ (s : Step). Quiet s.answer) (is_over (marks_of l)) (ends l) (gives l (Ok Going)) (λ e. ends-quiet l) (λ e. tt)
 
 -- and it is no refusal
 pub ends-accepted : (l : Lookup) → accepted (ends l).answer ≡ true
-ends-accepted l = cond_ind (λ (a : Answer). accepted a ≡ true) l.turned (CutShort _) (Complete _) (λ e. refl) (λ e. refl)
+ends-accepted l = cond_ind (λ (a : Result Answer Refusal). accepted a ≡ true) l.turned (Ok (CutShort _)) (Ok (Complete _)) (λ e. refl) (λ e. refl)
 
 pub settled-accepted : (l : Lookup) → accepted (settled l).answer ≡ true
 unfolding settled
 settled-accepted l =
-    cond_ind (λ (s : Step). accepted s.answer ≡ true) (is_over (marks_of l)) (ends l) (gives l Going) (λ e. ends-accepted l) (λ e. refl)
+    cond_ind (λ (s : Step). accepted s.answer ≡ true) (is_over (marks_of l)) (ends l) (gives l (Ok Going)) (λ e. ends-accepted l) (λ e. refl)
 
 -- ---- next
 next-moves : (l : Lookup) → length l.candidates ≡ 256 → Move go_next l (next_of l)
@@ -95,7 +95,7 @@ next-moves l hl =
     (λ g. cond_ind (Move go_next l) (ltb (idle_of (marks_of l)) l.count) _ _ (λ e. ask f o g e) (λ e. stays refl tt tt))))
   where
     ask : not (in_form l) ≡ false → is_over (marks_of l) ≡ false → leb l.limit (flights_of (marks_of l)) ≡ false → ltb (idle_of (marks_of l)) l.count ≡ true
-        → Move go_next l (gives (mark (idle_of (marks_of l)) flying l) (Ask (idle_of (marks_of l))))
+        → Move go_next l (gives (mark (idle_of (marks_of l)) flying l) ((Ok (Ask (idle_of (marks_of l))))))
     ask f o g e =
         let z : in_form l ≡ true = not-false (in_form l) f in
         let k : length (candidates_of l) ≡ l.count = length-take-le l.count l.candidates (omega (arith, (formed l z).fits)) in
@@ -107,9 +107,9 @@ pub record Found (l : Lookup) (id : List ℕ) (i : ℕ) : Type 0 where
   pub has : Has l i flying
   pub place : (get_or (candidates_of l) i nobody).place ≡ sha256 id
 
-abbrev About : Lookup → List ℕ → Whom → Type 0
-About l id (Nobody r) = Unit {0}
-About l id (At i) = Found l id i
+abbrev About : Lookup → List ℕ → Result ℕ Refusal → Type 0
+About l id (Err r) = Unit {0}
+About l id (Ok i) = Found l id i
 
 about : (l : Lookup) (own ours id : List ℕ) → length l.candidates ≡ 256 → About l id (whom_of l own ours id)
 unfolding whom_of
@@ -131,9 +131,9 @@ fail-moves : (own ours id : List ℕ) (l : Lookup) → length l.candidates ≡ 2
 unfolding failure_of
 fail-moves own ours id l hl = go (whom_of l own ours id) (about l own ours id hl)
   where
-    go : (w : Whom) → About l id w → Move (go_fail own ours id) l (reported l w (λ i. mark i failed l))
-    go (Nobody r) a = stays refl tt refl
-    go (At i) a = fails id i refl a.has a.place (settled-lookup (mark i failed l)) (settled-quiet (mark i failed l)) (settled-accepted (mark i failed l))
+    go : (w : Result ℕ Refusal) → About l id w → Move (go_fail own ours id) l (reported l w (λ i. mark i failed l))
+    go (Err r) a = stays refl tt refl
+    go (Ok i) a = fails id i refl a.has a.place (settled-lookup (mark i failed l)) (settled-quiet (mark i failed l)) (settled-accepted (mark i failed l))
 
 from_is : (ours body : List ℕ) (kind : ℕ) (l : Lookup) (i : ℕ) → heard_from ours body kind l i ≡ cond (eqb kind find_node) (hear_all ours (heard_ids body) (mark i answered l)) (mark i failed l)
 unfolding heard_from
@@ -154,9 +154,9 @@ reply-moves own ours id body v l hl =
         (λ q. heard i a (hear_all ours (heard_ids body) (mark i answered l)) refl (eqb-true v.kind find_node q))
         (λ q. fails id i (q, refl) a.has a.place (settled-lookup (mark i failed l)) (settled-quiet (mark i failed l)) (settled-accepted (mark i failed l)))
 
-    go : (w : Whom) → About l id w → Move (go_reply own ours id body v) l (reported l w (heard_from ours body v.kind l))
-    go (Nobody r) a = stays refl tt refl
-    go (At i) a = subst (λ (k : Lookup). Move (go_reply own ours id body v) l (settled k)) (sym (from_is ours body v.kind l i)) (by_kind i a)
+    go : (w : Result ℕ Refusal) → About l id w → Move (go_reply own ours id body v) l (reported l w (heard_from ours body v.kind l))
+    go (Err r) a = stays refl tt refl
+    go (Ok i) a = subst (λ (k : Lookup). Move (go_reply own ours id body v) l (settled k)) (sym (from_is ours body v.kind l i)) (by_kind i a)
 
 pub moved : (c : Call) (l : Lookup) → length l.candidates ≡ 256 → Move c l (step c l)
 unfolding step

@@ -16,18 +16,16 @@ use Rattle.parts.specs.Parts.{is_view}
 use Rattle.message.specs.Kinds.{key_fits}
 use Rattle.lookup.specs.Lookup.{marks_of, in_form, mark, refuses, settled, next_of, id_fits, whom_of, reported, failure_of, heard_from, reply_of, no_lookup, begun, limit_fits, start_of}
 use Rattle.lookup.specs.Value.{Lookup, Step}
-use Rattle.lookup.specs.declared.Answer.TheVariants.{Refused}
-use Rattle.lookup.specs.declared.Whom.{Whom}
-use Rattle.lookup.specs.declared.Whom.TheVariants.{Nobody, At}
 use Rattle.lookup_runs.specs.Runs.{accepted, Call, go_next, go_reply, go_fail, step, outcome}
 use Rattle.lookup_runs.specs.Refusals.{Refusals}
 use Rattle.lookup_runs.proofs.Moves.{settled-accepted}
+use Rattle.std.specs.Prelude.{Ok, Err, Result}
 
 -- a step hands l back, or is no refusal
 abbrev Leaves : Lookup → Step → Type 0
 Leaves l s = (s.lookup ≡ l) ⊎ (accepted s.answer ≡ true)
 
-left : (l : Lookup) (s : Step) (r : Refusal) → Leaves l s → s.answer ≡ Refused r → s.lookup ≡ l
+left : (l : Lookup) (s : Step) (r : Refusal) → Leaves l s → s.answer ≡ Err r → s.lookup ≡ l
 left l s r h e = ⊎_elim (λ k. k) (λ a. absurd (not-both (accepted s.answer) a (ap accepted e))) h
 
 -- ---- any call
@@ -39,9 +37,9 @@ next-leaves l =
     (λ o. cond_ind (Leaves l) (leb l.limit (flights_of (marks_of l))) _ _ (λ e. inl refl)
     (λ g. cond_ind (Leaves l) (ltb (idle_of (marks_of l)) l.count) _ _ (λ e. inr refl) (λ e. inl refl))))
 
-reported-leaves : (l : Lookup) (w : Whom) (after : ℕ → Lookup) → Leaves l (reported l w after)
-reported-leaves l (Nobody r) after = inl refl
-reported-leaves l (At i) after = inr (settled-accepted (after i))
+reported-leaves : (l : Lookup) (w : Result ℕ Refusal) (after : ℕ → Lookup) → Leaves l (reported l w after)
+reported-leaves l (Err r) after = inl refl
+reported-leaves l (Ok i) after = inr (settled-accepted (after i))
 
 reply-leaves : (own ours id body : List ℕ) (v : Fields) (l : Lookup) → Leaves l (reply_of l own ours id body v)
 unfolding reply_of
@@ -73,24 +71,24 @@ none-formless : not (in_form no_lookup) ≡ true
 unfolding in_form all_of
 none-formless = refl
 
-whom-none : (own ours id : List ℕ) → whom_of no_lookup own ours id ≡ Nobody OutOfForm
+whom-none : (own ours id : List ℕ) → whom_of no_lookup own ours id ≡ Err OutOfForm
 unfolding whom_of
-whom-none own ours id = cond_yes (not (in_form no_lookup)) (Nobody OutOfForm) _ none-formless
+whom-none own ours id = cond_yes (not (in_form no_lookup)) (Err OutOfForm) _ none-formless
 
 step-none : (c : Call) → step c no_lookup ≡ refuses no_lookup OutOfForm
 unfolding step next_of reply_of failure_of
 step-none go_next = cond_yes (not (in_form no_lookup)) (refuses no_lookup OutOfForm) _ none-formless
 step-none (go_reply own ours id body v) =
     cond_ind (λ (s : Step). s ≡ refuses no_lookup OutOfForm) (not (is_view body v)) (refuses no_lookup OutOfForm) (reported no_lookup (whom_of no_lookup own ours id) (heard_from ours body v.kind no_lookup))
-    (λ e. refl) (λ e. ap (λ (w : Whom). reported no_lookup w (heard_from ours body v.kind no_lookup)) (whom-none own ours id))
-step-none (go_fail own ours id) = ap (λ (w : Whom). reported no_lookup w (λ i. mark i failed no_lookup)) (whom-none own ours id)
+    (λ e. refl) (λ e. ap (λ (w : Result ℕ Refusal). reported no_lookup w (heard_from ours body v.kind no_lookup)) (whom-none own ours id))
+step-none (go_fail own ours id) = ap (λ (w : Result ℕ Refusal). reported no_lookup w (λ i. mark i failed no_lookup)) (whom-none own ours id)
 
 stays-none : (cs : List Call) (s : Step) → s.lookup ≡ no_lookup → (outcome step s cs).lookup ≡ no_lookup
 unfolding outcome
 stays-none [] s e = e
 stays-none (c ∷ cs) s e = stays-none cs (step c s.lookup) (ap (λ (l : Lookup). (step c l).lookup) e ∙ ap (λ (x : Step). x.lookup) (step-none c))
 
-start_none : (t own ours key : List ℕ) (limit : ℕ) (r : Refusal) → (start_of t own ours key limit).answer ≡ Refused r → (start_of t own ours key limit).lookup ≡ no_lookup
+start_none : (t own ours key : List ℕ) (limit : ℕ) (r : Refusal) → (start_of t own ours key limit).answer ≡ Err r → (start_of t own ours key limit).lookup ≡ no_lookup
 start_none t own ours key limit r e = left no_lookup (start_of t own ours key limit) r (start-leaves t own ours key limit) e
 
 pub refusals : Refusals

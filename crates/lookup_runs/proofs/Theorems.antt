@@ -37,6 +37,7 @@ use Rattle.lookup_runs.proofs.Ids.{Stranger, own-id, start-own}
 use Rattle.lookup_runs.proofs.Hearing.{Lost, calls-stay, named-kept, known-named, turned-lost}
 use Rattle.lookup_runs.proofs.Nearest.{place_of, place_at, twenty, found-places, over-answered, left_in, alone, twenty-nearest}
 use Rattle.lookup_runs.proofs.Ending.{Ended, EndsWell, Well, settled-well, outcome-well, sent-few, stays-over, repeats, never-0}
+use Rattle.std.specs.Prelude.{Ok}
 
 -- ---- a mark of 0 to 3 is the one that its three tests call for
 mark-is : (m : ℕ) → m ≤ failed → m ≡ cond (eqb m failed) failed (cond (eqb m answered) answered (cond (not (eqb m idle)) flying idle))
@@ -199,7 +200,7 @@ module _ (t key : List ℕ) (limit : ℕ) (s : Step) (b : Begins t key limit s) 
           few = omega (arith, w.sent, sent-few l sound);
         }
 
-  means-complete : (n : ℕ) → (outcome step s cs).answer ≡ Complete n → MeansComplete t key h (outcome step s cs) n
+  means-complete : (n : ℕ) → (outcome step s cs).answer ≡ Ok (Complete n) → MeansComplete t key h (outcome step s cs) n
   means-complete n e =
       let w : Ended l (outcome step s cs).found n × (l.turned ≡ false) = subst (EndsWell l (outcome step s cs).found) e (outcome-well cs s b.well) in
       record {
@@ -207,7 +208,7 @@ module _ (t key : List ℕ) (limit : ℕ) (s : Step) (b : Begins t key limit s) 
         roomy = λ p a. heard-known p w.1 a;
       }
 
-  means-cut-short : (n : ℕ) → (outcome step s cs).answer ≡ CutShort n → MeansCutShort t key h (outcome step s cs) n
+  means-cut-short : (n : ℕ) → (outcome step s cs).answer ≡ Ok (CutShort n) → MeansCutShort t key h (outcome step s cs) n
   means-cut-short n e =
       let w : Ended l (outcome step s cs).found n × (l.turned ≡ true) = subst (EndsWell l (outcome step s cs).found) e (outcome-well cs s b.well) in
       record {

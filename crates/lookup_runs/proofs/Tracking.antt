@@ -18,15 +18,17 @@ use Rattle.lookup.specs.Lookup.{room, candidates_of, turn_away, put, with_mark, 
 use Rattle.lookup_candidates.specs.declared.Candidate.{Candidate}
 use Rattle.lookup.specs.Value.{Lookup, Step}
 use Rattle.lookup.specs.declared.Answer.{Answer}
-use Rattle.lookup.specs.declared.Answer.TheVariants.{Refused, Complete, CutShort, Wait, Ask, Going}
+use Rattle.lookup.specs.declared.Answer.TheVariants.{Complete, CutShort, Wait, Ask, Going}
 use Rattle.lookup_runs.specs.Runs.{accepted, Call, go_next, go_reply, go_fail, step, outcome}
 use Rattle.lookup_runs.specs.History.{Event, history, tells, answers_in, has_answered, fails_in, has_failed, named_in, means_peer, asks_for, asks_peer, has_been_asked}
 use Rattle.lookup_runs.proofs.Marking.{marked-candidates, put-candidates, at_mark, any-set, any-unset, any-entered}
 use Rattle.lookup_runs.proofs.Moves.{Quiet, Silent, Fails, Has, Move, stays, asks, fails, answers, moved}
 use Rattle.lookup_runs.proofs.Sound.{Sound, sound-step, begun-candidates}
+use Rattle.std.specs.Prelude.{Ok, Err, Result}
+use Rattle.refusal.specs.declared.Refusal.{Refusal}
 
 -- ---- what a call tells, by the kind of its move
-pub silent-tells : (q : Call → Bool) → q go_next ≡ false → (c : Call) (a : Answer) → Silent c a → (accepted a && q c) ≡ false
+pub silent-tells : (q : Call → Bool) → q go_next ≡ false → (c : Call) (a : Result Answer Refusal) → Silent c a → (accepted a && q c) ≡ false
 silent-tells q z go_next a s = and-fails (accepted a) (q go_next) z
 silent-tells q z (go_reply own ours id body v) a s = and-off (accepted a) (q (go_reply own ours id body v)) s
 silent-tells q z (go_fail own ours id) a s = and-off (accepted a) (q (go_fail own ours id)) s
@@ -57,13 +59,13 @@ module _ (p own ours id body : List ℕ) (v : Fields) (k : v.kind ≡ find_node)
   pub answers-named : named_in p (go_reply own ours id body v) ≡ any_in (means_peer p ours) (heard_ids body)
   answers-named = and-on (eqb v.kind find_node) (any_in (means_peer p ours) (heard_ids body)) (eq-eqb v.kind find_node k)
 
-quiet-asks : (p : List ℕ) (cs : List Candidate) (a : Answer) → Quiet a → asks_for p cs a ≡ false
-quiet-asks p cs (Ask i) q = absurd q
-quiet-asks p cs (Refused r) q = refl
-quiet-asks p cs (Complete n) q = refl
-quiet-asks p cs (CutShort n) q = refl
-quiet-asks p cs Wait q = refl
-quiet-asks p cs Going q = refl
+quiet-asks : (p : List ℕ) (cs : List Candidate) (a : Result Answer Refusal) → Quiet a → asks_for p cs a ≡ false
+quiet-asks p cs (Ok (Ask i)) q = absurd q
+quiet-asks p cs (Err r) q = refl
+quiet-asks p cs (Ok (Complete n)) q = refl
+quiet-asks p cs (Ok (CutShort n)) q = refl
+quiet-asks p cs (Ok Wait) q = refl
+quiet-asks p cs (Ok Going) q = refl
 
 -- ---- a test of candidates that no newcomer passes
 module _ (q : Candidate → Bool) (no : (id : List ℕ) → id_fits id ≡ true → q (fresh id) ≡ false) where

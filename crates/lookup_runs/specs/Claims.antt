@@ -8,15 +8,15 @@ use Rattle.contacts.specs.Table.{slot, place}
 use Rattle.contacts.specs.Contact.{entry_id}
 use Rattle.contacts.specs.Near.{nearest_slots}
 use Rattle.message.specs.View.{reading_of}
-use Rattle.message.specs.declared.Reading.TheVariants.{Whole}
 use Rattle.lookup_marks.specs.Marks.{is_over, flights_of}
 use Rattle.octets.specs.Search.{any_in}
 use Rattle.lookup.specs.Lookup.{candidates_of, marks_of, in_form, ends, known, nobody}
 use Rattle.lookup_candidates.specs.declared.Candidate.{Candidate}
 use Rattle.lookup.specs.Value.{Lookup, Step}
-use Rattle.lookup.specs.declared.Answer.TheVariants.{Refused, Complete, CutShort}
+use Rattle.lookup.specs.declared.Answer.TheVariants.{Complete, CutShort}
 use Rattle.lookup_runs.specs.Runs.{Call, go_next, go_reply, go_fail, outcome}
 use Rattle.lookup_runs.specs.History.{Event, history, has_answered, has_failed, heard_of, times_asked, has_been_asked, requests, mark_by, places_found, TwentyNearest}
+use Rattle.std.specs.Prelude.{Ok, Err}
 
 -- ---- what an answer of over means, where `counts` says who counts: h is the history, s the last outcome and n the number that it tells
 pub record MeansOver (counts : List ℕ → Bool) (key : List ℕ) (h : List Event) (s : Step) (n : ℕ) : Type 0 where
@@ -42,7 +42,7 @@ pub record MeansCutShort (t key : List ℕ) (h : List Event) (s : Step) (n : ℕ
 -- a reply comes with the view that the reader gives for its body
 abbrev pub Viewed : Call → Type 0
 Viewed go_next = Unit {0}
-Viewed (go_reply own ours id body v) = reading_of body ≡ Whole v
+Viewed (go_reply own ours id body v) = reading_of body ≡ Ok v
 Viewed (go_fail own ours id) = Unit {0}
 
 -- a candidate's id; it is its own, where it hashes to the candidate's place, or one of the start's contacts has this id and this place
@@ -59,8 +59,8 @@ pub record Claims (go : Call → Lookup → Step) (t key : List ℕ) (limit : �
   pub once : (cs : List Call) (p : List ℕ) → times_asked p (history go s cs) ≤ 1
   -- "It reports complete only when the twenty nearest peers heard of that haven't failed, or all if fewer, have answered, and no peer was turned away for
   -- want of room."
-  pub complete : (cs : List Call) (n : ℕ) → (outcome go s cs).answer ≡ Complete n → MeansComplete t key (history go s cs) (outcome go s cs) n
-  pub cut_short : (cs : List Call) (n : ℕ) → (outcome go s cs).answer ≡ CutShort n → MeansCutShort t key (history go s cs) (outcome go s cs) n
+  pub complete : (cs : List Call) (n : ℕ) → (outcome go s cs).answer ≡ Ok (Complete n) → MeansComplete t key (history go s cs) (outcome go s cs) n
+  pub cut_short : (cs : List Call) (n : ℕ) → (outcome go s cs).answer ≡ Ok (CutShort n) → MeansCutShort t key (history go s cs) (outcome go s cs) n
   -- who is asked is a candidate; a candidate was heard of, stays one, and has the mark that the history calls for
   pub asked : (cs : List Call) (p : List ℕ) → has_been_asked p (history go s cs) ≡ true → known p (candidates_of (outcome go s cs).lookup) ≡ true
   pub heard : (cs : List Call) (p : List ℕ) → known p (candidates_of (outcome go s cs).lookup) ≡ true → heard_of t key p (history go s cs) ≡ true
@@ -81,4 +81,4 @@ pub record Claims (go : Call → Lookup → Step) (t key : List ℕ) (limit : �
       → ((more : List Call) → (outcome go (outcome go s cs) more).lookup ≡ (outcome go s cs).lookup) × (go go_next (outcome go s cs).lookup ≡ ends (outcome go s cs).lookup)
   -- form is kept, and no call gives 0
   pub form : (cs : List Call) → in_form (outcome go s cs).lookup ≡ true
-  pub never0 : (cs : List Call) (c : Call) → Viewed c → (go c (outcome go s cs).lookup).answer ≡ Refused OutOfForm → ⊥
+  pub never0 : (cs : List Call) (c : Call) → Viewed c → (go c (outcome go s cs).lookup).answer ≡ Err OutOfForm → ⊥

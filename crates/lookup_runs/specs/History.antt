@@ -13,8 +13,10 @@ use Rattle.lookup.specs.Lookup.{candidates_of, lies_at, id_fits, heard_ids, nobo
 use Rattle.lookup_candidates.specs.declared.Candidate.{Candidate}
 use Rattle.lookup.specs.Value.{Lookup, Step}
 use Rattle.lookup.specs.declared.Answer.{Answer}
-use Rattle.lookup.specs.declared.Answer.TheVariants.{Refused, Complete, CutShort, Wait, Ask, Going}
+use Rattle.lookup.specs.declared.Answer.TheVariants.{Complete, CutShort, Wait, Ask, Going}
 use Rattle.lookup_runs.specs.Runs.{accepted, Call, go_next, go_reply, go_fail}
+use Rattle.std.specs.Prelude.{Ok, Err, Result}
+use Rattle.refusal.specs.declared.Refusal.{Refusal}
 
 -- ---- the history: the calls in order, each with what it gave; s is what came before them
 pub record Event : Type 0 where
@@ -64,24 +66,24 @@ abbrev pub heard_of : List ℕ → List ℕ → List ℕ → List Event → Bool
 heard_of t key p h = is_contact t key p || any_in (tells (named_in p)) h
 
 -- ---- asked: the answer is to ask it, by its rank in the lookup handed back
-abbrev pub asks_for : List ℕ → List Candidate → Answer → Bool
-asks_for p cs (Ask i) = lies_at p (get_or cs i nobody)
-asks_for p cs (Refused r) = false
-asks_for p cs (Complete n) = false
-asks_for p cs (CutShort n) = false
-asks_for p cs Wait = false
-asks_for p cs Going = false
+abbrev pub asks_for : List ℕ → List Candidate → Result Answer Refusal → Bool
+asks_for p cs (Ok (Ask i)) = lies_at p (get_or cs i nobody)
+asks_for p cs (Err r) = false
+asks_for p cs (Ok (Complete n)) = false
+asks_for p cs (Ok (CutShort n)) = false
+asks_for p cs (Ok Wait) = false
+asks_for p cs (Ok Going) = false
 
 abbrev pub asks_peer : List ℕ → Event → Bool
 asks_peer p e = asks_for p (candidates_of e.gave.lookup) e.gave.answer
 
-abbrev pub is_ask : Answer → Bool
-is_ask (Ask i) = true
-is_ask (Refused r) = false
-is_ask (Complete n) = false
-is_ask (CutShort n) = false
-is_ask Wait = false
-is_ask Going = false
+abbrev pub is_ask : Result Answer Refusal → Bool
+is_ask (Ok (Ask i)) = true
+is_ask (Err r) = false
+is_ask (Ok (Complete n)) = false
+is_ask (Ok (CutShort n)) = false
+is_ask (Ok Wait) = false
+is_ask (Ok Going) = false
 
 abbrev pub asks_one : Event → Bool
 asks_one e = is_ask e.gave.answer

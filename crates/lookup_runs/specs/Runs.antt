@@ -5,16 +5,18 @@ use Rattle.message.specs.declared.Fields.{Fields}
 use Rattle.lookup.specs.Lookup.{next_of, reply_of, failure_of, start_of}
 use Rattle.lookup.specs.Value.{Lookup, Step}
 use Rattle.lookup.specs.declared.Answer.{Answer}
-use Rattle.lookup.specs.declared.Answer.TheVariants.{Refused, Complete, CutShort, Wait, Ask, Going}
+use Rattle.lookup.specs.declared.Answer.TheVariants.{Complete, CutShort, Wait, Ask, Going}
+use Rattle.std.specs.Prelude.{Ok, Err, Result}
+use Rattle.refusal.specs.declared.Refusal.{Refusal}
 
 -- an answer that is no refusal
-abbrev pub accepted : Answer → Bool
-accepted (Refused r) = false
-accepted (Complete n) = true
-accepted (CutShort n) = true
-accepted Wait = true
-accepted (Ask i) = true
-accepted Going = true
+abbrev pub accepted : Result Answer Refusal → Bool
+accepted (Err r) = false
+accepted (Ok (Complete n)) = true
+accepted (Ok (CutShort n)) = true
+accepted (Ok Wait) = true
+accepted (Ok (Ask i)) = true
+accepted (Ok Going) = true
 
 -- ---- a start that isn't refused, from a table of bytes
 pub record Started (t own ours key : List ℕ) (limit : ℕ) : Type 0 where

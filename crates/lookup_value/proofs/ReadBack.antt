@@ -20,8 +20,7 @@ use Rattle.lookup_candidates.specs.declared.Candidate.{Candidate}
 use Rattle.lookup.specs.Lookup.{room, fresh, id_fits, candidates_of, in_form, mark_at, mark, put, turn_away, next_of, whom_of, reported, known, enter, meet, hear, hear_all, reply_of, failure_of}
 use Rattle.lookup.specs.Value.{Lookup, Step}
 use Rattle.lookup.specs.declared.Answer.{Answer}
-use Rattle.lookup.specs.declared.Answer.TheVariants.{Refused, Complete, CutShort, Wait, Ask, Going}
-use Rattle.lookup.specs.declared.Whom.{Whom}
+use Rattle.lookup.specs.declared.Answer.TheVariants.{Complete, CutShort, Wait, Ask, Going}
 use Rattle.lookup.proofs.Form.{Formed, formed}
 use Rattle.lookup.proofs.Hearing.{enter-length}
 use Rattle.lookup_runs.specs.Runs.{Call, go_next, go_reply, go_fail, step}
@@ -34,6 +33,8 @@ use Rattle.flat_lookup.proofs.Padding.{padded-length}
 use Rattle.flat_lookup.proofs.Reading.{candidates-length}
 use Rattle.lookup_in_place.specs.InPlace.{is_refused, step_memory}
 use Rattle.lookup_in_place.proofs.ReadBack.{AllSized, all_append, Shaped, Storable, reads-back}
+use Rattle.std.specs.Prelude.{Ok, Err, Result}
+use Rattle.refusal.specs.declared.Refusal.{Refusal}
 
 -- ---- candidates whose arrays have their lengths
 all_take : (n : ℕ) (cs : List Candidate) → AllSized cs → AllSized (take n cs)
@@ -147,7 +148,7 @@ next-formal l = cond_ind (Formal l) (not (in_form l)) _ _ (λ e z. refused l z) 
 report-formal : (l : Lookup) (own ours id : List ℕ) (f : ℕ → Lookup) → Formal l (reported l (whom_of l own ours id) f)
 unfolding whom_of
 report-formal l own ours id f =
-    cond_ind (λ (w : Whom). Formal l (reported l w f)) (not (in_form l)) _ _ (λ e z. refused l z) (λ e z. not-false (in_form l) e)
+    cond_ind (λ (w : Result ℕ Refusal). Formal l (reported l w f)) (not (in_form l)) _ _ (λ e z. refused l z) (λ e z. not-false (in_form l) e)
 
 step-formal : (c : Call) (l : Lookup) → Formal l (step c l)
 unfolding step failure_of reply_of
@@ -172,13 +173,13 @@ step-storable c l h z = go (moved c l h.long)
 same-if-refused : (c : Call) (l : Lookup) → is_refused (step c l).answer ≡ true → (step c l).lookup ≡ l
 same-if-refused c l e = go (step c l).answer refl e
   where
-    go : (x : Answer) → (step c l).answer ≡ x → is_refused x ≡ true → (step c l).lookup ≡ l
-    go (Refused r) h z = refusals.untouched c l r h
-    go (Complete n) h z = absurd (true≢false (sym z))
-    go (CutShort n) h z = absurd (true≢false (sym z))
-    go Wait h z = absurd (true≢false (sym z))
-    go (Ask i) h z = absurd (true≢false (sym z))
-    go Going h z = absurd (true≢false (sym z))
+    go : (x : Result Answer Refusal) → (step c l).answer ≡ x → is_refused x ≡ true → (step c l).lookup ≡ l
+    go (Err r) h z = refusals.untouched c l r h
+    go (Ok (Complete n)) h z = absurd (true≢false (sym z))
+    go (Ok (CutShort n)) h z = absurd (true≢false (sym z))
+    go (Ok Wait) h z = absurd (true≢false (sym z))
+    go (Ok (Ask i)) h z = absurd (true≢false (sym z))
+    go (Ok Going) h z = absurd (true≢false (sym z))
 
 pub step-reads : (m : List ℕ) (c : Call) → flat_size ≤ length m → lookup_in (step_memory m (step c (lookup_in m))) ≡ (step c (lookup_in m)).lookup
 step-reads m c n =

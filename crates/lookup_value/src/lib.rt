@@ -7,6 +7,7 @@ ghost use Rattle.lookup_value.specs.Value.{lookup_of, Starts, Gives};
 use lookup::Answer;
 use lookup_marks::Ranks;
 use message::Fields;
+use refusal::Refusal;
 
 #[derive(Clone, Copy)]
 pub struct Lookup {
@@ -18,7 +19,7 @@ pub struct Lookup {
 pub struct Step {
     pub lookup: Lookup,
     pub found: Ranks,
-    pub answer: Answer,
+    pub answer: Result<Answer, Refusal>,
 }
 
 impl Lookup {

@@ -22,11 +22,9 @@ use Rattle.message.specs.Message.{well_message}
 use Rattle.message.specs.View.{no_record, fields_of, reading_of}
 use Rattle.message.specs.Inner.{well_in, with_occurrence, with_occurrences, with_record, with_peer, with_bytes, with_field, well_fields, finished, onto, gathered}
 use Rattle.message.specs.declared.Fields.{Fields}
-use Rattle.message.specs.declared.Gathered.{Gathered}
-use Rattle.message.specs.declared.Gathered.TheVariants.{Sound, Broken}
-use Rattle.message.specs.declared.Reading.TheVariants.{Whole, Refused}
 use Rattle.message.proofs.Occurrences.{occurrences-held}
 use Rattle.message.proofs.Meaning.{well-body}
+use Rattle.std.specs.Prelude.{Ok, Err, Some, None, Option}
 
 -- ---- the parts of a turn
 
@@ -37,19 +35,19 @@ module _ (s t : List ℕ) (m : Fields) (p : Span) (e : t ≡ take p.end s) where
     is-well = sym (q ∙ rw e)
 
     pub record-sound : w ≡ true → (k v : Span) → k ≡ last_of m.held.key (spans 1 (fields_at t p.at)) → v ≡ last_of m.held.value (spans 2 (fields_at t p.at))
-        → Sound (record { kind = m.kind; key = m.key; held = record { there = true; key = k; value = v } }) ≡ with_record s m p
+        → Some (record { kind = m.kind; key = m.key; held = record { there = true; key = k; value = v } }) ≡ with_record s m p
     unfolding with_record with_occurrence fields_in
     record-sound y k v ek ev = rw (is-well, y, ek, ev, e)
 
-    pub record-broken : w ≡ false → Broken ≡ with_record s m p
+    pub record-broken : w ≡ false → None ≡ with_record s m p
     unfolding with_record
     record-broken n = rw (is-well, n)
 
-    pub peer-sound : w ≡ true → Sound m ≡ with_peer s m p
+    pub peer-sound : w ≡ true → Some m ≡ with_peer s m p
     unfolding with_peer
     peer-sound y = rw (is-well, y)
 
-    pub peer-broken : w ≡ false → Broken ≡ with_peer s m p
+    pub peer-broken : w ≡ false → None ≡ with_peer s m p
     unfolding with_peer
     peer-broken n = rw (is-well, n)
 
@@ -140,54 +138,54 @@ unfolding finished gathered fields_of fields
 gather-start s = rw (well-body s, occurrences-held s (spans 3 (fields_at s 0)))
 
 module _ (s : List ℕ) (m : Fields) (at : ℕ) (g : finished s m (fields_at s at) ≡ gathered s) where
-  pub gather-done : next_of (field_at s at) ≡ Done → Sound m ≡ gathered s
+  pub gather-done : next_of (field_at s at) ≡ Done → Some m ≡ gathered s
   unfolding finished with_occurrences well_fields all_of well every numbers spans last_of
   gather-done e = rw (← g, at_done s at e)
 
-  pub gather-stuck : next_of (field_at s at) ≡ Stuck → Broken ≡ gathered s
+  pub gather-stuck : next_of (field_at s at) ≡ Stuck → None ≡ gathered s
   unfolding finished well_fields all_of well every
   gather-stuck e = rw (← g, at-broken s at e)
 
-  module _ (n : ℕ) (e : next_of (field_at s at) ≡ On n) (f : Field) (ef : f ≡ field_at s at) (r : Gathered) (er : r ≡ with_field s m f) where
+  module _ (n : ℕ) (e : next_of (field_at s at) ≡ On n) (f : Field) (ef : f ≡ field_at s at) (r : Option Fields) (er : r ≡ with_field s m f) where
     turned : onto r (λ q. finished s q (fields_at s n)) ≡ gathered s
     unfolding Step
     turned = rw (er, ef) (sym (rw (at_on s at n e) (step s m (fields_at s n) (field_at s at))) ∙ g)
 
-    pub gather-on : (q : Fields) → r ≡ Sound q → finished s q (fields_at s n) ≡ gathered s
+    pub gather-on : (q : Fields) → r ≡ Some q → finished s q (fields_at s n) ≡ gathered s
     gather-on q h = rw h at turned
 
-    pub gather-broken : r ≡ Broken → Broken ≡ gathered s
+    pub gather-broken : r ≡ None → None ≡ gathered s
     gather-broken h = rw h at turned
 
 -- ---- the reader's cases
 
 module _ (s : List ℕ) where
-  pub read-long : most_body < length s → Refused TooLong ≡ reading_of s
+  pub read-long : most_body < length s → Err TooLong ≡ reading_of s
   unfolding reading_of
   read-long h = rw (lt-ltb most_body (length s) h)
 
   module _ (h : length s ≤ most_body) where
-    pub read-broken : Broken ≡ gathered s → Refused Malformed ≡ reading_of s
+    pub read-broken : None ≡ gathered s → Err Malformed ≡ reading_of s
     unfolding reading_of gathered
     read-broken e = go (well_message s) refl
       where
-        go : (t : Bool) → well_message s ≡ t → Refused Malformed ≡ reading_of s
-        go true q = absurd (let z : Broken ≡ Sound (fields_of s) = rw q at e in let y : ◌≡◌ {A = ℕ} 0 1 = cc in omega arith)
+        go : (t : Bool) → well_message s ≡ t → Err Malformed ≡ reading_of s
+        go true q = absurd (let z : None ≡ Some (fields_of s) = rw q at e in let y : ◌≡◌ {A = ℕ} 0 1 = cc in omega arith)
         go false q = rw (le-ltb most_body (length s) h, q)
 
-    module _ (m : Fields) (e : Sound m ≡ gathered s) where
+    module _ (m : Fields) (e : Some m ≡ gathered s) where
       whole_is : (well_message s ≡ true) × (m ≡ fields_of s)
       unfolding gathered
       whole_is = go (well_message s) refl
         where
           go : (t : Bool) → well_message s ≡ t → (well_message s ≡ true) × (m ≡ fields_of s)
-          go true q = (q, let z : Sound m ≡ Sound (fields_of s) = rw q at e in cc)
-          go false q = absurd (let z : Sound m ≡ Broken = rw q at e in let y : ◌≡◌ {A = ℕ} 0 1 = cc in omega arith)
+          go true q = (q, let z : Some m ≡ Some (fields_of s) = rw q at e in cc)
+          go false q = absurd (let z : Some m ≡ None = rw q at e in let y : ◌≡◌ {A = ℕ} 0 1 = cc in omega arith)
 
-      pub read-unknown : most_kind < m.kind → Refused UnknownType ≡ reading_of s
+      pub read-unknown : most_kind < m.kind → Err UnknownType ≡ reading_of s
       unfolding reading_of
       read-unknown k = rw (le-ltb most_body (length s) h, whole_is.0, ← whole_is.1, lt-ltb most_kind m.kind k)
 
-      pub read-sound : m.kind ≤ most_kind → Whole m ≡ reading_of s
+      pub read-sound : m.kind ≤ most_kind → Ok m ≡ reading_of s
       unfolding reading_of
       read-sound k = rw (le-ltb most_body (length s) h, whole_is.0, ← whole_is.1, le-ltb most_kind m.kind k)

@@ -10,11 +10,10 @@ use Rattle.octets.proofs.Stores.{sets-snoc}
 use Rattle.limits.specs.Limits.{most_heard}
 use Rattle.wire.specs.Wire.{fields, fields_at, spans, first_of}
 use Rattle.wire.specs.declared.Span.{Span}
-use Rattle.wire.specs.declared.Found.{Found}
-use Rattle.wire.specs.declared.Found.TheVariants.{At, Nothing}
 use Rattle.wire.proofs.Scan.{walk_at, walk_none}
 use Rattle.message.specs.View.{id_at, closer_at, heard_at, starts, ends, ids_of}
 use Rattle.message.specs.declared.Ids.{Ids}
+use Rattle.std.specs.Prelude.{Some, None, Option}
 
 -- one more element of an array that is filled from its front
 stored : (h : Span → ℕ) (k : ℕ) (arr : List ℕ) (l : List Span) (p : Span) (n : ℕ) → n ≡ length l → arr ≡ sets (replicate k 0) 0 (map h l)
@@ -37,7 +36,7 @@ unfolding starts ends closer_at fields
 walking s = record { done = []; all = refl; count = refl; few = omega arith; froms = refl; tos = refl }
 
 module _ (s from to : List ℕ) (n at : ℕ) (g : Walking s from to n at) where
-  pub walk-on : n < most_heard → (f : Found) → f ≡ first_of (spans 8 (fields_at s at)) → (p : Span) → f ≡ At p → (i : Span) → i ≡ id_at s p
+  pub walk-on : n < most_heard → (f : Option Span) → f ≡ first_of (spans 8 (fields_at s at)) → (p : Span) → f ≡ Some p → (i : Span) → i ≡ id_at s p
       → Walking s (set from n i.at) (set to n i.end) (n + 1) p.end
   unfolding starts ends
   walk-on h f w p q i e =
@@ -55,7 +54,7 @@ module _ (s from to : List ℕ) (n at : ℕ) (g : Walking s from to n at) where
   unfolding ids_of
   result e = rw (← e, g.count, g.froms, g.tos)
 
-  pub walk_end : (f : Found) → f ≡ first_of (spans 8 (fields_at s at)) → f ≡ Nothing → ◌≡◌ {A = Ids} (record { at = from; end = to; n = n }) (ids_of (heard_at s))
+  pub walk_end : (f : Option Span) → f ≡ first_of (spans 8 (fields_at s at)) → f ≡ None → ◌≡◌ {A = Ids} (record { at = from; end = to; n = n }) (ids_of (heard_at s))
   unfolding heard_at
   walk_end f w q =
       let e : g.done ≡ closer_at s = rw (walk_none s 8 at (sym w ∙ q), append-nil g.done) at g.all in

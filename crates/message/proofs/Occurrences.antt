@@ -3,7 +3,6 @@ use Prim.Native.Nat.{ℕ}
 use mathlib.Core.Path.{◌≡◌, refl, sym, ap, ◌∙◌}
 use mathlib.Core.List.{List, [], ◌∷◌, map, map-append, flatten as joined}
 use mathlib.Core.Bool.{Bool, true, false}
-use mathlib.Core.Option.{none, some}
 use native.Mathlib.Omega.{arith}
 use lib.ListN.{length}
 use Rattle.octets.specs.Search.{every, last_of}
@@ -21,6 +20,7 @@ use Rattle.message.specs.View.{no_record, all_spans, held_at, held_meant}
 use Rattle.message.specs.Claims.{all_parts, last_of_all, RecordRead, SplitIsMerged}
 use Rattle.message.specs.Inner.{with_occurrence, with_occurrences}
 use Rattle.message.specs.declared.Held.{Held}
+use Rattle.std.specs.Prelude.{Some, None}
 
 -- ---- as strings: where each is well formed by itself, the fields of the joined ones are those of each, in order
 
@@ -46,9 +46,9 @@ split-is-merged s = go (well_message s) refl
     go : (t : Bool) → well_message s ≡ t → RecordRead s
     go true w = record {
       apart = λ n. absurd (not-both _ (each-well s w) n);
-      last = λ m q. let z : some (message_of s) ≡ some m = rw w at q in let e : message_of s ≡ m = cc in ap (λ (x : Message). x.held) (sym e) ∙ merged-last _ (each-well s w);
+      last = λ m q. let z : Some (message_of s) ≡ Some m = rw w at q in let e : message_of s ≡ m = cc in ap (λ (x : Message). x.held) (sym e) ∙ merged-last _ (each-well s w);
     }
-    go false w = record { apart = λ n. rw w; last = λ m q. absurd (let z : none ≡ some m = rw w at q in let y : ◌≡◌ {A = ℕ} 0 1 = cc in omega arith) }
+    go false w = record { apart = λ n. rw w; last = λ m q. absurd (let z : None ≡ Some m = rw w at q in let y : ◌≡◌ {A = ℕ} 0 1 = cc in omega arith) }
 
 -- ---- by position: what one occurrence after the other leaves is the last key and the last value of all
 

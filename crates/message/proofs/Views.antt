@@ -4,7 +4,6 @@ use Prim.Native.Nat.{ℕ, zero, suc, ◌≤◌, ◌<◌}
 use mathlib.Core.Path.{◌≡◌, refl, ap, ◌∙◌, subst}
 use mathlib.Core.List.{List, [], ◌∷◌, map}
 use mathlib.Core.Bool.{Bool, true, false, cond, not}
-use mathlib.Core.Option.{none, some}
 use native.Mathlib.Omega.{arith}
 use lib.ListN.{length, take}
 use lib.Dec.{ltb}
@@ -19,23 +18,23 @@ use Rattle.wire.proofs.Scan.{walked}
 use Rattle.message.specs.Message.{Peer, Message, message_of, well_message, decode}
 use Rattle.message.specs.View.{fields_of, reading_of, id_at, closer_at, providers_at, addresses_at, heard_at, peer_meant, meant}
 use Rattle.message.specs.declared.Fields.{Fields}
-use Rattle.message.specs.declared.Reading.{Reading}
-use Rattle.message.specs.declared.Reading.TheVariants.{Whole, Refused}
 use Rattle.message.proofs.Meaning.{all-meant, closer-meant, FieldsIn, fields-inside, kind-meant}
+use Rattle.std.specs.Prelude.{Ok, Err, Some, None, Result}
+use Rattle.refusal.specs.declared.Refusal.{Refusal}
 
 -- the reader's four answers, and what each comes with
-data Answers (s : List ℕ) (r : Reading) : Type 0 where
-  long : r ≡ Refused TooLong → most_body < length s → Answers s r
-  bad : r ≡ Refused Malformed → length s ≤ most_body → well_message s ≡ false → Answers s r
-  unknown : r ≡ Refused UnknownType → length s ≤ most_body → well_message s ≡ true → most_kind < (fields_of s).kind → Answers s r
-  whole : r ≡ Whole (fields_of s) → length s ≤ most_body → well_message s ≡ true → (fields_of s).kind ≤ most_kind → Answers s r
+data Answers (s : List ℕ) (r : Result Fields Refusal) : Type 0 where
+  long : r ≡ Err TooLong → most_body < length s → Answers s r
+  bad : r ≡ Err Malformed → length s ≤ most_body → well_message s ≡ false → Answers s r
+  unknown : r ≡ Err UnknownType → length s ≤ most_body → well_message s ≡ true → most_kind < (fields_of s).kind → Answers s r
+  whole : r ≡ Ok (fields_of s) → length s ≤ most_body → well_message s ≡ true → (fields_of s).kind ≤ most_kind → Answers s r
 
 answers : (s : List ℕ) → Answers s (reading_of s)
 unfolding reading_of
 answers s = go (ltb most_body (length s)) refl (well_message s) refl (ltb most_kind (fields_of s).kind) refl
   where
     go : (a : Bool) → ltb most_body (length s) ≡ a → (b : Bool) → well_message s ≡ b → (c : Bool) → ltb most_kind (fields_of s).kind ≡ c
-        → Answers s (cond a (Refused TooLong) (cond (not b) (Refused Malformed) (cond c (Refused UnknownType) (Whole (fields_of s)))))
+        → Answers s (cond a (Err TooLong) (cond (not b) (Err Malformed) (cond c (Err UnknownType) (Ok (fields_of s)))))
     go true p b q c r = long refl (ltb-true _ _ p)
     go false p false q c r = bad refl (ltb-false _ _ p) q
     go false p true q true r = unknown refl (ltb-false _ _ p) q (ltb-true _ _ r)
@@ -48,17 +47,17 @@ module _ (s : List ℕ) where
     pub well : well_message s ≡ true
     pub known : m.kind ≤ most_kind
     pub is : m ≡ fields_of s
-    pub says : decode s ≡ some (meant s m)
+    pub says : decode s ≡ Some (meant s m)
     pub lies : FieldsIn (length s) m
 
-  decoded : well_message s ≡ true → decode s ≡ some (meant s (fields_of s))
+  decoded : well_message s ≡ true → decode s ≡ Some (meant s (fields_of s))
   unfolding decode
   decoded w = rw (w, all-meant s w)
 
-  pub read_whole : (m : Fields) → reading_of s ≡ Whole m → Read m
+  pub read_whole : (m : Fields) → reading_of s ≡ Ok m → Read m
   read_whole m e = go (reading_of s) e (answers s)
     where
-      go : (r : Reading) → r ≡ Whole m → Answers s r → Read m
+      go : (r : Result Fields Refusal) → r ≡ Ok m → Answers s r → Read m
       go r q (long e h) = absurd (let z : ◌≡◌ {A = ℕ} 0 1 = cc in omega arith)
       go r q (bad e h w) = absurd (let z : ◌≡◌ {A = ℕ} 0 1 = cc in omega arith)
       go r q (unknown e h w k) = absurd (let z : ◌≡◌ {A = ℕ} 0 1 = cc in omega arith)
@@ -67,30 +66,30 @@ module _ (s : List ℕ) where
           subst Read p (record { short = h; well = w; known = k; is = refl; says = decoded w; lies = fields-inside s })
 
   -- 5 is given exactly for what is malformed, among bodies that aren't too long
-  pub read-malformed : reading_of s ≡ Refused Malformed → decode s ≡ none
+  pub read-malformed : reading_of s ≡ Err Malformed → decode s ≡ None
   unfolding decode
   read-malformed e = go (reading_of s) e (answers s)
     where
-      go : (r : Reading) → r ≡ Refused Malformed → Answers s r → cond (well_message s) (some (message_of s)) none ≡ none
+      go : (r : Result Fields Refusal) → r ≡ Err Malformed → Answers s r → cond (well_message s) (Some (message_of s)) None ≡ None
       go r q (long e h) = absurd (let z : ◌≡◌ {A = ℕ} 0 1 = cc in omega arith)
       go r q (bad e h w) = rw w
       go r q (unknown e h w k) = absurd (let z : ◌≡◌ {A = ℕ} 0 1 = cc in omega arith)
       go r q (whole e h w k) = absurd (let z : ◌≡◌ {A = ℕ} 0 1 = cc in omega arith)
 
-  pub malformed-read : length s ≤ most_body → decode s ≡ none → reading_of s ≡ Refused Malformed
+  pub malformed-read : length s ≤ most_body → decode s ≡ None → reading_of s ≡ Err Malformed
   unfolding decode reading_of
   malformed-read h e = go (well_message s) refl
     where
-      go : (b : Bool) → well_message s ≡ b → reading_of s ≡ Refused Malformed
-      go true q = absurd (let y : some (message_of s) ≡ none = rw q at e in let z : ◌≡◌ {A = ℕ} 0 1 = cc in omega arith)
+      go : (b : Bool) → well_message s ≡ b → reading_of s ≡ Err Malformed
+      go true q = absurd (let y : Some (message_of s) ≡ None = rw q at e in let z : ◌≡◌ {A = ℕ} 0 1 = cc in omega arith)
       go false q = rw (le-ltb most_body (length s) h, q)
 
   -- 6 is given for a well-formed body of another type
-  pub read-unknown : reading_of s ≡ Refused UnknownType → (decode s ≡ some (message_of s)) × (most_kind < (message_of s).kind)
+  pub read-unknown : reading_of s ≡ Err UnknownType → (decode s ≡ Some (message_of s)) × (most_kind < (message_of s).kind)
   unfolding decode
   read-unknown e = go (reading_of s) e (answers s)
     where
-      go : (r : Reading) → r ≡ Refused UnknownType → Answers s r → (cond (well_message s) (some (message_of s)) none ≡ some (message_of s)) × (most_kind < (message_of s).kind)
+      go : (r : Result Fields Refusal) → r ≡ Err UnknownType → Answers s r → (cond (well_message s) (Some (message_of s)) None ≡ Some (message_of s)) × (most_kind < (message_of s).kind)
       go r q (long e h) = absurd (let z : ◌≡◌ {A = ℕ} 0 1 = cc in omega arith)
       go r q (bad e h w) = absurd (let z : ◌≡◌ {A = ℕ} 0 1 = cc in omega arith)
       go r q (unknown e h w k) = (rw w, omega (arith, kind-meant s))
@@ -98,26 +97,26 @@ module _ (s : List ℕ) where
 
   -- ---- and the other way: what is too long gives 4, and of the rest what decodes to a message of another type gives 6, and what decodes to a known one is
   -- read as that message
-  pub long-read : most_body < length s → reading_of s ≡ Refused TooLong
+  pub long-read : most_body < length s → reading_of s ≡ Err TooLong
   unfolding reading_of
   long-read h = rw (lt-ltb most_body (length s) h)
 
-  decoded-is : (m : Message) → decode s ≡ some m → (well_message s ≡ true) × (message_of s ≡ m)
+  decoded-is : (m : Message) → decode s ≡ Some m → (well_message s ≡ true) × (message_of s ≡ m)
   unfolding decode
   decoded-is m e = go (well_message s) refl
     where
       go : (b : Bool) → well_message s ≡ b → (well_message s ≡ true) × (message_of s ≡ m)
-      go true q = (q, let z : some (message_of s) ≡ some m = rw q at e in cc)
-      go false q = absurd (let y : none ≡ some m = rw q at e in let z : ◌≡◌ {A = ℕ} 0 1 = cc in omega arith)
+      go true q = (q, let z : Some (message_of s) ≡ Some m = rw q at e in cc)
+      go false q = absurd (let y : None ≡ Some m = rw q at e in let z : ◌≡◌ {A = ℕ} 0 1 = cc in omega arith)
 
-  pub unknown-read : (m : Message) → length s ≤ most_body → decode s ≡ some m → most_kind < m.kind → reading_of s ≡ Refused UnknownType
+  pub unknown-read : (m : Message) → length s ≤ most_body → decode s ≡ Some m → most_kind < m.kind → reading_of s ≡ Err UnknownType
   unfolding reading_of
   unknown-read m h e k =
       let d = decoded-is m e in
       let j : most_kind < (fields_of s).kind = omega (arith, kind-meant s, ap (λ (x : Message). x.kind) d.1, k) in
       rw (le-ltb most_body (length s) h, d.0, lt-ltb most_kind (fields_of s).kind j)
 
-  pub whole-read : (m : Message) → length s ≤ most_body → decode s ≡ some m → m.kind ≤ most_kind → (reading_of s ≡ Whole (fields_of s)) × (meant s (fields_of s) ≡ m)
+  pub whole-read : (m : Message) → length s ≤ most_body → decode s ≡ Some m → m.kind ≤ most_kind → (reading_of s ≡ Ok (fields_of s)) × (meant s (fields_of s) ≡ m)
   unfolding reading_of
   whole-read m h e k =
       let d = decoded-is m e in

@@ -2,7 +2,6 @@
 -- each, proofs/Claims.antt all of them.
 use Rattle.std.specs.Prelude.{ℕ, suc, ◌≤◌, ◌<◌, ◌≡◌, false, length, get_or, take}
 use mathlib.Core.List.{List, [], ◌∷◌, map, flatten as joined}
-use Rattle.std.proofs.Math.Option.{Option, none, some}
 use Rattle.octets.specs.Search.{every, last_of}
 use Rattle.limits.specs.Limits.{most_body, most_kind, most_heard}
 use Rattle.refusal.specs.declared.Refusal.TheVariants.{TooLong, Malformed, UnknownType}
@@ -12,18 +11,18 @@ use Rattle.wire.specs.declared.Span.{Span}
 use Rattle.message.specs.Message.{Peer, Record, Message, message_of, well_formed, decode}
 use Rattle.message.specs.View.{all_spans, fields_of, reading_of, id_at, addresses_at, closer_at, providers_at, heard_at, meant}
 use Rattle.message.specs.declared.Fields.{Fields}
-use Rattle.message.specs.declared.Reading.TheVariants.{Whole, Refused}
+use Rattle.std.specs.Prelude.{Ok, Err, Some, None, Option}
 
 -- ---- "Reading yields the fields the bytes carry"
 
 -- over 16,384 bytes give 4; of the rest what doesn't decode gives 5, what decodes to a type above 5 gives 6, and all else is read, with fields that mean the
 -- message it decodes to. One of the four is so of every body, and no two
 pub record ReadsWell (body : List ℕ) : Type 0 where
-  pub long : most_body < length body → reading_of body ≡ Refused TooLong
-  pub malformed : length body ≤ most_body → decode body ≡ none → reading_of body ≡ Refused Malformed
-  pub unknown : length body ≤ most_body → (m : Message) → decode body ≡ some m → most_kind < m.kind → reading_of body ≡ Refused UnknownType
-  pub whole : length body ≤ most_body → (m : Message) → decode body ≡ some m → m.kind ≤ most_kind
-      → (f : Fields) × (reading_of body ≡ Whole f) × (meant body f ≡ m)
+  pub long : most_body < length body → reading_of body ≡ Err TooLong
+  pub malformed : length body ≤ most_body → decode body ≡ None → reading_of body ≡ Err Malformed
+  pub unknown : length body ≤ most_body → (m : Message) → decode body ≡ Some m → most_kind < m.kind → reading_of body ≡ Err UnknownType
+  pub whole : length body ≤ most_body → (m : Message) → decode body ≡ Some m → m.kind ≤ most_kind
+      → (f : Fields) × (reading_of body ≡ Ok f) × (meant body f ≡ m)
 
 -- "it points into the receive buffer, and each bytes field is that part of it": a part that a caller can cut out of hi bytes, and those of a view
 pub record Cuttable (hi : ℕ) (p : Span) : Type 0 where
@@ -36,7 +35,7 @@ pub record FieldsIn (hi : ℕ) (m : Fields) : Type 0 where
   pub record-value : Cuttable hi m.held.value
 
 abbrev pub PointsInside : Type 0
-PointsInside = (s : List ℕ) (m : Fields) → reading_of s ≡ Whole m → FieldsIn (length s) m
+PointsInside = (s : List ℕ) (m : Fields) → reading_of s ≡ Ok m → FieldsIn (length s) m
 
 -- and all that the walks and `peer_id` give: entries, and of each its id and addresses
 pub record WalksInside (s : List ℕ) : Type 0 where
@@ -63,14 +62,14 @@ all_parts f bs = joined (map (λ (b : List ℕ). parts f (items b)) bs)
 
 -- the record that has the last key field and the last value field of all of them
 unfoldable pub last_of_all : List (List ℕ) → Option Record
-last_of_all [] = none
-last_of_all (b ∷ bs) = some (record { key = last_of [] (all_parts 1 (b ∷ bs)); value = last_of [] (all_parts 2 (b ∷ bs)) })
+last_of_all [] = None
+last_of_all (b ∷ bs) = Some (record { key = last_of [] (all_parts 1 (b ∷ bs)); value = last_of [] (all_parts 2 (b ∷ bs)) })
 
 -- what a body says of its record, whose occurrences may stand anywhere among its fields
 pub record RecordRead (s : List ℕ) : Type 0 where
   -- "Each occurrence must still be well formed by itself, else 5"
-  pub apart : every well_formed (parts 3 (items s)) ≡ false → decode s ≡ none
-  pub last : (m : Message) → decode s ≡ some m → m.held ≡ last_of_all (parts 3 (items s))
+  pub apart : every well_formed (parts 3 (items s)) ≡ false → decode s ≡ None
+  pub last : (m : Message) → decode s ≡ Some m → m.held ≡ last_of_all (parts 3 (items s))
 
 abbrev pub SplitIsMerged : Type 0
 SplitIsMerged = (s : List ℕ) → RecordRead s

@@ -9,8 +9,7 @@ use Rattle.message.specs.Message.{well_message}
 use Rattle.message.specs.View.{fields_of}
 use Rattle.message.specs.declared.Held.{Held}
 use Rattle.message.specs.declared.Fields.{Fields}
-use Rattle.message.specs.declared.Gathered.{Gathered}
-use Rattle.message.specs.declared.Gathered.TheVariants.{Sound, Broken}
+use Rattle.std.specs.Prelude.{Some, None, Option}
 
 unfoldable pub well_in : List ℕ → Span → Bool
 well_in s p = well (fields_in s p)
@@ -25,46 +24,46 @@ with_occurrences s h [] = h
 with_occurrences s h (p ∷ ps) = with_occurrences s (with_occurrence s h p) ps
 
 -- what m becomes by an occurrence of its record, a peer, a bytes field, any field
-unfoldable pub with_record : List ℕ → Fields → Span → Gathered
-with_record s m p = cond (well_in s p) (Sound (record { kind = m.kind; key = m.key; held = with_occurrence s m.held p })) Broken
+unfoldable pub with_record : List ℕ → Fields → Span → Option Fields
+with_record s m p = cond (well_in s p) (Some (record { kind = m.kind; key = m.key; held = with_occurrence s m.held p })) None
 
-unfoldable pub with_peer : List ℕ → Fields → Span → Gathered
-with_peer s m p = cond (well_in s p) (Sound m) Broken
+unfoldable pub with_peer : List ℕ → Fields → Span → Option Fields
+with_peer s m p = cond (well_in s p) (Some m) None
 
-unfoldable pub with_bytes : List ℕ → Fields → ℕ → Span → Gathered
+unfoldable pub with_bytes : List ℕ → Fields → ℕ → Span → Option Fields
 with_bytes s m f p =
-    cond (eqb f 2) (Sound (record { kind = m.kind; key = p; held = m.held }))
+    cond (eqb f 2) (Some (record { kind = m.kind; key = p; held = m.held }))
     (cond (eqb f 3) (with_record s m p)
     (cond (eqb f 8) (with_peer s m p)
     (cond (eqb f 9) (with_peer s m p)
-    (Sound m))))
+    (Some m))))
 
-unfoldable pub with_field : List ℕ → Fields → Field → Gathered
+unfoldable pub with_field : List ℕ → Fields → Field → Option Fields
 with_field s m (Bytes f p) = with_bytes s m f p
-with_field s m (Number f v n) = cond (eqb f 1) (Sound (record { kind = v; key = m.key; held = m.held })) (Sound m)
-with_field s m (Other n) = Sound m
-with_field s m End = Sound m
-with_field s m Bad = Broken
+with_field s m (Number f v n) = cond (eqb f 1) (Some (record { kind = v; key = m.key; held = m.held })) (Some m)
+with_field s m (Other n) = Some m
+with_field s m End = Some m
+with_field s m Bad = None
 
 -- every record and peer among some fields is well formed
 unfoldable pub well_fields : List ℕ → List Field → Bool
 well_fields s fs = all_of (well fs ∷ every (well_in s) (spans 3 fs) ∷ every (well_in s) (spans 8 fs) ∷ every (well_in s) (spans 9 fs) ∷ [])
 
 -- what m becomes by all of some fields
-unfoldable pub finished : List ℕ → Fields → List Field → Gathered
+unfoldable pub finished : List ℕ → Fields → List Field → Option Fields
 finished s m fs =
     cond (well_fields s fs)
-    (Sound (record {
+    (Some (record {
       kind = last_of m.kind (numbers 1 fs);
       key = last_of m.key (spans 2 fs);
       held = with_occurrences s m.held (spans 3 fs);
     }))
-    Broken
+    None
 
-abbrev pub onto : Gathered → (Fields → Gathered) → Gathered
-onto (Sound m) f = f m
-onto Broken f = Broken
+abbrev pub onto : Option Fields → (Fields → Option Fields) → Option Fields
+onto (Some m) f = f m
+onto None f = None
 
 -- the fields of a body, gathered
-unfoldable pub gathered : List ℕ → Gathered
-gathered s = cond (well_message s) (Sound (fields_of s)) Broken
+unfoldable pub gathered : List ℕ → Option Fields
+gathered s = cond (well_message s) (Some (fields_of s)) None

@@ -1,10 +1,10 @@
 -- What a message says, and how it is written: RULES, Messages.
 use Rattle.std.specs.Prelude.{ℕ, Bool, cond, length, leb}
 use mathlib.Core.List.{List, [], ◌∷◌, ◌++◌, map, flatten as joined}
-use Rattle.std.proofs.Math.Option.{Option, none, some}
 use Rattle.octets.specs.Search.{every, all_of, last_of}
 use Rattle.limits.specs.Limits.{most_connection}
 use Rattle.wire.specs.Items.{Item, num, bytes, items, is_field, values, parts, minimal, written, single, repeated}
+use Rattle.std.specs.Prelude.{Some, None, Option}
 
 -- "Peer id=1, addrs=2 (repeated), connection=3 (0 to 3)"
 pub record Peer : Type 0 where
@@ -44,8 +44,8 @@ peer_of s =
 
 -- "read the record as though all its occurrences stood one after another" (request iv); one, even an empty one, makes it present
 unfoldable pub merged : List (List ℕ) → Option Record
-merged [] = none
-merged (b ∷ bs) = some (record_of (joined (b ∷ bs)))
+merged [] = None
+merged (b ∷ bs) = Some (record_of (joined (b ∷ bs)))
 
 unfoldable pub message_of : List ℕ → Message
 message_of s =
@@ -73,7 +73,7 @@ well_message s =
 
 -- the message that a body is, or none where it isn't well formed
 unfoldable pub decode : List ℕ → Option Message
-decode s = cond (well_message s) (some (message_of s)) none
+decode s = cond (well_message s) (Some (message_of s)) None
 
 -- ---- writing: "fields by ascending number, minimal varints, type and connection always"; "an empty single bytes field isn't written"; "a record,
 -- peer or address is written even if empty"
@@ -91,8 +91,8 @@ unfoldable pub encode_record : Record → List ℕ
 encode_record r = written (record_items r)
 
 unfoldable pub held_items : Option Record → List Item
-held_items none = []
-held_items (some r) = bytes 3 (encode_record r) ∷ []
+held_items None = []
+held_items (Some r) = bytes 3 (encode_record r) ∷ []
 
 unfoldable pub message_items : Message → List Item
 message_items m =

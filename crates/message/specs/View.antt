@@ -1,7 +1,6 @@
 -- A read message as a view: where its parts are in the body. RULES, Messages: "it points into the receive buffer, and each bytes field is that part of it".
 use Rattle.std.specs.Prelude.{ℕ, true, false, cond, not, length, take, replicate, ltb}
 use mathlib.Core.List.{List, [], ◌∷◌, map, flatten as joined}
-use Rattle.std.proofs.Math.Option.{Option, none, some}
 use Rattle.std.proofs.lemmas.List.Edits.{sets}
 use Rattle.octets.specs.Search.{last_of}
 use Rattle.limits.specs.Limits.{most_body, most_kind, most_heard}
@@ -12,9 +11,9 @@ use Rattle.wire.specs.declared.Span.{Span}
 use Rattle.message.specs.Message.{Peer, Record, Message, well_message, connection_of}
 use Rattle.message.specs.declared.Held.{Held}
 use Rattle.message.specs.declared.Fields.{Fields}
-use Rattle.message.specs.declared.Reading.{Reading}
-use Rattle.message.specs.declared.Reading.TheVariants.{Whole, Refused}
 use Rattle.message.specs.declared.Ids.{Ids}
+use Rattle.std.specs.Prelude.{Ok, Err, Some, None, Result, Option}
+use Rattle.refusal.specs.declared.Refusal.{Refusal}
 
 -- ---- where the parts are; an absent one is at position 0 with length 0
 
@@ -39,12 +38,12 @@ fields_of s =
     }
 
 -- the reader: 4, then 5, then 6
-unfoldable pub reading_of : List ℕ → Reading
+unfoldable pub reading_of : List ℕ → Result Fields Refusal
 reading_of s =
-    cond (ltb most_body (length s)) (Refused TooLong)
-    (cond (not (well_message s)) (Refused Malformed)
-    (cond (ltb most_kind (fields_of s).kind) (Refused UnknownType)
-    (Whole (fields_of s))))
+    cond (ltb most_body (length s)) (Err TooLong)
+    (cond (not (well_message s)) (Err Malformed)
+    (cond (ltb most_kind (fields_of s).kind) (Err UnknownType)
+    (Ok (fields_of s))))
 
 -- ---- a peer, whose bytes are at a span
 
@@ -81,7 +80,7 @@ ids_of l = record { at = sets (replicate most_heard 0) 0 (starts l); end = sets 
 -- ---- what a view means
 
 unfoldable pub held_meant : List ℕ → Held → Option Record
-held_meant s h = cond h.there (some (record { key = cut s h.key; value = cut s h.value })) none
+held_meant s h = cond h.there (Some (record { key = cut s h.key; value = cut s h.value })) None
 
 unfoldable pub peer_meant : List ℕ → Span → Peer
 peer_meant s p = record { id = cut s (id_at s p); addrs = map (cut s) (addresses_at s p); connection = connection_at s p }

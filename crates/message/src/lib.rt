@@ -7,7 +7,7 @@ ghost use Rattle.message.specs.View.{reading_of, id_at, connection_at, heard_at,
 ghost use Rattle.message.specs.Inner.{with_record, with_peer, with_bytes, with_field, gathered};
 
 use refusal::Refusal;
-use wire::{Field, Found, Next, Span};
+use wire::{Field, Next, Span};
 
 // The types of messages.
 pub const PUT_VALUE: u64 = 0;
@@ -40,7 +40,7 @@ const PEER_ADDRESS: u64 = 2;
 const PEER_CONNECTION: u64 = 3;
 
 // A record of a message: whether there is one, and where its key and value are in the body.
-#[derive(Clone, Copy)]
+#[derive(Clone, Copy, PartialEq, Eq)]
 pub struct Held {
     pub there: bool,
     pub key: Span,
@@ -48,24 +48,11 @@ pub struct Held {
 }
 
 // A message: its type, and where its key and its record are in the body. Its peers are walked.
-#[derive(Clone, Copy)]
+#[derive(Clone, Copy, PartialEq, Eq)]
 pub struct Fields {
     pub kind: u64,
     pub key: Span,
     pub held: Held,
-}
-
-#[derive(Drop)]
-pub enum Reading {
-    Whole(Fields),
-    Refused(Refusal),
-}
-
-// What has been read so far.
-#[derive(Drop)]
-pub enum Gathered {
-    Sound(Fields),
-    Broken,
 }
 
 // Where the ids of the first entries of closerPeers are: of the entry k below n, from at[k] up to end[k].
@@ -87,7 +74,7 @@ fn front(s: &[u8], end: usize) -> &[u8]
 }
 
 // The occurrence of the record at a span: its key and its value, where it has one, take the place of those before.
-fn with_record(s: &[u8], m: Fields, p: Span) -> Gathered
+fn with_record(s: &[u8], m: Fields, p: Span) -> Option<Fields>
     ensures { result ≡ with_record s.now m p }
 {
     let at = p.at;
@@ -97,7 +84,7 @@ fn with_record(s: &[u8], m: Fields, p: Span) -> Gathered
         let h = m.held;
         let key = wire::last_bytes(part, at, RECORD_KEY, h.key);
         let value = wire::last_bytes(part, at, RECORD_VALUE, h.value);
-        return Gathered::Sound(Fields {
+        return Some(Fields {
             kind: m.kind,
             key: k,
             held: Held {
@@ -107,26 +94,26 @@ fn with_record(s: &[u8], m: Fields, p: Span) -> Gathered
             },
         });
     }
-    Gathered::Broken
+    None
 }
 
 // A peer has to be well formed, and is left to the walks.
-fn with_peer(s: &[u8], m: Fields, p: Span) -> Gathered
+fn with_peer(s: &[u8], m: Fields, p: Span) -> Option<Fields>
     ensures { result ≡ with_peer s.now m p }
 {
     let at = p.at;
     if wire::well_formed(front(s, p.end), at) {
-        return Gathered::Sound(m);
+        return Some(m);
     }
-    Gathered::Broken
+    None
 }
 
-fn with_bytes(s: &[u8], m: Fields, number: u64, p: Span) -> Gathered
+fn with_bytes(s: &[u8], m: Fields, number: u64, p: Span) -> Option<Fields>
     ensures { result ≡ with_bytes s.now m number p }
 {
     if number == KEY {
         let h = m.held;
-        return Gathered::Sound(Fields {
+        return Some(Fields {
             kind: m.kind,
             key: p,
             held: h,
@@ -141,10 +128,10 @@ fn with_bytes(s: &[u8], m: Fields, number: u64, p: Span) -> Gathered
     if number == PROVIDER {
         return with_peer(s, m, p);
     }
-    Gathered::Sound(m)
+    Some(m)
 }
 
-fn with_field(s: &[u8], m: Fields, f: Field) -> Gathered
+fn with_field(s: &[u8], m: Fields, f: Field) -> Option<Fields>
     ensures { result ≡ with_field s.now m f }
 {
     match f {
@@ -153,22 +140,22 @@ fn with_field(s: &[u8], m: Fields, f: Field) -> Gathered
             if number == KIND {
                 let k = m.key;
                 let h = m.held;
-                return Gathered::Sound(Fields {
+                return Some(Fields {
                     kind: value,
                     key: k,
                     held: h,
                 });
             }
-            Gathered::Sound(m)
+            Some(m)
         }
-        Field::Other(_) => Gathered::Sound(m),
-        Field::End => Gathered::Sound(m),
-        Field::Bad => Gathered::Broken,
+        Field::Other(_) => Some(m),
+        Field::End => Some(m),
+        Field::Bad => None,
     }
 }
 
 // All fields of a body, in one pass.
-fn gather(s: &[u8]) -> Gathered
+fn gather(s: &[u8]) -> Option<Fields>
     ensures { result ≡ gathered s.now }
 {
     let mut m = Fields {
@@ -184,46 +171,41 @@ fn gather(s: &[u8]) -> Gathered
     loop {
         let f = wire::read_field(s, at);
         match wire::after(f) {
-            Next::Done => return Gathered::Sound(m),
-            Next::Broken => return Gathered::Broken,
-            Next::On(next) => match with_field(s, m, f) {
-                Gathered::Sound(q) => {
-                    m = q;
-                    at = next;
-                }
-                Gathered::Broken => return Gathered::Broken,
-            },
+            Next::Done => return Some(m),
+            Next::Broken => return None,
+            Next::On(next) => {
+                m = with_field(s, m, f)?;
+                at = next;
+            }
         }
     }
 }
 
 // The message that a body is.
-pub fn read(body: &[u8]) -> Reading
+pub fn read(body: &[u8]) -> Result<Fields, Refusal>
     ensures { result ≡ reading_of body.now }
 {
     if limits::MOST_BODY < body.len() {
-        return Reading::Refused(Refusal::TooLong);
+        return Err(Refusal::TooLong);
     }
-    match gather(body) {
-        Gathered::Sound(m) => {
-            if limits::MOST_KIND < m.kind {
-                return Reading::Refused(Refusal::UnknownType);
-            }
-            Reading::Whole(m)
-        }
-        Gathered::Broken => Reading::Refused(Refusal::Malformed),
+    let Some(m) = gather(body) else {
+        return Err(Refusal::Malformed);
+    };
+    if limits::MOST_KIND < m.kind {
+        return Err(Refusal::UnknownType);
     }
+    Ok(m)
 }
 
 // The first entry of closerPeers from a position on: from 0, and then from each end, these are all of them.
-pub fn closer_peer(body: &[u8], from: usize) -> Found
+pub fn closer_peer(body: &[u8], from: usize) -> Option<Span>
     ensures { result ≡ first_of (spans 8 (fields_at body.now from)) }
 {
     wire::next_bytes(body, from, CLOSER)
 }
 
 // The same for providerPeers.
-pub fn provider_peer(body: &[u8], from: usize) -> Found
+pub fn provider_peer(body: &[u8], from: usize) -> Option<Span>
     ensures { result ≡ first_of (spans 9 (fields_at body.now from)) }
 {
     wire::next_bytes(body, from, PROVIDER)
@@ -238,7 +220,7 @@ pub fn peer_id(body: &[u8], peer: Span) -> Span
 }
 
 // The first address of a peer from a position on: from its start, and then from each end, these are all of them.
-pub fn peer_address(body: &[u8], peer: Span, from: usize) -> Found
+pub fn peer_address(body: &[u8], peer: Span, from: usize) -> Option<Span>
     ensures { result ≡ first_of (spans 2 (fields_at (take peer.end body.now) from)) }
 {
     wire::next_bytes(front(body, peer.end), from, PEER_ADDRESS)
@@ -262,18 +244,16 @@ pub fn closer_ids(body: &[u8]) -> Ids
 {
     let mut starts = [0usize; limits::MOST_HEARD];
     let mut ends = [0usize; limits::MOST_HEARD];
-    let mut n: usize = 0;
     let mut from: usize = 0;
-    while n < limits::MOST_HEARD {
+    for n in 0..limits::MOST_HEARD {
         match closer_peer(body, from) {
-            Found::At(p) => {
+            Some(p) => {
                 let id = peer_id(body, p);
                 starts[n] = id.at;
                 ends[n] = id.end;
                 from = p.end;
-                n += 1;
             }
-            Found::Nothing => {
+            None => {
                 return Ids {
                     at: starts,
                     end: ends,
@@ -285,7 +265,7 @@ pub fn closer_ids(body: &[u8]) -> Ids
     Ids {
         at: starts,
         end: ends,
-        n,
+        n: limits::MOST_HEARD,
     }
 }
 

@@ -8,23 +8,21 @@ use lib.ListN.{length, get_or, drop, drop_of_length-le}
 use lib.Seq.{drop-cons}
 use Rattle.refusal.specs.declared.Refusal.{Refusal}
 use Rattle.refusal.specs.Refusal.{number_of}
-use Rattle.wire.specs.declared.Found.{Found}
 use Rattle.wire.specs.declared.Span.{Span}
 use Rattle.message.specs.View.{addresses_at}
 use Rattle.message.specs.declared.Fields.{Fields}
-use Rattle.message.specs.declared.Reading.{Reading}
-use Rattle.message.specs.declared.Reading.TheVariants.{Whole, Refused}
 use Rattle.peer_walk.specs.PeerWalk.{places_of, walked_of, told_at}
 use Rattle.peer_walk.specs.declared.Walked.{Walked}
 use Rattle.peer_walk.proofs.Places.{places-length}
 use Rattle.message_c.specs.Codes.{is_found, ends_after, read_code, numbers_after}
+use Rattle.std.specs.Prelude.{Ok, Err, Result, Option}
 
 -- a search that another function made
-pub found-there : (old new : List ℕ) (r : Bool) (f g : Found) → f ≡ g → (r ≡ is_found f) × (new ≡ ends_after old f) → (r ≡ is_found g) × (new ≡ ends_after old g)
+pub found-there : (old new : List ℕ) (r : Bool) (f g : Option Span) → f ≡ g → (r ≡ is_found f) × (new ≡ ends_after old f) → (r ≡ is_found g) × (new ≡ ends_after old g)
 found-there old new r f g e h = (h.0 ∙ ap is_found e, h.1 ∙ ap (ends_after old) e)
 
 -- a message, its numbers one by one
-pub read_whole : (old : List ℕ) (m : Fields) (n : ℕ) (a b : Reading) → a ≡ Whole m → a ≡ b → n ≡ cond m.held.there 1 0
+pub read_whole : (old : List ℕ) (m : Fields) (n : ℕ) (a b : Result Fields Refusal) → a ≡ Ok m → a ≡ b → n ≡ cond m.held.there 1 0
     → (255 ≡ read_code b)
     × ((m.kind ∷ m.key.at ∷ m.key.end ∷ n ∷ m.held.key.at ∷ m.held.key.end ∷ m.held.value.at ∷ m.held.value.end ∷ [])
     ≡ numbers_after old b)
@@ -35,7 +33,7 @@ read_whole old m n a b w e f = (
 )
 
 -- a refusal: nothing is stored
-pub read-refused : (old : List ℕ) (n : ℕ) (r : Refusal) (a b : Reading) → a ≡ Refused r → a ≡ b → n ≡ number_of r
+pub read-refused : (old : List ℕ) (n : ℕ) (r : Refusal) (a b : Result Fields Refusal) → a ≡ Err r → a ≡ b → n ≡ number_of r
     → (n ≡ read_code b) × (old ≡ numbers_after old b)
 read-refused old n r a b w e f = (f ∙ ap read_code (sym w ∙ e), ap (numbers_after old) (sym w ∙ e))
 

@@ -8,9 +8,8 @@ ghost use Rattle.peer_walk.specs.PeerWalk.{told_at};
 ghost use Rattle.writer.specs.Writer.{message_with, answer_of, out_after};
 ghost use Rattle.message_c.specs.Codes.{span_of, is_found, ends_after, read_code, numbers_after, write_code};
 
-use message::Reading;
-use wire::{Found, Span};
-use writer::Written;
+use refusal::Refusal;
+use wire::Span;
 
 fn flag(b: bool) -> usize
     ensures { result ≡ cond b 1 0 }
@@ -22,15 +21,15 @@ fn flag(b: bool) -> usize
 }
 
 // Stores where a part is that was found.
-fn found(f: Found, out: &mut [usize; 2]) -> bool
+fn found(f: Option<Span>, out: &mut [usize; 2]) -> bool
     ensures { (result ≡ is_found f) × (out.new ≡ ends_after out.old f) }
 {
     match f {
-        Found::At(p) => {
+        Some(p) => {
             *out = [p.at, p.end];
             true
         }
-        Found::Nothing => false,
+        None => false,
     }
 }
 
@@ -43,7 +42,7 @@ pub extern "C" fn starterbell_message_read(body: &[u8], out: &mut [usize; 8]) ->
     ensures { (result ≡ read_code (reading_of body.now)) × (out.new ≡ numbers_after out.old (reading_of body.now)) }
 {
     match message::read(body) {
-        Reading::Whole(m) => {
+        Ok(m) => {
             *out = [
                 m.kind as usize,
                 m.key.at,
@@ -56,7 +55,7 @@ pub extern "C" fn starterbell_message_read(body: &[u8], out: &mut [usize; 8]) ->
             ];
             255
         }
-        Reading::Refused(r) => refusal::number(r),
+        Err(r) => refusal::number(r),
     }
 }
 
@@ -142,12 +141,12 @@ pub extern "C" fn starterbell_message_peer_address(
     found(message::peer_address(body, Span { at, end }, from), out)
 }
 
-fn write_code(w: Written) -> usize
+fn write_code(w: Result<usize, Refusal>) -> usize
     ensures { result ≡ write_code w }
 {
     match w {
-        Written::Done(n) => n,
-        Written::Refused(_) => 0,
+        Ok(n) => n,
+        Err(_) => 0,
     }
 }
 

@@ -1,11 +1,10 @@
 #![tactic(auto)]
 // Reads and writes messages that were worked out by RULES, Messages, and writes a line for each: what was read, or by which number it was refused.
-use message::{Fields, Held, Reading};
+use message::{Fields, Held};
 use refusal::Refusal;
 use std::io;
 use std::io::{Print, Stdout};
-use wire::{Found, Span};
-use writer::Written;
+use wire::Span;
 
 fn say(to: Stdout, text: &[u8]) -> io::Result<()> {
     to.write_all(text)
@@ -51,13 +50,13 @@ fn tell_held(to: Stdout, body: &[u8], h: Held) -> io::Result<()> {
 // The next address of a peer, if there is one; answers where to go on.
 fn tell_address(to: Stdout, body: &[u8], at: usize, end: usize, from: usize) -> io::Result<usize> {
     match message::peer_address(body, Span { at, end }, from) {
-        Found::At(p) => {
+        Some(p) => {
             say(to, b" [")?;
             say_span(to, body, p)?;
             say(to, b"]")?;
             Ok(p.end)
         }
-        Found::Nothing => Ok(from),
+        None => Ok(from),
     }
 }
 
@@ -75,23 +74,23 @@ fn tell_peer(to: Stdout, body: &[u8], at: usize, end: usize) -> io::Result<()> {
 
 fn tell_closer(to: Stdout, body: &[u8], from: usize) -> io::Result<usize> {
     match message::closer_peer(body, from) {
-        Found::At(p) => {
+        Some(p) => {
             say(to, b"; closer [")?;
             tell_peer(to, body, p.at, p.end)?;
             Ok(p.end)
         }
-        Found::Nothing => Ok(from),
+        None => Ok(from),
     }
 }
 
 fn tell_provider(to: Stdout, body: &[u8], from: usize) -> io::Result<usize> {
     match message::provider_peer(body, from) {
-        Found::At(p) => {
+        Some(p) => {
             say(to, b"; provider [")?;
             tell_peer(to, body, p.at, p.end)?;
             Ok(p.end)
         }
-        Found::Nothing => Ok(from),
+        None => Ok(from),
     }
 }
 
@@ -119,8 +118,8 @@ fn read(to: Stdout, name: &[u8], body: &[u8]) -> io::Result<()> {
     say(to, name)?;
     say(to, b": ")?;
     match message::read(body) {
-        Reading::Whole(m) => tell(to, body, m),
-        Reading::Refused(r) => refused(to, r),
+        Ok(m) => tell(to, body, m),
+        Err(r) => refused(to, r),
     }
 }
 
@@ -301,10 +300,8 @@ fn tell_byte(to: Stdout, b: u8) -> io::Result<()> {
 
 // Bytes in hexadecimal.
 fn tell_bytes(to: Stdout, s: &[u8]) -> io::Result<()> {
-    let mut i: usize = 0;
-    while i < s.len() {
-        tell_byte(to, s[i])?;
-        i += 1;
+    for b in s {
+        tell_byte(to, *b)?;
     }
     Ok(())
 }
@@ -316,12 +313,12 @@ fn tell_long(to: Stdout, out: &[u8], n: usize) -> io::Result<()> {
         start = 1;
     }
     match message::read(part(out, start, n)) {
-        Reading::Whole(m) => {
+        Ok(m) => {
             say(to, b"; read back: type ")?;
             count(to, m.kind)?;
             say(to, b"\n")
         }
-        Reading::Refused(r) => refused(to, r),
+        Err(r) => refused(to, r),
     }
 }
 
@@ -351,8 +348,8 @@ fn write(
     say(to, name)?;
     say(to, b": ")?;
     match writer::write(out, kind, key, held, rkey, value, closer, providers) {
-        Written::Done(n) => tell_frame(to, out, n),
-        Written::Refused(r) => refused(to, r),
+        Ok(n) => tell_frame(to, out, n),
+        Err(r) => refused(to, r),
     }
 }
 
@@ -524,10 +521,8 @@ fn peer_limits(to: Stdout, out: &mut [u8]) -> io::Result<()> {
 
 // Twenty entries one after another.
 fn put_twenty(list: &mut [u8], entry: &[u8]) {
-    let mut k: usize = 0;
-    while k < 20 {
+    for k in 0..20 {
         octets::copy(list, k * 589, entry);
-        k += 1;
     }
 }
 

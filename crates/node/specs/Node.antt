@@ -8,25 +8,19 @@ use Rattle.contacts.specs.Form.{in_form as contacts_form}
 use Rattle.records.specs.Store.{in_form as records_form}
 use Rattle.sightings.specs.Sightings.{sighting_of, seen_table}
 use Rattle.message.specs.View.{reading_of}
-use Rattle.message.specs.declared.Reading.{Reading}
-use Rattle.message.specs.declared.Reading.TheVariants as reading
 use Rattle.stream.specs.declared.Framing.TheVariants as framing
-use Rattle.stream.specs.declared.Answer as stream
-use Rattle.stream.specs.declared.Answer.TheVariants as event
 use Rattle.stream.specs.Stream.{is_shut, receive_of as framed_of}
-use Rattle.replies.specs.declared.Answered.{Answered}
-use Rattle.replies.specs.declared.Answered.TheVariants as told
 use Rattle.replies.specs.Lent.{Lent, with_contacts}
 use Rattle.answer.specs.Answers.{deal_of}
 use Rattle.connections.specs.Box.{own_fits, conn_form, with_framing}
 use Rattle.connections.specs.declared.Conn.{Conn}
 use Rattle.node.specs.declared.Answer.{Answer}
-use Rattle.node.specs.declared.Answer.TheVariants.{Reply, Heard, Refused, More}
-use Rattle.node.specs.declared.Sight.{Sight}
-use Rattle.node.specs.declared.Sight.TheVariants.{NotSeen, Seen}
+use Rattle.node.specs.declared.Answer.TheVariants.{Reply, Heard, More}
 use Rattle.node.specs.declared.Received.{Received}
-use Rattle.node.specs.declared.Gate.{Gate}
-use Rattle.node.specs.declared.Gate.TheVariants.{Open, Closed}
+use Rattle.std.specs.Prelude.{Ok, Err, Some, None, Result, Option, ⊤}
+use Rattle.message.specs.declared.Fields.{Fields}
+use Rattle.refusal.specs.declared.Refusal.{Refusal}
+use Rattle.sightings.specs.declared.Sighting.{Sighting}
 
 -- ---- a connection with its receive buffer
 pub record Link : Type 0 where
@@ -38,34 +32,34 @@ linked c m = record { conn = c; buffer = m }
 
 -- ---- what a message does: the answer, the sighting beside it, and what is left of lent memory
 pub record Dealing : Type 0 where
-  pub answer : Answer
-  pub sight : Sight
+  pub answer : Result Answer Refusal
+  pub sight : Option (Result Sighting Refusal)
   pub left : Lent
 
-abbrev pub untouched : Answer → Lent → Dealing
-untouched a l = record { answer = a; sight = NotSeen; left = l }
+abbrev pub untouched : Result Answer Refusal → Lent → Dealing
+untouched a l = record { answer = a; sight = None; left = l }
 
 -- "then a server-mode sender is seen (a client isn't; no 18), and that outcome stands beside the reply, refusing nothing"
-unfoldable pub sight_of : Peer → Conn → List ℕ → Sight
-sight_of me c t = cond c.server (Seen (sighting_of t me.place (tidied c.peer))) NotSeen
+unfoldable pub sight_of : Peer → Conn → List ℕ → Option (Result Sighting Refusal)
+sight_of me c t = cond c.server (Some (sighting_of t me.place (tidied c.peer))) None
 
 -- "takes the new addresses if any is usable" (RULES, Places and contacts): a connection may be handed in with others
 unfoldable pub contacts_after : Peer → Conn → List ℕ → List ℕ
 contacts_after me c t = cond c.server (seen_table t me.place (tidied c.peer)) t
 
 -- "The reply is worked out first"; "A refused request isn't a sighting"
-abbrev pub by_answer : Answered → (after : Lent) → Peer → Conn → (before : Lent) → Dealing
-by_answer (told.Refused r) after me c l = untouched (Refused r) after
-by_answer (told.Reply n) after me c l =
-    record { answer = Reply n; sight = sight_of me c l.contacts; left = with_contacts after (contacts_after me c l.contacts) }
+abbrev pub by_answer : Result ℕ Refusal → (after : Lent) → Peer → Conn → (before : Lent) → Dealing
+by_answer (Err r) after me c l = untouched (Err r) after
+by_answer (Ok n) after me c l =
+    record { answer = Ok (Reply n); sight = sight_of me c l.contacts; left = with_contacts after (contacts_after me c l.contacts) }
 
 unfoldable pub served : Peer → Conn → List ℕ → Lent → Dealing
 served me c body l = let d = deal_of me c.peer body l in by_answer d.told d.left me c l
 
 -- "On the asking side it goes to the host for its lookup: no reply, no sighting, and only 0 to 6 and 19 apply"
-abbrev pub heard_as : ℕ → Reading → Answer
-heard_as n (reading.Whole f) = Heard n f
-heard_as n (reading.Refused r) = Refused r
+abbrev pub heard_as : ℕ → Result Fields Refusal → Result Answer Refusal
+heard_as n (Ok f) = Ok (Heard n f)
+heard_as n (Err r) = Err r
 
 unfoldable pub heard : List ℕ → Lent → Dealing
 heard body l = untouched (heard_as (length body) (reading_of body)) l
@@ -74,16 +68,16 @@ unfoldable pub dealing_of : Peer → Conn → List ℕ → Lent → Dealing
 dealing_of me c body l = cond c.asking (heard body l) (served me c body l)
 
 -- ---- 0 to 2 and 12, before a byte is taken
-unfoldable pub gate_of : Peer → Link → Lent → Gate
+unfoldable pub gate_of : Peer → Link → Lent → Result ⊤ Refusal
 gate_of me link l =
-    cond (not (contacts_form l.contacts me.place)) (Closed OutOfForm)
-    (cond (not (records_form l.records)) (Closed OutOfForm)
-    (cond (not (conn_form me link.conn)) (Closed OutOfForm)
-    (cond (ltb (length link.buffer) most_body) (Closed SmallBuffer)
-    (cond (ltb (length l.reply) least_reply) (Closed SmallBuffer)
-    (cond (is_shut link.conn.framing) (Closed Shut)
-    (cond (not (own_fits me)) (Closed BadPeer)
-    Open))))))
+    cond (not (contacts_form l.contacts me.place)) (Err OutOfForm)
+    (cond (not (records_form l.records)) (Err OutOfForm)
+    (cond (not (conn_form me link.conn)) (Err OutOfForm)
+    (cond (ltb (length link.buffer) most_body) (Err SmallBuffer)
+    (cond (ltb (length l.reply) least_reply) (Err SmallBuffer)
+    (cond (is_shut link.conn.framing) (Err Shut)
+    (cond (not (own_fits me)) (Err BadPeer)
+    (Ok tt)))))))
 
 -- ---- the call: what is handed back, the receive buffer, and what is left of lent memory
 pub record Out : Type 0 where
@@ -91,25 +85,25 @@ pub record Out : Type 0 where
   pub buffer : List ℕ
   pub left : Lent
 
-abbrev pub received : Conn → ℕ → Answer → Sight → Received
+abbrev pub received : Conn → ℕ → Result Answer Refusal → Option (Result Sighting Refusal) → Received
 received c n a s = record { conn = c; taken = n; answer = a; sight = s }
 
 -- "3 to 11 .. shut the connection when raised on it"
-abbrev pub shut_if : Answer → Conn → Conn
-shut_if (Reply n) c = c
-shut_if (Heard n f) c = c
-shut_if (Refused r) c = with_framing c framing.Shut
-shut_if More c = c
+abbrev pub shut_if : Result Answer Refusal → Conn → Conn
+shut_if (Ok (Reply n)) c = c
+shut_if (Ok (Heard n f)) c = c
+shut_if (Err r) c = with_framing c framing.Shut
+shut_if (Ok More) c = c
 
 -- a whole message: n bytes were taken
 abbrev pub done : Link → ℕ → Dealing → Out
 done link n d = record { got = received (shut_if d.answer link.conn) n d.answer d.sight; buffer = link.buffer; left = d.left }
 
 -- what the framing answers, and what is done with it
-abbrev pub by_event : stream.Answer → Peer → Link → ℕ → Lent → Out
-by_event (event.Message size) me link n l = done link n (dealing_of me link.conn (take size link.buffer) l)
-by_event (event.Refused r) me link n l = done link n (untouched (Refused r) l)
-by_event event.More me link n l = done link n (untouched More l)
+abbrev pub by_event : Result (Option ℕ) Refusal → Peer → Link → ℕ → Lent → Out
+by_event (Ok (Some size)) me link n l = done link n (dealing_of me link.conn (take size link.buffer) l)
+by_event (Err r) me link n l = done link n (untouched (Err r) l)
+by_event (Ok None) me link n l = done link n (untouched (Ok More) l)
 
 -- a piece, up to its first event
 unfoldable pub taken_of : Peer → Link → List ℕ → Lent → Out
@@ -118,9 +112,9 @@ taken_of me link bs l =
     by_event o.got.answer me (linked (with_framing link.conn o.got.framing) o.buffer) o.got.taken l
 
 -- "0 to 2 consume and change nothing"
-abbrev pub unless : Gate → Link → Lent → Out → Out
-unless (Closed r) link l o = record { got = received link.conn 0 (Refused r) NotSeen; buffer = link.buffer; left = l }
-unless Open link l o = o
+abbrev pub unless : Result ⊤ Refusal → Link → Lent → Out → Out
+unless (Err r) link l o = record { got = received link.conn 0 (Err r) None; buffer = link.buffer; left = l }
+unless (Ok tt) link l o = o
 
 -- us, the connection, a piece, lent memory
 unfoldable pub receive_of : Peer → Link → List ℕ → Lent → Out

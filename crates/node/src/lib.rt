@@ -8,11 +8,10 @@ ghost use Rattle.replies.specs.Lent.{lent};
 ghost use Rattle.node.specs.Node.{linked, sight_of, contacts_after, served, heard_as, dealing_of, gate_of, received, taken_of, receive_of, Gives, Deals};
 ghost use Rattle.node.specs.Inner.{unseen};
 
-pub use connections::{Conn, Ended, Opened, Started, Told, end, open, own_fits, start};
-use message::{Fields, Reading};
+pub use connections::{Conn, Ended, Opened, Started, end, open, own_fits, start};
+use message::Fields;
 use peer::Peer;
 use refusal::Refusal;
-use replies::Answered;
 use sightings::Sighting;
 use stream::Framing;
 
@@ -22,30 +21,16 @@ pub enum Answer {
     Reply(usize),
     // A message for a lookup: so many bytes stand at the receive buffer's start, with the places of its fields.
     Heard(usize, Fields),
-    Refused(Refusal),
     More,
-}
-
-// What came of the sender's sighting, beside a reply.
-#[derive(Clone, Copy)]
-pub enum Sight {
-    NotSeen,
-    Seen(Sighting),
 }
 
 #[derive(Clone, Copy)]
 pub struct Received {
     pub conn: Conn,
     pub taken: usize,
-    pub answer: Answer,
-    pub sight: Sight,
-}
-
-// Whether a call goes on to take bytes.
-#[derive(Drop)]
-pub enum Gate {
-    Open,
-    Closed(Refusal),
+    pub answer: Result<Answer, Refusal>,
+    // what came of the sender's sighting, beside a reply
+    pub sight: Option<Result<Sighting, Refusal>>,
 }
 
 // 0 to 2, and 12 for a box that no start gives.
@@ -56,49 +41,54 @@ fn gate_of(
     contacts: &[u8],
     records: &[u8],
     reply: &[u8],
-) -> Gate
+) -> Result<(), Refusal>
     ensures { result ≡ gate_of me (linked conn buffer.now) (lent contacts.now records.now reply.now) }
 {
     let ours = me.place;
     if !contacts::in_form(contacts, &ours) {
-        return Gate::Closed(Refusal::OutOfForm);
+        return Err(Refusal::OutOfForm);
     }
     if !records::in_form(records) {
-        return Gate::Closed(Refusal::OutOfForm);
+        return Err(Refusal::OutOfForm);
     }
     if !connections::conn_form(me, conn) {
-        return Gate::Closed(Refusal::OutOfForm);
+        return Err(Refusal::OutOfForm);
     }
     if buffer.len() < limits::MOST_BODY {
-        return Gate::Closed(Refusal::SmallBuffer);
+        return Err(Refusal::SmallBuffer);
     }
     if reply.len() < limits::LEAST_REPLY {
-        return Gate::Closed(Refusal::SmallBuffer);
+        return Err(Refusal::SmallBuffer);
     }
     let f = conn.framing;
     if stream::is_shut(f) {
-        return Gate::Closed(Refusal::Shut);
+        return Err(Refusal::Shut);
     }
     if !connections::own_fits(me) {
-        return Gate::Closed(Refusal::BadPeer);
+        return Err(Refusal::BadPeer);
     }
-    Gate::Open
+    Ok(())
 }
 
 // A sender that is a server is seen, with its usable addresses.
-fn see_sender(me: Peer, conn: Conn, contacts: &mut [u8]) -> Sight
+fn see_sender(me: Peer, conn: Conn, contacts: &mut [u8]) -> Option<Result<Sighting, Refusal>>
     ensures { (result ≡ sight_of me conn contacts.old) × (contacts.new ≡ contacts_after me conn contacts.old) }
 {
     if !conn.server {
-        return Sight::NotSeen;
+        return None;
     }
     let ours = me.place;
     let p = conn.peer;
     let s = sightings::seen(contacts, &ours, p);
-    Sight::Seen(s)
+    Some(s)
 }
 
-fn hand_back(conn: Conn, taken: usize, answer: Answer, sight: Sight) -> Received
+fn hand_back(
+    conn: Conn,
+    taken: usize,
+    answer: Result<Answer, Refusal>,
+    sight: Option<Result<Sighting, Refusal>>,
+) -> Received
     ensures { result ≡ received conn taken answer sight }
 {
     Received {
@@ -111,11 +101,11 @@ fn hand_back(conn: Conn, taken: usize, answer: Answer, sight: Sight) -> Received
 
 // A refusal that shuts the connection.
 fn refuse(conn: Conn, taken: usize, r: Refusal) -> Received
-    ensures { result ≡ received (with_framing conn Framing.Shut) taken (Answer.Refused r) Sight.NotSeen }
+    ensures { result ≡ received (with_framing conn Framing.Shut) taken (Err r) None }
 {
     let shut = stream::shut();
     let c = connections::with_framing(conn, shut);
-    hand_back(c, taken, Answer::Refused(r), Sight::NotSeen)
+    hand_back(c, taken, Err(r), None)
 }
 
 // A message on the asking side goes to the host.
@@ -123,8 +113,8 @@ fn hear(conn: Conn, taken: usize, body: &[u8]) -> Received
     ensures { result ≡ unseen conn taken (heard_as (length body.now) (reading_of body.now)) }
 {
     match message::read(body) {
-        Reading::Whole(f) => hand_back(conn, taken, Answer::Heard(body.len(), f), Sight::NotSeen),
-        Reading::Refused(r) => refuse(conn, taken, r),
+        Ok(f) => hand_back(conn, taken, Ok(Answer::Heard(body.len(), f)), None),
+        Err(r) => refuse(conn, taken, r),
     }
 }
 
@@ -142,10 +132,10 @@ fn serve(
 {
     let who = conn.peer;
     match answer::answer(me, who, body, contacts, records, reply) {
-        Answered::Refused(r) => refuse(conn, taken, r),
-        Answered::Reply(n) => {
+        Err(r) => refuse(conn, taken, r),
+        Ok(n) => {
             let s = see_sender(me, conn, contacts);
-            hand_back(conn, taken, Answer::Reply(n), s)
+            hand_back(conn, taken, Ok(Answer::Reply(n)), s)
         }
     }
 }
@@ -186,17 +176,9 @@ fn take_bytes(
     let c = connections::with_framing(conn, g);
     let event = got.answer;
     match event {
-        stream::Answer::Message(n) => whole(
-            me,
-            c,
-            got.taken,
-            &buffer[..n],
-            contacts,
-            records,
-            reply,
-        ),
-        stream::Answer::Refused(r) => refuse(c, got.taken, r),
-        stream::Answer::More => hand_back(c, got.taken, Answer::More, Sight::NotSeen),
+        Ok(Some(n)) => whole(me, c, got.taken, &buffer[..n], contacts, records, reply),
+        Err(r) => refuse(c, got.taken, r),
+        Ok(None) => hand_back(c, got.taken, Ok(Answer::More), None),
     }
 }
 
@@ -213,7 +195,7 @@ pub fn receive(
     ensures { Gives (receive_of me (linked conn buffer.old) piece.now (lent contacts.old records.old reply.old)) result buffer.new contacts.new records.new reply.new }
 {
     match gate_of(me, conn, buffer, contacts, records, reply) {
-        Gate::Closed(r) => hand_back(conn, 0, Answer::Refused(r), Sight::NotSeen),
-        Gate::Open => take_bytes(me, conn, buffer, piece, contacts, records, reply),
+        Err(r) => hand_back(conn, 0, Err(r), None),
+        Ok(()) => take_bytes(me, conn, buffer, piece, contacts, records, reply),
     }
 }

@@ -9,41 +9,38 @@ use Rattle.refusal.specs.declared.Refusal.{Refusal}
 use Rattle.peer.specs.declared.Peer.{Peer}
 use Rattle.peer.proofs.Tidy.{made_tidy}
 use Rattle.message.specs.View.{reading_of}
-use Rattle.message.specs.declared.Reading.{Reading}
-use Rattle.message.specs.declared.Reading.TheVariants as reading
-use Rattle.replies.specs.declared.Answered.{Answered}
-use Rattle.replies.specs.declared.Answered.TheVariants as told
 use Rattle.replies.specs.Lent.{Lent}
 use Rattle.replies.specs.Verdicts.{Dealt}
 use Rattle.answer.specs.Answers.{deal_of}
 use Rattle.answer_promises.proofs.Promised.{refused-changes-nothing}
 use Rattle.connections.specs.declared.Conn.{Conn}
-use Rattle.node.specs.declared.Answer.TheVariants.{Refused}
 use Rattle.node.specs.Node.{Dealing, untouched, sight_of, contacts_after, by_answer, served, heard_as, heard, dealing_of}
 use Rattle.node_promises.specs.Promises.{MessageDone}
+use Rattle.std.specs.Prelude.{Ok, Err, Result}
+use Rattle.message.specs.declared.Fields.{Fields}
 
 module _ (me : Peer) (c : Conn) (body : List ℕ) (l : Lent) where
   abbrev deal : Dealt
   deal = deal_of me c.peer body l
 
-  answers : (a : Answered) → c.asking ≡ false → deal.told ≡ a → dealing_of me c body l ≡ by_answer a deal.left me c l
+  answers : (a : Result ℕ Refusal) → c.asking ≡ false → deal.told ≡ a → dealing_of me c body l ≡ by_answer a deal.left me c l
   unfolding dealing_of served
-  answers a h e = cond_no c.asking _ _ h ∙ ap (λ (x : Answered). by_answer x deal.left me c l) e
+  answers a h e = cond_no c.asking _ _ h ∙ ap (λ (x : Result ℕ Refusal). by_answer x deal.left me c l) e
 
-  refuses : (r : Refusal) → c.asking ≡ false → deal.told ≡ told.Refused r → dealing_of me c body l ≡ untouched (Refused r) l
-  refuses r h e = answers (told.Refused r) h e ∙ ap (untouched (Refused r)) (refused-changes-nothing me c.peer body l r e)
+  refuses : (r : Refusal) → c.asking ≡ false → deal.told ≡ Err r → dealing_of me c body l ≡ untouched (Err r) l
+  refuses r h e = answers (Err r) h e ∙ ap (untouched (Err r)) (refused-changes-nothing me c.peer body l r e)
 
-  reads : (r : Reading) → c.asking ≡ true → reading_of body ≡ r → dealing_of me c body l ≡ untouched (heard_as (length body) r) l
+  reads : (r : Result Fields Refusal) → c.asking ≡ true → reading_of body ≡ r → dealing_of me c body l ≡ untouched (heard_as (length body) r) l
   unfolding dealing_of heard
-  reads r h e = cond_yes c.asking _ _ h ∙ ap (λ (x : Reading). untouched (heard_as (length body) x) l) e
+  reads r h e = cond_yes c.asking _ _ h ∙ ap (λ (x : Result Fields Refusal). untouched (heard_as (length body) x) l) e
 
 pub message-done : MessageDone
 unfolding sight_of contacts_after
 message-done =
     record {
       refuses = refuses;
-      replies = λ me c body l n h e. answers me c body l (told.Reply n) h e;
+      replies = λ me c body l n h e. answers me c body l (Ok n) h e;
       opened = made_tidy;
-      declines = λ me c body l r h e. reads me c body l (reading.Refused r) h e;
-      hears = λ me c body l f h e. reads me c body l (reading.Whole f) h e;
+      declines = λ me c body l r h e. reads me c body l (Err r) h e;
+      hears = λ me c body l f h e. reads me c body l (Ok f) h e;
     }

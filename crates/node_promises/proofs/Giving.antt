@@ -8,7 +8,6 @@ use Rattle.peer.specs.Peers.{bad_peer}
 use Rattle.stream.specs.declared.Framing.{Framing}
 use Rattle.stream.specs.declared.Framing.TheVariants.{Shut, Prefix, Body}
 use Rattle.stream.specs.declared.Held.TheVariants.{Nothing, One, Two}
-use Rattle.stream.specs.declared.Ending.TheVariants as ends
 use Rattle.stream.specs.declared.Ended as streams
 use Rattle.stream.specs.Stream.{fresh, is_shut, in_form, ended, end_in, end_of}
 use Rattle.connections.specs.declared.Conn.{Conn}
@@ -17,20 +16,21 @@ use Rattle.connections.specs.Box.{own_fits, start_of, with_framing, open_of, con
 use Rattle.connections.proofs.Bounds.{end-shuts}
 use Rattle.node_promises.specs.Promises.{BoxCalls}
 use Rattle.node_promises.proofs.Keeping.{form-framing}
+use Rattle.std.specs.Prelude.{Err}
 
 -- ---- of a framing by itself
 in-form : (f : Framing) → in_form f ≡ true → end_of f ≡ end_in f
 unfolding end_of
-in-form f h = ap (λ (t : Bool). cond (not t) (ended f (ends.Refused no.OutOfForm)) (end_in f)) h
+in-form f h = ap (λ (t : Bool). cond (not t) (ended f (Err no.OutOfForm)) (end_in f)) h
 
-ends-inside : (f : Framing) → is_shut f ≡ false → (f ≡ fresh → ⊥) → (end_in f).answer ≡ ends.Refused no.EndedInside
+ends-inside : (f : Framing) → is_shut f ≡ false → (f ≡ fresh → ⊥) → (end_in f).answer ≡ Err no.EndedInside
 ends-inside Shut e n = absurd (true≢false e)
 ends-inside (Prefix Nothing) e n = absurd (n refl)
 ends-inside (Prefix (One a)) e n = refl
 ends-inside (Prefix (Two a b)) e n = refl
 ends-inside (Body want have) e n = refl
 
-ends-again : (f : Framing) → is_shut f ≡ true → (in_form f ≡ true) × ((end_in f).answer ≡ ends.Refused no.Shut)
+ends-again : (f : Framing) → is_shut f ≡ true → (in_form f ≡ true) × ((end_in f).answer ≡ Err no.Shut)
 ends-again Shut e = (refl, refl)
 ends-again (Prefix h) e = absurd (true≢false (sym e))
 ends-again (Body want have) e = absurd (true≢false (sym e))

@@ -33,13 +33,14 @@ use Rattle.connections.specs.declared.Conn.{Conn}
 use Rattle.connections.specs.declared.Opened.{Opened}
 use Rattle.connections.specs.declared.Ended.{Ended}
 use Rattle.node.specs.declared.Answer.{Answer}
-use Rattle.node.specs.declared.Answer.TheVariants.{Reply, Heard, Refused, More}
+use Rattle.node.specs.declared.Answer.TheVariants.{Reply, Heard, More}
 use Rattle.connections.specs.Box.{own_fits, with_framing, open_of, conn_form, end_conn}
 use Rattle.node.specs.Node.{Link, Dealing, Out, shut_if, done, dealing_of, heard, contacts_after, receive_of}
 use Rattle.connections.proofs.Bounds.{framing-kept, end-shuts}
 use Rattle.answer_promises.proofs.Promised.{records-stay-in-form}
 use Rattle.node_promises.specs.Promises.{Made, FormKept}
 use Rattle.node_promises.proofs.Cases.{deal-cases, afterwards, cases}
+use Rattle.std.specs.Prelude.{Ok, Err, Result}
 
 -- ---- a connection in form, taken apart and put together
 module _ (me : Peer) (c : Conn) where
@@ -116,11 +117,11 @@ module _ (me : Peer) (link : Link) (bs : List ℕ) (l : Lent) where
   abbrev pub InForm : Out → Type 0
   InForm o = conn_form me o.got.conn ≡ true
 
-  shut-kept : (c' : Conn) (a : Answer) → conn_form me c' ≡ true → conn_form me (shut_if a c') ≡ true
-  shut-kept c' (Reply n) h = h
-  shut-kept c' (Heard n f) h = h
-  shut-kept c' (Refused r) h = shut-form me (with_framing c' Shut) refl
-  shut-kept c' More h = h
+  shut-kept : (c' : Conn) (a : Result Answer Refusal) → conn_form me c' ≡ true → conn_form me (shut_if a c') ≡ true
+  shut-kept c' (Ok (Reply n)) h = h
+  shut-kept c' (Ok (Heard n f)) h = h
+  shut-kept c' (Err r) h = shut-form me (with_framing c' Shut) refl
+  shut-kept c' (Ok More) h = h
 
   -- a shut connection takes no bytes
   shut-stays : (f : Framing) → is_shut f ≡ true → (frames.receive_of f link.buffer bs).got.framing ≡ f
@@ -138,7 +139,7 @@ module _ (me : Peer) (link : Link) (bs : List ℕ) (l : Lent) where
 
   pub receives-well : conn_form me link.conn ≡ true → InForm (receive_of me link bs l)
   receives-well h =
-      cases me link bs l InForm (λ s g. h) (λ g n. shut-kept _ (dealing_of me (afterwards me link bs l) (take n (frames.receive_of link.conn.framing link.buffer bs).buffer) l).answer (after-form h)) (λ g x. shut-kept _ (Refused x) (after-form h)) (λ g. shut-kept _ More (after-form h))
+      cases me link bs l InForm (λ s g. h) (λ g n. shut-kept _ (dealing_of me (afterwards me link bs l) (take n (frames.receive_of link.conn.framing link.buffer bs).buffer) l).answer (after-form h)) (λ g x. shut-kept _ (Err x) (after-form h)) (λ g. shut-kept _ (Ok More) (after-form h))
 
 -- ---- receive: the contacts
 fair : (me : Peer) (p : Peer) → Made me → Made p → own_fits p ≡ true → same p.place me.place ≡ false → Fair me.place (tidied p)

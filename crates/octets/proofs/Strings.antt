@@ -1,15 +1,20 @@
 -- Laws of `same`, `lower` and `starts_with`. Assumes nothing.
-use Prim.Native.Nat.{ℕ, suc, ◌+◌, ◌<◌, ◌≤◌}
+use Prim.Native.Nat.{ℕ, ◌<◌, ◌≤◌}
 use mathlib.Core.Path.{◌≡◌, refl, sym, ap, ◌∙◌, subst}
 use mathlib.Core.Logic.{◌⊎◌, inl, inr, ⊎_elim}
 use mathlib.Core.Bool.{Bool, true, false, ◌&&◌, ◌||◌}
 use mathlib.Core.List.{List, [], ◌∷◌, ◌++◌}
-use native.Mathlib.Numerals.{add-one}
 use native.Mathlib.Omega.{arith}
 use lib.Dec.{ltb, eqb, T}
-use lib.ListN.{length, get_or, take, drop, drop_of_length-le, length-take}
+use lib.Pointwise.{pointwise}
+use lib.ListN.{length, get_or, take, drop, drop_of_length-le}
 use lib.Seq.{drop-cons}
 use borrow.Author.Tests.{lt-ltb, le-ltb, ltb-true, ltb-false, eq-eqb, ne_eqb, eqb-true}
+use Rattle.std.specs.Ordering.{nat_cmp, is_lt}
+use Rattle.std.specs.declared.cmp.Ordering.{Ordering}
+use Rattle.std.specs.Cmp.Lexicographic.{slice_cmp}
+use Rattle.std.proofs.lemmas.Bool.Decides.{nat_tests}
+use Rattle.std.proofs.lemmas.Cmp.{same_from_slice_cmp}
 use Rattle.octets.specs.Octets.{same, lower, starts_with}
 use Rattle.octets.proofs.Bools.{and_l, and_r, and_i, or-e, or_l, not-both, to-false, either}
 
@@ -56,14 +61,17 @@ module _ (a b : List ℕ) (i : ℕ) where
   unfolding same
   same_end h g = rw (drop_of_length-le a h, drop_of_length-le b g)
 
-  module _ (ha : i < length a) (hb : i < length b) where
-    pub same_stop : (get_or a i 0 ≡ get_or b i 0 → ⊥) → same (drop i a) (drop i b) ≡ false
-    unfolding same
-    same_stop e = rw (drop-cons a i 0 ha, drop-cons b i 0 hb, ne_eqb (get_or a i 0) (get_or b i 0) e)
+  pub same_stop : i < length a → i < length b → (get_or a i 0 ≡ get_or b i 0 → ⊥) → same (drop i a) (drop i b) ≡ false
+  unfolding same
+  same_stop ha hb e = rw (drop-cons a i 0 ha, drop-cons b i 0 hb, ne_eqb (get_or a i 0) (get_or b i 0) e)
 
-    pub same-on : get_or a i 0 ≡ get_or b i 0 → same (drop i a) (drop i b) ≡ same (drop (i + 1) a) (drop (i + 1) b)
-    unfolding same
-    same-on e = rw (drop-cons a i 0 ha, drop-cons b i 0 hb, eq-eqb (get_or a i 0) (get_or b i 0) e, add-one)
+-- what the library's `==` of two slices says
+pub same-pointwise : (a b : List ℕ) → pointwise eqb a b ≡ same a b
+unfolding same
+same-pointwise [] [] = refl
+same-pointwise [] (y ∷ b) = refl
+same-pointwise (x ∷ a) [] = refl
+same-pointwise (x ∷ a) (y ∷ b) = ap (λ (r : Bool). eqb x y && r) (same-pointwise a b)
 
 -- ---- an order by a number first, then by the rest: the step of bytewise order, and of any rank above it
 abbrev pub before : ℕ → ℕ → Bool → Bool
@@ -115,6 +123,11 @@ before-total m n r q a b =
     (three m n)
 
 -- ---- lower: a strict total order
+-- the library's order of two slices
+pub lower-cmp : (a b : List ℕ) (r : Ordering) → r ≡ slice_cmp nat_cmp a b → is_lt r ≡ lower a b
+unfolding lower
+lower-cmp = same_from_slice_cmp nat_cmp is_lt lower refl (λ _ _. refl) (λ _ _. refl) (λ x y xs ys o h. grind (arith, nat_tests))
+
 pub lower-asym : (a b : List ℕ) → lower a b ≡ true → lower b a ≡ true → ⊥
 unfolding lower
 lower-asym [] [] p q = not-both false p refl
@@ -161,28 +174,12 @@ module _ (a b : List ℕ) (i : ℕ) where
   pub lower_last : length a ≤ i → lower (drop i a) (drop i b) ≡ ltb i (length b)
   lower_last h = ⊎_elim (λ t. lower_long h (ltb-true i (length b) t) ∙ sym t) (λ t. lower-short (ltb-false i (length b) t) ∙ sym t) (either (ltb i (length b)))
 
-  module _ (ha : i < length a) (hb : i < length b) where
-    lower-at : lower (drop i a) (drop i b) ≡ before (get_or a i 0) (get_or b i 0) (lower (drop (suc i) a) (drop (suc i) b))
-    unfolding lower
-    lower-at = rw (drop-cons a i 0 ha, drop-cons b i 0 hb)
-
-    pub lower-less : get_or a i 0 < get_or b i 0 → lower (drop i a) (drop i b) ≡ true
-    lower-less h = lower-at ∙ before-less (get_or a i 0) (get_or b i 0) _ h
-
-    pub lower-more : get_or b i 0 < get_or a i 0 → lower (drop i a) (drop i b) ≡ false
-    lower-more h = lower-at ∙ before_more (get_or a i 0) (get_or b i 0) _ h
-
-    pub lower-on : get_or a i 0 ≡ get_or b i 0 → lower (drop i a) (drop i b) ≡ lower (drop (i + 1) a) (drop (i + 1) b)
-    lower-on e = lower-at ∙ before_same (get_or a i 0) (get_or b i 0) _ e ∙ rw (add-one i)
-
 -- ---- starts_with
-pub starts-short : (s p : List ℕ) → length s < length p → starts_with s p ≡ false
-unfolding starts_with
-starts-short s p h = same_size (take (length p) s) p (λ e. bad e)
-  where
-    bad : length (take (length p) s) ≡ length p → ⊥
-    bad e = omega (arith, length-take (length p) s)
-
 pub starts-eq : (s p : List ℕ) → starts_with s p ≡ true → take (length p) s ≡ p
 unfolding starts_with
 starts-eq s p h = same-eq (take (length p) s) p h
+
+-- where the library asks it the other way round
+pub starts-pointwise : (s p : List ℕ) → pointwise eqb p (take (length p) s) ≡ starts_with s p
+unfolding starts_with
+starts-pointwise s p = same-pointwise p (take (length p) s) ∙ same-sym p (take (length p) s)

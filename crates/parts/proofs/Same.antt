@@ -1,7 +1,7 @@
--- Laws of positions compared: the steps of the comparison, and that it is equality. Assumes nothing.
+-- Laws of positions compared: what the derived comparison computes, and that it is equality. Assumes nothing.
 use Prim.Native.Nat.{ℕ}
 use mathlib.Core.Path.{◌≡◌, refl, sym, ap, ap₂, ◌∙◌}
-use mathlib.Core.Bool.{Bool, true, false, not, ◌&&◌}
+use mathlib.Core.Bool.{Bool, true, false, not, ◌&&◌, beq}
 use mathlib.Core.List.{List}
 use lib.Dec.{eqb}
 use borrow.Author.Tests.{eq-eqb, ne_eqb, eqb-true, not-true, not-false}
@@ -10,34 +10,28 @@ use Rattle.wire.specs.declared.Span.{Span}
 use Rattle.message.specs.View.{reading_of}
 use Rattle.message.specs.declared.Held.{Held}
 use Rattle.message.specs.declared.Fields.{Fields}
-use Rattle.message.specs.declared.Reading.{Reading}
 use Rattle.parts.specs.Parts.{same_span, same_bool, same_held, same_fields, is_reading, is_view}
+use Rattle.std.specs.Prelude.{Result}
+use Rattle.refusal.specs.declared.Refusal.{Refusal}
 
--- ---- the steps
-module _ (a b : Span) where
-  pub span-no : (a.at ≡ b.at → ⊥) → false ≡ same_span a b
-  unfolding same_span
-  span-no h = sym (and-off (eqb a.at b.at) (eqb a.end b.end) (ne_eqb a.at b.at h))
+-- ---- what the derived comparison computes
+flag-beq : (a b : Bool) → beq a b ≡ same_bool a b
+flag-beq true true = refl
+flag-beq true false = refl
+flag-beq false true = refl
+flag-beq false false = refl
 
-  pub span-yes : a.at ≡ b.at → eqb a.end b.end ≡ same_span a b
-  unfolding same_span
-  span-yes h = sym (and-on (eqb a.at b.at) (eqb a.end b.end) (eq-eqb a.at b.at h))
+pub derived-same : (a b : Fields) → (eqb a.kind b.kind && ((eqb a.key.at b.key.at && eqb a.key.end b.key.end) && (beq a.held.there b.held.there
+    && ((eqb a.held.key.at b.held.key.at && eqb a.held.key.end b.held.key.end) && (eqb a.held.value.at b.held.value.at && eqb a.held.value.end b.held.value.end)))))
+    ≡ same_fields a b
+unfolding same_fields same_held same_span
+derived-same a b =
+    ap (λ (f : Bool). eqb a.kind b.kind && (same_span a.key b.key && (f && (same_span a.held.key b.held.key && same_span a.held.value b.held.value))))
+    (flag-beq a.held.there b.held.there)
 
-pub kind-no : (a b : Fields) → (a.kind ≡ b.kind → ⊥) → false ≡ same_fields a b
-unfolding same_fields
-kind-no a b h = sym (and-off (eqb a.kind b.kind) _ (ne_eqb a.kind b.kind h))
-
-pub kind-yes : (a b : Fields) (r : Bool) → a.kind ≡ b.kind → r ≡ (same_span a.key b.key && same_held a.held b.held) → r ≡ same_fields a b
-unfolding same_fields
-kind-yes a b r h e = e ∙ sym (and-on (eqb a.kind b.kind) _ (eq-eqb a.kind b.kind h))
-
-pub held-is : (a b : Held) (r : Bool) → r ≡ (same_bool a.there b.there && (same_span a.key b.key && same_span a.value b.value)) → r ≡ same_held a b
-unfolding same_held
-held-is a b r e = e
-
-pub view-is : (s : List ℕ) (v : Fields) (m : Reading) (r : Bool) → m ≡ reading_of s → r ≡ is_reading m v → r ≡ is_view s v
+pub view-is : (s : List ℕ) (v : Fields) (m : Result Fields Refusal) (r : Bool) → m ≡ reading_of s → r ≡ is_reading m v → r ≡ is_view s v
 unfolding is_view
-view-is s v m r e q = q ∙ ap (λ (x : Reading). is_reading x v) e
+view-is s v m r e q = q ∙ ap (λ (x : Result Fields Refusal). is_reading x v) e
 
 -- ---- the same are equal, and equal ones are the same
 flag-eq : (a b : Bool) → same_bool a b ≡ true → a ≡ b

@@ -3,22 +3,19 @@ use Prim.Native.Nat.{ℕ, zero, suc}
 use mathlib.Core.Path.{◌≡◌, refl, sym, ap, ◌∙◌, subst}
 use mathlib.Core.Bool.{Bool, true, false, cond}
 use mathlib.Core.List.{List, [], ◌∷◌}
-use mathlib.Core.Option.{Option, none, some}
 use lib.ListN.{length, take}
 use Rattle.wire.specs.Wire.{fields_at, spans, first_of, on_found, walk}
 use Rattle.wire.specs.Items.{cut}
 use Rattle.wire.specs.declared.Span.{Span}
-use Rattle.wire.specs.declared.Found.{Found}
-use Rattle.wire.specs.declared.Found.TheVariants.{At as FoundAt, Nothing as FoundNothing}
 use Rattle.message.specs.Message.{Record, message_of}
 use Rattle.message.specs.View.{id_at, connection_at, held_meant}
 use Rattle.message.specs.declared.Fields.{Fields}
 use Rattle.message.proofs.Meaning.{key-meant, kind-meant, held-meant, closer-meant, providers-meant}
 use Rattle.message.proofs.Views.{read_whole, closer-walked, providers-walked, addresses-walked}
-use Rattle.parts.specs.declared.Number.TheVariants.{Is}
 use Rattle.parts.specs.Parts.{is_view, read_fields, positions_of, number_if, part_if, entry_if, entry_of, found_if, bytes_if, kind_of, key_of, record_key_of, record_value_of, closer_of, provider_of, peer_id_of, peer_connection_of, peer_address_of, key_bytes, record_key_bytes, record_value_bytes, number_refusal, part_refusal, entry_refusal}
 use Rattle.parts.specs.Promises.{OnlyTheReaders, TheReaders, NoView, entry_found, PointsAt, MayPointAt, key_in, value_in, Meant, ViewsMean, OthersRefused}
 use Rattle.parts.proofs.Own.{view-read, read_view, refused-view}
+use Rattle.std.specs.Prelude.{Ok, Some, None, Option}
 
 pub only-the-readers : OnlyTheReaders
 only-the-readers = view-read
@@ -31,48 +28,48 @@ pub no-view : NoView
 no-view = refused-view
 
 -- ---- a view's parts
-found_back : (f : Found) → entry_found (entry_of f) ≡ f
-found_back (FoundAt p) = refl
-found_back FoundNothing = refl
+found_back : (f : Option Span) → entry_found (entry_of f) ≡ f
+found_back (Some p) = refl
+found_back None = refl
 
-found-told : (f : Found) → entry_refusal (entry_of f) ≡ []
+found-told : (f : Option Span) → entry_refusal (entry_of f) ≡ []
 unfolding entry_refusal
-found-told (FoundAt p) = refl
-found-told FoundNothing = refl
+found-told (Some p) = refl
+found-told None = refl
 
-walk_same : (k : ℕ) (f g : ℕ → Found) → ((n : ℕ) → f n ≡ g n) → (at : ℕ) → walk k f at ≡ walk k g at
+walk_same : (k : ℕ) (f g : ℕ → Option Span) → ((n : ℕ) → f n ≡ g n) → (at : ℕ) → walk k f at ≡ walk k g at
 unfolding walk
 walk_same zero f g h at = refl
-walk_same (suc k) f g h at = ap (λ (x : Found). on_found x (λ p. p ∷ walk k f p.end) []) (h at) ∙ rest (g at) (walk_same k f g h)
+walk_same (suc k) f g h at = ap (λ (x : Option Span). on_found x (λ p. p ∷ walk k f p.end) []) (h at) ∙ rest (g at) (walk_same k f g h)
   where
-    rest : (x : Found) → ((n : ℕ) → walk k f n ≡ walk k g n) → on_found x (λ p. p ∷ walk k f p.end) [] ≡ on_found x (λ p. p ∷ walk k g p.end) []
-    rest (FoundAt p) w = ap (λ (l : List Span). p ∷ l) (w p.end)
-    rest FoundNothing w = refl
+    rest : (x : Option Span) → ((n : ℕ) → walk k f n ≡ walk k g n) → on_found x (λ p. p ∷ walk k f p.end) [] ≡ on_found x (λ p. p ∷ walk k g p.end) []
+    rest (Some p) w = ap (λ (l : List Span). p ∷ l) (w p.end)
+    rest None w = refl
 
 module _ (s : List ℕ) (v : Fields) (h : is_view s v ≡ true) where
-  found-viewed : (f : Found) → entry_found (found_if (is_view s v) f) ≡ f
+  found-viewed : (f : Option Span) → entry_found (found_if (is_view s v) f) ≡ f
   found-viewed f = ap (λ (b : Bool). entry_found (found_if b f)) h ∙ found_back f
 
-  told-viewed : (f : Found) → entry_refusal (found_if (is_view s v) f) ≡ []
+  told-viewed : (f : Option Span) → entry_refusal (found_if (is_view s v) f) ≡ []
   told-viewed f = ap (λ (b : Bool). entry_refusal (found_if b f)) h ∙ found-told f
 
-  held-bare : v.held.there ≡ false → held_meant s v.held ≡ none
+  held-bare : v.held.there ≡ false → held_meant s v.held ≡ None
   unfolding held_meant
-  held-bare e = ap (λ (b : Bool). cond b (some (record { key = cut s v.held.key; value = cut s v.held.value })) none) e
+  held-bare e = ap (λ (b : Bool). cond b (Some (record { key = cut s v.held.key; value = cut s v.held.value })) None) e
 
-  held-there : v.held.there ≡ true → held_meant s v.held ≡ some (record { key = record_key_bytes s v; value = record_value_bytes s v })
+  held-there : v.held.there ≡ true → held_meant s v.held ≡ Some (record { key = record_key_bytes s v; value = record_value_bytes s v })
   unfolding held_meant record_key_bytes record_value_bytes
   held-there e =
-      ap (λ (b : Bool). cond b (some (record { key = cut s v.held.key; value = cut s v.held.value })) none) e
-      ∙ ap (λ (b : Bool). some (record { key = bytes_if b s v.held.key; value = bytes_if b s v.held.value })) (sym h)
+      ap (λ (b : Bool). cond b (Some (record { key = cut s v.held.key; value = cut s v.held.value })) None) e
+      ∙ ap (λ (b : Bool). Some (record { key = bytes_if b s v.held.key; value = bytes_if b s v.held.value })) (sym h)
 
   -- a part of the record, where the view says that there is one
-  held-part : (w : Option Record → Option (List ℕ)) (p : Span) → w none ≡ none → ((r : Record) → r ≡ record { key = cut s v.held.key; value = cut s v.held.value } → w (some r) ≡ some (cut s p))
+  held-part : (w : Option Record → Option (List ℕ)) (p : Span) → w None ≡ None → ((r : Record) → r ≡ record { key = cut s v.held.key; value = cut s v.held.value } → w (Some r) ≡ Some (cut s p))
       → MayPointAt s (entry_if (is_view s v) v.held.there p) (w (held_meant s v.held))
   unfolding held_meant
   held-part w p n g = subst (λ (b : Bool). MayPointAt s (entry_if b v.held.there p) (w (held_meant s v.held))) (sym h) (go v.held.there)
     where
-      go : (b : Bool) → MayPointAt s (entry_if true b p) (w (cond b (some (record { key = cut s v.held.key; value = cut s v.held.value })) none))
+      go : (b : Bool) → MayPointAt s (entry_if true b p) (w (cond b (Some (record { key = cut s v.held.key; value = cut s v.held.value })) None))
       go true = subst (MayPointAt s (entry_if true true p)) (sym (g _ refl)) refl
       go false = subst (MayPointAt s (entry_if true false p)) (sym n) tt
 
@@ -83,10 +80,10 @@ module _ (s : List ℕ) (v : Fields) (h : is_view s v ≡ true) where
       let key-at : cut s v.key ≡ (message_of s).key = ap (λ (m : Fields). cut s m.key) w.is ∙ key-meant s in
       let held_at : held_meant s v.held ≡ (message_of s).held = ap (λ (m : Fields). held_meant s m.held) w.is ∙ held-meant s w.well in
       record {
-        kind = ap (λ (b : Bool). number_if b v.kind) h ∙ ap Is (ap (λ (m : Fields). m.kind) w.is ∙ kind-meant s);
+        kind = ap (λ (b : Bool). number_if b v.kind) h ∙ ap Ok (ap (λ (m : Fields). m.kind) w.is ∙ kind-meant s);
         key = subst (λ (b : Bool). PointsAt s (part_if b v.key) (message_of s).key) (sym h) key-at;
-        record_key = subst (λ (o : Option Record). MayPointAt s (record_key_of s v) (key_in o)) held_at (held-part key_in v.held.key refl (λ r e. ap (λ (x : Record). some x.key) e));
-        record_value = subst (λ (o : Option Record). MayPointAt s (record_value_of s v) (value_in o)) held_at (held-part value_in v.held.value refl (λ r e. ap (λ (x : Record). some x.value) e));
+        record_key = subst (λ (o : Option Record). MayPointAt s (record_key_of s v) (key_in o)) held_at (held-part key_in v.held.key refl (λ r e. ap (λ (x : Record). Some x.key) e));
+        record_value = subst (λ (o : Option Record). MayPointAt s (record_value_of s v) (value_in o)) held_at (held-part value_in v.held.value refl (λ r e. ap (λ (x : Record). Some x.value) e));
         key_cut = ap (λ (b : Bool). bytes_if b s v.key) h ∙ key-at;
         bare = λ e. sym held_at ∙ held-bare e;
         held = λ e. sym held_at ∙ held-there e;

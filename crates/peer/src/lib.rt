@@ -63,6 +63,7 @@ fn keep(addrs: &mut [u8], lens: &mut [u8], list: &[u8]) -> u8
 {
     let mut count: usize = 0;
     let mut at: usize = 0;
+    // `while`: only a usable address counts, so no range has the rounds
     while count < limits::MOST_ADDRESSES {
         let end = entry_end(list, at);
         if end == 0 {
@@ -71,12 +72,11 @@ fn keep(addrs: &mut [u8], lens: &mut [u8], list: &[u8]) -> u8
         let from = at + 2;
         let n = end - from;
         at = end;
-        if !usable_size(n) {
-            continue;
+        if usable_size(n) {
+            octets::copy(addrs, count * limits::MOST_ADDRESS, &list[from..end]);
+            lens[count] = n as u8;
+            count += 1;
         }
-        octets::copy(addrs, count * limits::MOST_ADDRESS, &list[from..end]);
-        lens[count] = n as u8;
-        count += 1;
     }
     count as u8
 }
@@ -142,17 +142,14 @@ fn keep_usable(addrs: &mut [u8], lens: &mut [u8], p: Peer) -> u8
     let rooms = p.addrs;
     let all = cut_count(p.count);
     let mut count: usize = 0;
-    let mut k: usize = 0;
-    while k < all {
+    for k in 0..all {
         let n = p.lens[k] as usize;
         let from = k * limits::MOST_ADDRESS;
-        k += 1;
-        if !usable_size(n) {
-            continue;
+        if usable_size(n) {
+            octets::copy(addrs, count * limits::MOST_ADDRESS, &rooms[from..from + n]);
+            lens[count] = n as u8;
+            count += 1;
         }
-        octets::copy(addrs, count * limits::MOST_ADDRESS, &rooms[from..from + n]);
-        lens[count] = n as u8;
-        count += 1;
     }
     count as u8
 }

@@ -3,7 +3,6 @@ use Prim.Native.Nat.{ℕ, zero, suc, ◌+◌, ◌*◌, ◌<◌}
 use mathlib.Core.Path.{◌≡◌, refl, ap, ◌∙◌}
 use mathlib.Core.List.{List, [], ◌∷◌, map, append-nil}
 use mathlib.Core.Bool.{true}
-use mathlib.Core.Option.{some}
 use native.Mathlib.Omega.{arith}
 use lib.ListN.{length, replicate, length-append}
 use lib.Dec.{leb}
@@ -16,6 +15,7 @@ use Rattle.pieces.specs.Writable.{address_fits, peer_fits, record_fits, held_fit
 use Rattle.pieces.specs.Claims.{GetValueBody, EchoBody, Claims}
 use Rattle.pieces.proofs.Sizes.{entry-most, record-entry-most, message-length, reply-most, echo-most}
 use Rattle.pieces.specs.Sizes.{most_peer, most_peer_field, most_record, most_record_field, most_echo, most_reply}
+use Rattle.std.specs.Prelude.{Some}
 
 zeros : ℕ → List ℕ
 zeros n = replicate n 0
@@ -67,9 +67,9 @@ peers-fit zero = refl
 peers-fit (suc n) = rw (peer-fits, peers-fit n)
 
 full-reply : Message
-full-reply = record { kind = 1; key = []; held = some full-record; closer = replicate 20 full-peer; providers = [] }
+full-reply = record { kind = 1; key = []; held = Some full-record; closer = replicate 20 full-peer; providers = [] }
 
-held-size : length (written (held_items (some full-record))) ≡ most_record_field
+held-size : length (written (held_items (Some full-record))) ≡ most_record_field
 unfolding held_items written
 held-size = ap length (append-nil (written1 (bytes 3 (encode_record full-record)))) ∙ record-entry
 
@@ -87,7 +87,7 @@ reply-fits = record { kind = omega arith; key = refl; held = record-fits; closer
 
 -- ---- an echo of such a record
 full-echo : Message
-full-echo = record { kind = 0; key = zeros 128; held = some full-record; closer = []; providers = [] }
+full-echo = record { kind = 0; key = zeros 128; held = Some full-record; closer = []; providers = [] }
 
 echo-key-size : length (written1 (num 1 0)) + length (written (single 2 (zeros 128))) ≡ 133
 unfolding zeros written written1 tagged minimal digits single

@@ -2,7 +2,6 @@
 use Prim.Native.Nat.{ℕ, zero, suc, ◌+◌, ◌*◌, ◌≤◌, ◌<◌}
 use mathlib.Core.Path.{◌≡◌, refl, sym, ap, ◌∙◌}
 use mathlib.Core.List.{List, [], ◌∷◌, ◌++◌, map}
-use mathlib.Core.Option.{some}
 use mathlib.Core.Logic.{⊎_elim}
 use mathlib.Core.Bool.{Bool, true, false, not, ◌&&◌, and-true}
 use native.Mathlib.Omega.{arith}
@@ -22,6 +21,7 @@ use Rattle.pieces.specs.Writable.{address_fits, peer_fits, record_fits, record_p
 use Rattle.pieces.specs.Inner.{nth, nth_bytes, nth_over, address_bytes, Fitting4}
 use Rattle.octets.proofs.Lists.{map-append}
 use Rattle.pieces.proofs.Sizes.{peer-bytes, record-bytes, fitting-record, fitting-peer, record-most, peer-most}
+use Rattle.std.specs.Prelude.{Some}
 
 -- ---- sizes of a field
 pub field-sum : (f n x y : ℕ) → x ≡ length (minimal (f * 8 + 2)) → y ≡ length (minimal n) → x + y + n ≡ length (tagged (f * 8 + 2) n) + n
@@ -284,7 +284,7 @@ module _ (id : List ℕ) (n : ℕ) (a b c d : List ℕ) (connection : ℕ) where
   peer-none e f = rw e
 
 -- ---- pieces that fit make a message
-pub record-piece : (r : Record) → record_fits r ≡ true → record_piece r ≡ written (held_items (some r))
+pub record-piece : (r : Record) → record_fits r ≡ true → record_piece r ≡ written (held_items (Some r))
 unfolding record_piece held_items
 record-piece r e = rw e (sym (written_one (bytes 3 (encode_record r))))
 

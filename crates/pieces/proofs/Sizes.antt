@@ -4,7 +4,6 @@ use mathlib.Core.Path.{◌≡◌, ap}
 use mathlib.Core.List.{List, [], ◌∷◌, ◌++◌, map, append-nil}
 use mathlib.Core.Logic.{⊎_elim}
 use mathlib.Core.Bool.{true}
-use mathlib.Core.Option.{Option, none, some}
 use native.Mathlib.Omega.{arith}
 use lib.ListN.{length, length-append}
 use borrow.Author.Tests.{leb-true}
@@ -18,6 +17,7 @@ use Rattle.wire_put.proofs.Putting.{number-length, bytes-length, single-empty, s
 use Rattle.message.specs.Message.{Peer, Record, Message, peer_items, encode_peer, record_items, encode_record, held_items, message_items, encode}
 use Rattle.pieces.specs.Writable.{address_fits, peer_fits, record_fits, held_fits}
 use Rattle.pieces.specs.Sizes.{long_field, most_peer, most_peer_field, most_record, most_record_field, most_echo, most_reply}
+use Rattle.std.specs.Prelude.{Some, None, Option}
 
 -- ---- a field
 bytes_small : (f : ℕ) (b : List ℕ) (most : ℕ) → f < 16 → length b ≤ most → most < 128 → length (written1 (bytes f b)) ≤ 2 + most
@@ -103,8 +103,8 @@ record-entry-most r e = bytes-medium 3 (encode_record r) most_record (omega arit
 
 pub held-most : (o : Option Record) → held_fits o ≡ true → length (written (held_items o)) ≤ most_record_field
 unfolding held_items held_fits written
-held-most none e = omega arith
-held-most (some r) e = rw (append-nil (written1 (bytes 3 (encode_record r)))) (record-entry-most r e)
+held-most None e = omega arith
+held-most (Some r) e = rw (append-nil (written1 (bytes 3 (encode_record r)))) (record-entry-most r e)
 
 -- ---- a message
 pub message-bytes : (m : Message)

@@ -1,10 +1,10 @@
 -- What may be written: RULES, Messages, "Limits: key 128, value 3,072, peer id 64, address 128, four addresses".
 use Rattle.std.specs.Prelude.{ℕ, List, [], ◌∷◌, Bool, true, cond, length, take, leb}
-use Rattle.std.proofs.Math.Option.{Option, none, some}
 use Rattle.octets.specs.Search.{every, all_of}
 use Rattle.limits.specs.Limits.{most_id, most_address, most_addresses, most_key, most_value, most_body, most_kind, most_connection}
 use Rattle.wire.specs.Items.{bytes, written1}
 use Rattle.message.specs.Message.{Peer, Record, Message, encode_peer, encode_record, encode}
+use Rattle.std.specs.Prelude.{Some, None, Option}
 
 unfoldable pub address_fits : List ℕ → Bool
 address_fits a = leb (length a) most_address
@@ -17,8 +17,8 @@ unfoldable pub record_fits : Record → Bool
 record_fits r = all_of (leb (length r.key) most_key ∷ leb (length r.value) most_value ∷ [])
 
 unfoldable pub held_fits : Option Record → Bool
-held_fits none = true
-held_fits (some r) = record_fits r
+held_fits None = true
+held_fits (Some r) = record_fits r
 
 unfoldable pub writable : Message → Bool
 writable m =

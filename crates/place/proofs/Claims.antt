@@ -1,14 +1,14 @@
 -- The claims of specs/Claims.antt. Assumes nothing.
 use Prim.Native.Nat.{ℕ, ◌<◌}
-use mathlib.Core.Path.{◌≡◌, refl, sym, ap, ◌∙◌}
+use mathlib.Core.Path.{◌≡◌, sym, ap, ◌∙◌}
 use mathlib.Core.Logic.{◌⊎◌, ⊎_elim}
-use mathlib.Core.Bool.{Bool, true, false, not, ◌&&◌}
+use mathlib.Core.Bool.{true, false, not}
 use mathlib.Core.List.{List}
 use native.Mathlib.Omega.{arith}
 use lib.Dec.{ltb}
 use lib.ListN.{length}
 use borrow.Author.Tests.{eqb-true, lt-ltb, le-ltb}
-use Rattle.octets.proofs.Bools.{either, and_l, and_r, and_i, to-false, eq-or-ne}
+use Rattle.octets.proofs.Bools.{and_l, and_r, and_i, to-false, eq-or-ne}
 use Rattle.place.specs.Place.{is_place, distance, nearer_to, bucket_of}
 use Rattle.place.specs.Claims.{Place, Claims}
 use Rattle.place.proofs.Places.{bytes-place_of, is_place-place_of}

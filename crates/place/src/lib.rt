@@ -15,15 +15,13 @@ fn nearer_place(target: &[u8], a: &[u8], b: &[u8]) -> bool
     requires { (length target.now ≡ 32) × (length a.now ≡ 32) × (length b.now ≡ 32) }
     ensures { result ≡ ltb (distance a.now target.now) (distance b.now target.now) }
 {
-    let mut i: usize = 0;
-    while i < 32 {
+    for i in (0..32).step_by(8) {
         let t = octets::word(target, i);
         let x = octets::word(a, i) ^ t;
         let y = octets::word(b, i) ^ t;
         if x != y {
             return x < y;
         }
-        i += 8;
     }
     false
 }
@@ -49,13 +47,11 @@ fn shared_bits(p: &[u8], ours: &[u8]) -> usize
     requires { (length p.now ≡ 32) × (length ours.now ≡ 32) }
     ensures { result ≡ common (bits p.now) (bits ours.now) }
 {
-    let mut i: usize = 0;
-    while i < 32 {
+    for i in (0..32).step_by(8) {
         let x = octets::word(p, i) ^ octets::word(ours, i);
         if x != 0 {
             return i * 8 + (u64::leading_zeros(x) as usize);
         }
-        i += 8;
     }
     256
 }

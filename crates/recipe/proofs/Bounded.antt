@@ -1,7 +1,7 @@
 -- How long a recipe may be, and what is asked of it format by format. Assumes nothing.
 use Prim.Native.Nat.{ℕ, zero, suc, ◌+◌, ◌-◌, ◌/◌, ◌%◌, ◌≤◌}
 use mathlib.Core.Path.{◌≡◌, refl, sym, ap, ◌∙◌, subst}
-use mathlib.Core.Logic.{◌⊎◌, ⊎_elim}
+use mathlib.Core.Logic.{⊎_elim}
 use mathlib.Core.Bool.{Bool, true, false, cond, ◌&&◌, ◌||◌}
 use mathlib.Core.List.{List, [], ◌∷◌, ◌++◌}
 use native.Mathlib.Omega.{arith}
@@ -9,14 +9,15 @@ use lib.ListN.{length, drop, replicate}
 use lib.Dec.{ltb, leb, eqb}
 use lib.IntN.{ℤ}
 use borrow.Author.Tests.{le-leb, leb-true, eq-eqb, eqb-true}
+use Rattle.std.specs.Prelude.{Option, Some, None}
 use Rattle.octets.specs.Octets.{part, little_number}
 use Rattle.octets.specs.Search.{all_of}
 use Rattle.octets.proofs.Bools.{same_way, not-both, to-false, and_l, and_r, and_i, or-e, or_l, or_r, all-on, all_none, all_head, all_rest}
 use Rattle.limits.specs.Limits.{most_value}
 use Rattle.recipe.specs.Limits.{trailer_size, format_one, format_two}
 use Rattle.recipe.specs.declared.Point.{Point}
-use Rattle.recipe.specs.declared.Point.TheVariants.{Is as p_is, Broken as p_broken}
-use Rattle.recipe.specs.Recipe.{Setpoint, Setpoints, These, NoList, on_point, trim_of, zigzag_of, continued, varint, point, and_then, setpoints, in_range, no_leap, follows, rules, ruled, is_list}
+use Rattle.recipe.specs.Recipe.{Setpoints, These, NoList, on_point, trim_of, zigzag_of, continued, varint, point, and_then, setpoints, in_range, no_leap, follows, rules, ruled, is_list}
+use Rattle.recipe.specs.declared.Setpoint.{Setpoint}
 use Rattle.recipe.specs.Recipe.{from_end, distance_of, count_of, format_of, trailer_of, core_distance_of, core_count_of, pad_of, list_fills, Bounds, knows, recipe_within, ours, is_recipe}
 use Rattle.recipe.specs.Claims.{Counted, LongestRecipes, format_one_kept, second_distance, second_count, format_two_kept, InNumbers, BoundsAlone, OneAlone}
 use Rattle.recipe.proofs.Trailer.{Filled, Recipe, recipe-is, is-recipe, our-recipe, our-format, is_ours, recipe-least, recipe-most}
@@ -151,10 +152,10 @@ counted zero [] ps e = ap length (sym (these-are e))
 counted zero (b ∷ s) ps e = absurd (no-list e)
 counted (suc n) s ps e = go (counted n) (point s) e
   where
-    go : ((t : List ℕ) (qs : List Setpoint) → setpoints n t ≡ These qs → length qs ≡ n) → (p : Point)
+    go : ((t : List ℕ) (qs : List Setpoint) → setpoints n t ≡ These qs → length qs ≡ n) → (p : Option Point)
         → on_point p (λ turn trim k. and_then turn trim (setpoints n (drop k s))) NoList ≡ These ps → length ps ≡ suc n
-    go h (p_is turn trim k) q = one_more n turn trim (setpoints n (drop k s)) (h (drop k s)) ps q
-    go h p_broken q = absurd (no-list q)
+    go h (Some p) q = one_more n p.turn p.trim (setpoints n (drop p.size s)) (h (drop p.size s)) ps q
+    go h None q = absurd (no-list q)
 
 -- ---- in numbers
 -- no setpoints fill no bytes

@@ -6,12 +6,13 @@ use mathlib.Core.Bool.{Bool, true, ◌&&◌}
 use mathlib.Core.List.{List, [], ◌∷◌}
 use native.Mathlib.Omega.{arith}
 use lib.ListN.{length}
+use Rattle.std.specs.Prelude.{Some, None}
 use Rattle.octets.specs.Search.{all}
 use Rattle.octets.proofs.Bools.{and_r, and_assoc, and-swap, not-both, to-false}
 use Rattle.octets.proofs.Searching.{all-at, all_first}
-use Rattle.recipe.specs.Recipe.{Setpoint, Setpoints, These, setpoints, in_range, no_leap, follows, rules, ruled, is_list, wrap_room, core_room, ours, is_recipe}
+use Rattle.recipe.specs.Recipe.{Setpoints, These, setpoints, in_range, no_leap, follows, rules, ruled, is_list, wrap_room, core_room, ours, is_recipe}
+use Rattle.recipe.specs.declared.Setpoint.{Setpoint}
 use Rattle.recipe.specs.Claims.{keeps_limits, turn_rises, trim_stays, ByNeighbours, LeapsAreRefused}
-use Rattle.recipe.specs.declared.Prev.TheVariants.{First, After}
 use Rattle.recipe.proofs.Trailer.{Recipe, our-recipe}
 
 abbrev steps : List Setpoint → ℕ → Bool
@@ -21,7 +22,7 @@ regroup : (i s l r : Bool) → (i && (s && (l && r))) ≡ ((i && l) && (s && r))
 regroup i s l r = ap (λ (b : Bool). i && b) (and-swap s l r) ∙ and_assoc i l (s && r)
 
 -- what comes after the setpoint p
-rules-after : (p : Setpoint) (qs : List Setpoint) → rules (After p.turn p.trim) qs ≡ (all (length qs) (keeps_limits qs) && all (length qs) (steps (p ∷ qs)))
+rules-after : (p : Setpoint) (qs : List Setpoint) → rules (Some p) qs ≡ (all (length qs) (keeps_limits qs) && all (length qs) (steps (p ∷ qs)))
 unfolding rules follows in_range no_leap all
 rules-after p [] = refl
 rules-after p (q ∷ qs) =
@@ -39,13 +40,13 @@ by-neighbours (q ∷ qs) =
     ∙ ap₂ ◌&&◌ (sym (all_first (keeps_limits (q ∷ qs)) (length qs))) (ap (λ (n : ℕ). all n (steps (q ∷ qs))) (sym e))
 
 -- no list that keeps the rules leaps
-kept-stays : (ps : List Setpoint) (i : ℕ) → suc i < length ps → rules First ps ≡ true → trim_stays ps i ≡ true
+kept-stays : (ps : List Setpoint) (i : ℕ) → suc i < length ps → rules None ps ≡ true → trim_stays ps i ≡ true
 kept-stays ps i l h =
     and_r (turn_rises ps i) _ (all-at (steps ps) (length ps - 1) i (and_r (all (length ps) (keeps_limits ps)) _ (sym (by-neighbours ps) ∙ h)) (omega arith))
 
 list-stays : (n : ℕ) (s : List ℕ) (ps : List Setpoint) (i : ℕ) → setpoints n s ≡ These ps → is_list n s ≡ true → suc i < length ps → trim_stays ps i ≡ true
 unfolding is_list ruled
-list-stays n s ps i e h l = kept-stays ps i l (subst (λ (x : Setpoints). ruled First x ≡ true) e h)
+list-stays n s ps i e h l = kept-stays ps i l (subst (λ (x : Setpoints). ruled None x ≡ true) e h)
 
 pub leaps-are-refused : LeapsAreRefused
 unfolding wrap_room core_room

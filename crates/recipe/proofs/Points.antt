@@ -14,37 +14,50 @@ use mir.Val.{to_z, of_z, SFits}
 use mir.ValLaws.{to_z-of_z}
 use borrow.Author.Tests.{ltb-true, ltb-false, le-leb, lt-leb, eqb-true, eqb-false}
 use Rattle.octets.proofs.Bools.{and-fails}
+use Rattle.std.specs.Prelude.{Option, Some, None}
 use Rattle.recipe.specs.Limits.{turn_max, trim_max}
 use Rattle.recipe.specs.Recipe.{trim_of, varint, on_varint, point, on_point, and_then, setpoints, in_range, rules, ruled, Setpoints, These, NoList}
+use Rattle.recipe.specs.declared.Setpoint.{Setpoint}
+use Rattle.recipe.specs.declared.Point.{Point}
 use Rattle.recipe.specs.Inner.{short, short_point}
 use Rattle.recipe.specs.Faults.{trim_in}
-use Rattle.recipe.specs.declared.Varint.{Varint}
-use Rattle.recipe.specs.declared.Varint.TheVariants.{Is, Broken}
-use Rattle.recipe.specs.declared.Point.TheVariants.{Is as p_is, Broken as p_broken}
-use Rattle.recipe.specs.declared.Prev.{Prev}
 use Rattle.recipe.proofs.Zigzag.{trim-of-even, trim-of-odd}
-use Rattle.recipe.proofs.Varints.{varint-size}
+use Rattle.recipe.proofs.Varints.{a_varint, same-value, no-varint, varint-size}
+
+-- a setpoint that is read
+abbrev pub a_point : ℕ → ℤ → ℕ → Option Point
+a_point turn trim size = Some (record { turn = turn; trim = trim; size = size })
+
+-- the setpoint that the next one comes after
+abbrev pub a_setpoint : ℕ → ℤ → Option Setpoint
+a_setpoint turn trim = Some (record { turn = turn; trim = trim })
+
+pub no-point : {a : ℕ} {t : ℤ} {k : ℕ} → None ≡ a_point a t k → ⊥
+no-point e = let z : ◌≡◌ {A = ℕ} 0 1 = cc in omega arith
+
+pub same-room : {a b : ℕ} {t u : ℤ} {k n : ℕ} → a_point a t k ≡ a_point b u n → k ≡ n
+same-room e = ap (λ (r : Option Point). on_point r (λ a t k. k) 0) e
 
 -- ---- a short varint is a varint, and what is longer is over every limit
-pub short-out : (r : Varint) {v n : ℕ} → Is v n ≡ short r → r ≡ Is v n
+pub short-out : (r : Option (ℕ × ℕ)) {v n : ℕ} → a_varint v n ≡ short r → r ≡ a_varint v n
 unfolding short
-short-out Broken e = let z : ◌≡◌ {A = ℕ} 0 1 = cc in absurd (omega arith)
-short-out (Is w k) {v} {n} e = go (ltb w 2097152) e
+short-out None e = absurd (no-varint (sym e))
+short-out (Some (w, k)) {v} {n} e = go (ltb w 2097152) e
   where
-    go : (t : Bool) → Is v n ≡ cond t (Is w k) Broken → Is w k ≡ Is v n
+    go : (t : Bool) → a_varint v n ≡ cond t (a_varint w k) None → a_varint w k ≡ a_varint v n
     go true q = sym q
-    go false q = let z : ◌≡◌ {A = ℕ} 0 1 = cc in absurd (omega arith)
+    go false q = absurd (no-varint (sym q))
 
-short-limit : (r : Varint) {v n : ℕ} → Is v n ≡ short r → v < 2097152
+short-limit : (r : Option (ℕ × ℕ)) {v n : ℕ} → a_varint v n ≡ short r → v < 2097152
 unfolding short
-short-limit Broken e = let z : ◌≡◌ {A = ℕ} 0 1 = cc in absurd (omega arith)
-short-limit (Is w k) {v} {n} e = go (ltb w 2097152) refl
+short-limit None e = absurd (no-varint (sym e))
+short-limit (Some (w, k)) {v} {n} e = go (ltb w 2097152) refl
   where
-    no : Is v n ≡ cond false (Is w k) Broken → ⊥
-    no q = let z : ◌≡◌ {A = ℕ} 0 1 = cc in omega arith
+    no : a_varint v n ≡ cond false (a_varint w k) None → ⊥
+    no q = no-varint (sym q)
 
-    yes : Is v n ≡ cond true (Is w k) Broken → v ≡ w
-    yes q = cc
+    yes : a_varint v n ≡ cond true (a_varint w k) None → v ≡ w
+    yes q = same-value q
 
     go : (t : Bool) → ltb w 2097152 ≡ t → v < 2097152
     go true q = omega (arith, ltb-true w 2097152 q, yes (rw q at e))
@@ -58,57 +71,51 @@ in-32 z h = go (eqb (z % 2) 0) refl
     go true q = rw (trim-of-even z (eqb-true (z % 2) 0 q)) (record { sfits = omega arith })
     go false q = rw (trim-of-odd z (eqb-false (z % 2) 0 q)) (record { sfits = omega arith })
 
-module _ (s : List ℕ) (at : ℕ) {r : Varint} (e : r ≡ short (varint (drop at s))) where
-  pub point-none : r ≡ Broken → p_broken ≡ short_point (drop at s)
+module _ (s : List ℕ) (at : ℕ) {r : Option (ℕ × ℕ)} (e : r ≡ short (varint (drop at s))) where
+  pub point-none : r ≡ None → None ≡ short_point (drop at s)
   unfolding short_point
   point-none b = rw (sym e ∙ b)
 
-  module _ (v n : ℕ) (b : r ≡ Is v n) where
-    turn-short : short (varint (drop at s)) ≡ Is v n
+  module _ (v n : ℕ) (b : r ≡ a_varint v n) where
+    turn-short : short (varint (drop at s)) ≡ a_varint v n
     turn-short = sym e ∙ b
 
     pub turn-size : n ≤ length s - at
     turn-size = let q : length (drop at s) ≡ length s - at = length-drop at s in omega (arith, varint-size (drop at s) v n (short-out (varint (drop at s)) (sym turn-short)))
 
-    rest : short_point (drop at s) ≡ on_varint (short (varint (drop (at + n) s))) (λ z m. p_is v (trim_of z) (n + m)) p_broken
+    rest : short_point (drop at s) ≡ on_varint (short (varint (drop (at + n) s))) (λ z m. a_point v (trim_of z) (n + m)) None
     unfolding short_point
     rest = rw (turn-short, drop-drop n at s)
 
-    module _ {q : Varint} (f : q ≡ short (varint (drop (at + n) s))) where
-      pub point-no-trim : q ≡ Broken → p_broken ≡ short_point (drop at s)
+    module _ {q : Option (ℕ × ℕ)} (f : q ≡ short (varint (drop (at + n) s))) where
+      pub point-no-trim : q ≡ None → None ≡ short_point (drop at s)
       point-no-trim g = rw (rest, sym f ∙ g)
 
-      module _ (z m : ℕ) (g : q ≡ Is z m) where
+      module _ (z m : ℕ) (g : q ≡ a_varint z m) where
         pub trim-size : m ≤ length s - (at + n)
         trim-size =
             let w : length (drop (at + n) s) ≡ length s - (at + n) = length-drop (at + n) s in
             omega (arith, varint-size (drop (at + n) s) z m (short-out (varint (drop (at + n) s)) (sym g ∙ f)))
 
-        pub point-whole : {t : ℤ} → t ≡ trim_of z → p_is v (to_z w32 (of_z w32 t)) (n + m) ≡ short_point (drop at s)
+        pub point-whole : {t : ℤ} → t ≡ trim_of z → a_point v (to_z w32 (of_z w32 t)) (n + m) ≡ short_point (drop at s)
         point-whole {t} h =
             let k : to_z w32 (of_z w32 t) ≡ trim_of z = ap (λ (x : ℤ). to_z w32 (of_z w32 x)) h ∙ to_z-of_z w32 (trim_of z) (in-32 z (short-limit (varint (drop (at + n) s)) (sym g ∙ f))) in
             rw (k, rest, sym f ∙ g)
 
 -- it lies inside
-pub point-size : (l : List ℕ) {a : ℕ} {t : ℤ} {k : ℕ} → short_point l ≡ p_is a t k → k ≤ length l
+pub point-size : (l : List ℕ) {a : ℕ} {t : ℤ} {k : ℕ} → short_point l ≡ a_point a t k → k ≤ length l
 unfolding short_point
 point-size l {a} {t} {k} e = turn (short (varint l)) refl e
   where
-    none : p_broken ≡ p_is a t k → ⊥
-    none q = let z : ◌≡◌ {A = ℕ} 0 1 = cc in omega arith
-
-    size : (v n z m : ℕ) → p_is v (trim_of z) (n + m) ≡ p_is a t k → n + m ≡ k
-    size v n z m q = cc
-
-    trim : (v n : ℕ) → n ≤ length l → (r : Varint) → short (varint (drop n l)) ≡ r → on_varint r (λ z m. p_is v (trim_of z) (n + m)) p_broken ≡ p_is a t k → k ≤ length l
-    trim v n h Broken f q = absurd (none q)
-    trim v n h (Is z m) f q =
+    trim : (v n : ℕ) → n ≤ length l → (r : Option (ℕ × ℕ)) → short (varint (drop n l)) ≡ r → on_varint r (λ z m. a_point v (trim_of z) (n + m)) None ≡ a_point a t k → k ≤ length l
+    trim v n h None f q = absurd (no-point q)
+    trim v n h (Some (z, m)) f q =
         let d : length (drop n l) ≡ length l - n = length-drop n l in
-        omega (arith, varint-size (drop n l) z m (short-out (varint (drop n l)) (sym f)), size v n z m q)
+        omega (arith, varint-size (drop n l) z m (short-out (varint (drop n l)) (sym f)), same-room q)
 
-    turn : (r : Varint) → short (varint l) ≡ r → on_varint r (λ v n. on_varint (short (varint (drop n l))) (λ z m. p_is v (trim_of z) (n + m)) p_broken) p_broken ≡ p_is a t k → k ≤ length l
-    turn Broken f q = absurd (none q)
-    turn (Is v n) f q = trim v n (varint-size l v n (short-out (varint l) (sym f))) (short (varint (drop n l))) refl q
+    turn : (r : Option (ℕ × ℕ)) → short (varint l) ≡ r → on_varint r (λ v n. on_varint (short (varint (drop n l))) (λ z m. a_point v (trim_of z) (n + m)) None) None ≡ a_point a t k → k ≤ length l
+    turn None f q = absurd (no-point q)
+    turn (Some (v, n)) f q = trim v n (varint-size l v n (short-out (varint l) (sym f))) (short (varint (drop n l))) refl q
 
 -- ---- the limits of one setpoint
 pub range-turn : (turn : ℕ) (t : ℤ) → turn_max < turn → in_range turn t ≡ false
@@ -135,43 +142,43 @@ trim-above (pos n) h = refl
 trim-above (negsuc n) h = rw (le-leb n (trim_max - 1) (ltb-false (trim_max - 1) n h))
 
 -- ---- short setpoints and setpoints: a short one is what `point` reads, and where there is none, no list goes on that keeps the rules
-ruled-not : (p : Prev) (a : ℕ) (t : ℤ) (x : Setpoints) → in_range a t ≡ false → ruled p (and_then a t x) ≡ false
+ruled-not : (p : Option Setpoint) (a : ℕ) (t : ℤ) (x : Setpoints) → in_range a t ≡ false → ruled p (and_then a t x) ≡ false
 unfolding ruled and_then rules
 ruled-not p a t NoList g = refl
 ruled-not p a t (These ps) g = rw g
 
-module _ (p : Prev) (n : ℕ) (l : List ℕ) where
+module _ (p : Option Setpoint) (n : ℕ) (l : List ℕ) where
   abbrev onward : ℕ → ℤ → ℕ → Setpoints
   onward turn trim k = and_then turn trim (setpoints n (drop k l))
 
   -- a varint that isn't short is over every limit
-  trim-over : (v m : ℕ) (r : Varint) → short r ≡ Broken → ruled p (on_point (on_varint r (λ z k. p_is v (trim_of z) (m + k)) p_broken) onward NoList) ≡ false
+  trim-over : (v m : ℕ) (r : Option (ℕ × ℕ)) → short r ≡ None → ruled p (on_point (on_varint r (λ z k. a_point v (trim_of z) (m + k)) None) onward NoList) ≡ false
   unfolding short ruled
-  trim-over v m Broken e = refl
-  trim-over v m (Is z k) e = go (ltb z 2097152) refl
+  trim-over v m None e = refl
+  trim-over v m (Some (z, k)) e = go (ltb z 2097152) refl
     where
-      no : cond true (Is z k) Broken ≡ Broken → ⊥
-      no q = let y : ◌≡◌ {A = ℕ} 0 1 = cc in omega arith
+      no : cond true (a_varint z k) None ≡ None → ⊥
+      no q = no-varint (sym q)
 
       go : (t : Bool) → ltb z 2097152 ≡ t → ruled p (onward v (trim_of z) (m + k)) ≡ false
       go true q = absurd (no (rw q at e))
       go false q = ruled-not p v (trim_of z) (setpoints n (drop (m + k) l)) (range-trim v z (omega (arith, ltb-false z 2097152 q)))
 
-  turn-out : (v m : ℕ) (r : Varint) → turn_max < v → ruled p (on_point (on_varint r (λ z k. p_is v (trim_of z) (m + k)) p_broken) onward NoList) ≡ false
+  turn-out : (v m : ℕ) (r : Option (ℕ × ℕ)) → turn_max < v → ruled p (on_point (on_varint r (λ z k. a_point v (trim_of z) (m + k)) None) onward NoList) ≡ false
   unfolding ruled
-  turn-out v m Broken h = refl
-  turn-out v m (Is z k) h = ruled-not p v (trim_of z) (setpoints n (drop (m + k) l)) (range-turn v (trim_of z) h)
+  turn-out v m None h = refl
+  turn-out v m (Some (z, k)) h = ruled-not p v (trim_of z) (setpoints n (drop (m + k) l)) (range-turn v (trim_of z) h)
 
-  turn-over : (r : Varint) → short r ≡ Broken
-      → ruled p (on_point (on_varint r (λ v m. on_varint (varint (drop m l)) (λ z k. p_is v (trim_of z) (m + k)) p_broken) p_broken) onward NoList) ≡ false
+  turn-over : (r : Option (ℕ × ℕ)) → short r ≡ None
+      → ruled p (on_point (on_varint r (λ v m. on_varint (varint (drop m l)) (λ z k. a_point v (trim_of z) (m + k)) None) None) onward NoList) ≡ false
   unfolding short ruled
-  turn-over Broken e = refl
-  turn-over (Is v m) e = go (ltb v 2097152) refl
+  turn-over None e = refl
+  turn-over (Some (v, m)) e = go (ltb v 2097152) refl
     where
-      no : cond true (Is v m) Broken ≡ Broken → ⊥
-      no q = let y : ◌≡◌ {A = ℕ} 0 1 = cc in omega arith
+      no : cond true (a_varint v m) None ≡ None → ⊥
+      no q = no-varint (sym q)
 
-      go : (t : Bool) → ltb v 2097152 ≡ t → ruled p (on_point (on_varint (varint (drop m l)) (λ z k. p_is v (trim_of z) (m + k)) p_broken) onward NoList) ≡ false
+      go : (t : Bool) → ltb v 2097152 ≡ t → ruled p (on_point (on_varint (varint (drop m l)) (λ z k. a_point v (trim_of z) (m + k)) None) onward NoList) ≡ false
       go true q = absurd (no (rw q at e))
       go false q = turn-out v m (varint (drop m l)) (omega (arith, ltb-false v 2097152 q))
 
@@ -182,30 +189,27 @@ module _ (p : Prev) (n : ℕ) (l : List ℕ) where
   unfolding setpoints point short_point
   short-step = turn (short (varint l)) refl
     where
-      trim : (v m : ℕ) (r : Varint) → short (varint (drop m l)) ≡ r
-          → ruled p (on_point (on_varint (varint (drop m l)) (λ z k. p_is v (trim_of z) (m + k)) p_broken) onward NoList) ≡ on_point (on_varint r (λ z k. p_is v (trim_of z) (m + k)) p_broken) judged false
-      trim v m Broken e = trim-over v m (varint (drop m l)) e
-      trim v m (Is z k) e = rw (short-out (varint (drop m l)) (sym e))
+      trim : (v m : ℕ) (r : Option (ℕ × ℕ)) → short (varint (drop m l)) ≡ r
+          → ruled p (on_point (on_varint (varint (drop m l)) (λ z k. a_point v (trim_of z) (m + k)) None) onward NoList) ≡ on_point (on_varint r (λ z k. a_point v (trim_of z) (m + k)) None) judged false
+      trim v m None e = trim-over v m (varint (drop m l)) e
+      trim v m (Some (z, k)) e = rw (short-out (varint (drop m l)) (sym e))
 
-      turn : (r : Varint) → short (varint l) ≡ r
-          → ruled p (on_point (on_varint (varint l) (λ v m. on_varint (varint (drop m l)) (λ z k. p_is v (trim_of z) (m + k)) p_broken) p_broken) onward NoList)
-          ≡ on_point (on_varint (short (varint l)) (λ v m. on_varint (short (varint (drop m l))) (λ z k. p_is v (trim_of z) (m + k)) p_broken) p_broken) judged false
-      turn Broken e = rw e (turn-over (varint l) e)
-      turn (Is v m) e = rw (e, short-out (varint l) (sym e)) (trim v m (short (varint (drop m l))) refl)
+      turn : (r : Option (ℕ × ℕ)) → short (varint l) ≡ r
+          → ruled p (on_point (on_varint (varint l) (λ v m. on_varint (varint (drop m l)) (λ z k. a_point v (trim_of z) (m + k)) None) None) onward NoList)
+          ≡ on_point (on_varint (short (varint l)) (λ v m. on_varint (short (varint (drop m l))) (λ z k. a_point v (trim_of z) (m + k)) None) None) judged false
+      turn None e = rw e (turn-over (varint l) e)
+      turn (Some (v, m)) e = rw (e, short-out (varint l) (sym e)) (trim v m (short (varint (drop m l))) refl)
 
 -- a short setpoint is the one that `point` reads
-pub short-point : (l : List ℕ) {a : ℕ} {t : ℤ} {k : ℕ} → short_point l ≡ p_is a t k → point l ≡ p_is a t k
+pub short-point : (l : List ℕ) {a : ℕ} {t : ℤ} {k : ℕ} → short_point l ≡ a_point a t k → point l ≡ a_point a t k
 unfolding point short_point
 short-point l {a} {t} {k} e = turn (short (varint l)) refl
   where
-    none : p_broken ≡ p_is a t k → ⊥
-    none q = let z : ◌≡◌ {A = ℕ} 0 1 = cc in omega arith
+    trim : (v m : ℕ) (r : Option (ℕ × ℕ)) → short (varint (drop m l)) ≡ r → on_varint r (λ z n. a_point v (trim_of z) (m + n)) None ≡ a_point a t k
+        → on_varint (varint (drop m l)) (λ z n. a_point v (trim_of z) (m + n)) None ≡ a_point a t k
+    trim v m None f q = absurd (no-point q)
+    trim v m (Some (z, n)) f q = rw (short-out (varint (drop m l)) (sym f)) q
 
-    trim : (v m : ℕ) (r : Varint) → short (varint (drop m l)) ≡ r → on_varint r (λ z n. p_is v (trim_of z) (m + n)) p_broken ≡ p_is a t k
-        → on_varint (varint (drop m l)) (λ z n. p_is v (trim_of z) (m + n)) p_broken ≡ p_is a t k
-    trim v m Broken f q = absurd (none q)
-    trim v m (Is z n) f q = rw (short-out (varint (drop m l)) (sym f)) q
-
-    turn : (r : Varint) → short (varint l) ≡ r → on_varint (varint l) (λ v m. on_varint (varint (drop m l)) (λ z n. p_is v (trim_of z) (m + n)) p_broken) p_broken ≡ p_is a t k
-    turn Broken f = absurd (none (rw f at e))
-    turn (Is v m) f = rw (short-out (varint l) (sym f)) (trim v m (short (varint (drop m l))) refl (rw f at e))
+    turn : (r : Option (ℕ × ℕ)) → short (varint l) ≡ r → on_varint (varint l) (λ v m. on_varint (varint (drop m l)) (λ z n. a_point v (trim_of z) (m + n)) None) None ≡ a_point a t k
+    turn None f = absurd (no-point (rw f at e))
+    turn (Some (v, m)) f = rw (short-out (varint l) (sym f)) (trim v m (short (varint (drop m l))) refl (rw f at e))

@@ -1,14 +1,13 @@
 -- Laws of a whole value: the numbers of its trailer, and the facts that make it a recipe. Assumes nothing.
 use Prim.Native.Nat.{ℕ, ◌+◌, ◌-◌, ◌*◌, ◌^◌, ◌≤◌, ◌<◌}
-use mathlib.Core.Path.{◌≡◌, sym, ap, ◌∙◌}
+use mathlib.Core.Path.{◌≡◌, sym, ap, subst, ◌∙◌}
 use mathlib.Core.Logic.{◌⊎◌, inl, inr, ⊎_elim}
-use mathlib.Core.List.{List, [], ◌∷◌}
+use mathlib.Core.List.{List, [], ◌∷◌, ◌++◌, append-nil, append_assoc}
 use mathlib.Core.Bool.{Bool, true, cond}
 use native.Mathlib.Omega.{arith}
 use native.Mathlib.Nat.{pow-le-pow_right}
-use native.Mathlib.Numerals.{add-one}
-use lib.ListN.{length, get_or, drop, length-take, length-drop, drop_of_length-le}
-use lib.Seq.{drop-cons}
+use lib.ListN.{length, drop, length-take, length-drop, length-append}
+use lib.Seq.{drop-append_seam}
 use lib.Dec.{leb, eqb, lit<}
 use borrow.Author.Tests.{le-leb, eq-eqb, ne_eqb, leb-true, eqb-true}
 use Rattle.octets.specs.Octets.{Bytes, part, little_number}
@@ -20,39 +19,42 @@ use Rattle.recipe.specs.Limits.{trailer_size, format_one, format_two}
 use Rattle.recipe.specs.Recipe.{from_end, distance_of, count_of, format_of, is_two, trailer_of, core_distance_of, core_count_of, pad_of, is_list, list_fills, Bounds, knows, recipe_within, ours, is_recipe}
 
 -- ---- numbers with the lowest byte first, read from the last byte on, as `little` does
-little-end : (s : List ℕ) (i : ℕ) → length s ≤ i → little_number (drop i s) ≡ 0
+-- what is left to read, and the bytes that have been read, whose number is n
+pub record Little (s rest : List ℕ) (n : ℕ) : Type 0 where
+  pub read : List ℕ
+  pub all : s ≡ rest ++ read
+  pub is : n ≡ little_number read
+
+pub little-start : {s rest : List ℕ} → rest ≡ s → Little s rest 0
 unfolding little_number
-little-end s i h = rw (drop_of_length-le s h)
+little-start {s} e = record { read = []; all = sym (append-nil _ ∙ e); is = λ i. 0 }
 
-little_step : (s : List ℕ) (i : ℕ) → i < length s → little_number (drop i s) ≡ little_number (drop (i + 1) s) * 256 + get_or s i 0
-unfolding little_number
-little_step s i h = rw (drop-cons s i 0 h, add-one) (omega arith)
-
-pub record Little (s : List ℕ) (i n : ℕ) : Type 0 where
-  pub inside : i ≤ length s
-  pub is : n ≡ little_number (drop i s)
-
-pub little-start : (s : List ℕ) → Little s (length s) 0
-little-start s = record { inside = omega arith; is = sym (little-end s (length s) (omega arith)) }
-
-module _ (s : List ℕ) (i n : ℕ) (g : Little s i n) where
+module _ {s rest : List ℕ} {n : ℕ} (g : Little s rest n) where
   -- seven bytes leave room for one more
-  pub little-fits : Bytes s → length s ≤ 8 → 0 < i → n < 2 ^ 56
-  little-fits b h p =
-      let l : length (drop i s) ≤ 7 = simp length-drop (omega arith) in
-      omega (arith, g.is, little-lt (drop i s) (bytes_drop i s b), pow-le-pow_right {n = 256} (lit< tt) l)
+  pub little-fits : Bytes s → length s ≤ 8 → (before : List ℕ) (b : ℕ) → rest ≡ before ++ (b ∷ []) → n < 2 ^ 56
+  little-fits b h before x p =
+      let l : length s ≡ length rest + length g.read = ap length g.all ∙ length-append rest g.read in
+      let m : length rest ≡ length before + 1 = ap length p ∙ length-append before (x ∷ []) in
+      let d : drop (length rest) s ≡ g.read = ap (λ (x : List ℕ). drop (length rest) x) g.all ∙ drop-append_seam rest g.read in
+      let f : Bytes g.read = subst Bytes d (bytes_drop (length rest) s b) in
+      let k : length g.read ≤ 7 = omega arith in
+      omega (arith, g.is, little-lt g.read f, pow-le-pow_right {n = 256} (lit< tt) k)
 
-  pub little-on : 0 < i → Little s (i - 1) (n * 256 + get_or s (i - 1) 0)
-  little-on p =
-      let w : i ≤ length s = g.inside in
-      let o : i - 1 + 1 ≡ i = omega arith in
+  pub little-on : (before : List ℕ) (b : ℕ) → rest ≡ before ++ (b ∷ []) → Little s before (n * 256 + b)
+  unfolding little_number
+  little-on before b e =
       record {
-        inside = omega arith;
-        is = sym (little_step s (i - 1) (omega arith) ∙ rw (o, ← g.is));
+        read = b ∷ g.read;
+        all = g.all ∙ ap (λ (x : List ℕ). x ++ g.read) e ∙ append_assoc before (b ∷ []) g.read;
+        is = omega (arith, g.is);
       }
 
-  pub little-done : i ≤ 0 → n ≡ little_number s
-  little-done z = let o : i ≡ 0 = omega arith in g.is ∙ ap (λ (k : ℕ). little_number (drop k s)) o
+  pub little-done : length rest ≡ 0 → n ≡ little_number s
+  little-done z = g.is ∙ ap little_number (sym (go rest g.all z))
+    where
+      go : (r : List ℕ) → s ≡ r ++ g.read → length r ≡ 0 → s ≡ g.read
+      go [] e z = e
+      go (x ∷ r) e z = absurd (omega arith)
 
 -- ---- parts of a value
 -- the length of a part that the code cuts out

@@ -1,18 +1,15 @@
 -- What the rank, the zigzag form, the rules of a list, the formats and the bounds of a recipe come to: RULES, Recipes. proofs/Claims.antt shows all of it.
-use Rattle.std.specs.Prelude.{ℕ, suc, ◌-◌, ◌<◌, ◌≤◌, ◌≡◌, ◌⊎◌, Bool, true, false, not, ◌&&◌, ◌||◌, List, [], ◌∷◌, ◌++◌, length, get_or, drop, ltb, leb, eqb, ℤ, pos, negsuc, nat_abs, ◌-ℤ◌}
+use Rattle.std.specs.Prelude.{ℕ, suc, ◌-◌, ◌<◌, ◌≤◌, ◌≡◌, ◌⊎◌, Bool, true, false, not, ◌&&◌, ◌||◌, List, [], ◌∷◌, ◌++◌, length, get_or, drop, ltb, leb, eqb, ℤ, pos, negsuc, nat_abs, ◌-ℤ◌, Option, Some, None, is_ok}
 use Rattle.std.specs.Int.Signed.{le_z}
 use Rattle.octets.specs.Octets.{little_number}
 use Rattle.octets.specs.Search.{all, all_of}
-use Rattle.recipe.specs.Recipe.{trim_of, zigzag_of, point, Setpoint, These, setpoints, rules, is_list, from_end, distance_of, count_of, format_of, core_count_of, wrap_room, core_room, Bounds, recipe_within, is_recipe, outranks}
+use Rattle.recipe.specs.Recipe.{trim_of, zigzag_of, point, These, setpoints, rules, is_list, from_end, distance_of, count_of, format_of, core_count_of, wrap_room, core_room, Bounds, recipe_within, is_recipe, outranks}
+use Rattle.recipe.specs.declared.Setpoint.{Setpoint}
 use Rattle.recipe.specs.Inner.{short_point}
-use Rattle.recipe.specs.Faults.{is_good, points_fault, bytes_fault, fault_of}
-use Rattle.recipe.specs.declared.Point.TheVariants.{Is as p_is, Broken as p_broken}
-use Rattle.recipe.specs.declared.Prev.{Prev}
-use Rattle.recipe.specs.declared.Prev.TheVariants.{First, After}
+use Rattle.recipe.specs.Faults.{broken, points_fault, bytes_fault, fault_of}
 use Rattle.recipe.specs.declared.Rule.{Rule}
 use Rattle.recipe.specs.declared.Rule.TheVariants.{NoSetpoint, TurnTooHigh, TurnNotRising, TrimOutOfRange, TrimLeaps, BytesLeft}
 use Rattle.recipe.specs.declared.Part.{Part}
-use Rattle.recipe.specs.declared.Verdict.TheVariants.{Broken}
 
 -- the setpoint at a position, from 0; past the end, turn 0 with trim 0
 abbrev pub point_at : List Setpoint → ℕ → Setpoint
@@ -31,7 +28,7 @@ trim_stays ps i = leb (nat_abs ((point_at ps i).trim -ℤ (point_at ps (suc i)).
 
 -- a list keeps the rules exactly if these hold at every position
 abbrev pub ByNeighbours : Type 0
-ByNeighbours = (ps : List Setpoint) → rules First ps ≡ (all (length ps) (keeps_limits ps) && all (length ps - 1) (λ i. turn_rises ps i && trim_stays ps i))
+ByNeighbours = (ps : List Setpoint) → rules None ps ≡ (all (length ps) (keeps_limits ps) && all (length ps - 1) (λ i. turn_rises ps i && trim_stays ps i))
 
 -- "Refuse with 9 any recipe in which neighbouring trims differ by more than 5,000 millinewtons": no value whose setpoints do so, anywhere in either list, is a recipe
 abbrev pub LeapsAreRefused : Type 0
@@ -104,19 +101,19 @@ OneAlone = (b : Bounds) (v : List ℕ) → b.two ≡ false → format_of v ≡ 2
 -- ---- which rule is broken
 -- none is, exactly by a recipe
 abbrev pub NoneIsBroken : Type 0
-NoneIsBroken = (v : List ℕ) → is_good (fault_of v) ≡ is_recipe v
+NoneIsBroken = (v : List ℕ) → is_ok (fault_of v) ≡ is_recipe v
 
 -- a rule on setpoints is broken by one that comes after p, in numbers
-pub data Breaks (rule : Rule) (p : Prev) (q : Setpoint) : Type 0 where
+pub data Breaks (rule : Rule) (p : Option Setpoint) (q : Setpoint) : Type 0 where
   high : rule ≡ TurnTooHigh → 1000000 < q.turn → Breaks rule p q
-  falls : rule ≡ TurnNotRising → (last : ℕ) (before : ℤ) → p ≡ After last before → q.turn ≤ last → Breaks rule p q
+  falls : rule ≡ TurnNotRising → (last : Setpoint) → p ≡ Some last → q.turn ≤ last.turn → Breaks rule p q
   far : rule ≡ TrimOutOfRange → 20000 < nat_abs q.trim → Breaks rule p q
-  leaps : rule ≡ TrimLeaps → (last : ℕ) (before : ℤ) → p ≡ After last before → 5000 < nat_abs (before -ℤ q.trim) → Breaks rule p q
+  leaps : rule ≡ TrimLeaps → (last : Setpoint) → p ≡ Some last → 5000 < nat_abs (last.trim -ℤ q.trim) → Breaks rule p q
 
 -- what comes after setpoints
-unfoldable pub last_of : Prev → List Setpoint → Prev
+unfoldable pub last_of : Option Setpoint → List Setpoint → Option Setpoint
 last_of p [] = p
-last_of p (q ∷ qs) = last_of (After q.turn q.trim) qs
+last_of p (q ∷ qs) = last_of (Some q) qs
 
 -- which setpoint and which rule: of a list of setpoints the one that is named breaks the rule that is named, and those before it keep all
 pub record FirstBroken (part : Part) (ps : List Setpoint) (rule : Rule) (told : Part) (i : ℕ) : Type 0 where
@@ -126,22 +123,22 @@ pub record FirstBroken (part : Part) (ps : List Setpoint) (rule : Rule) (told : 
   pub after : List Setpoint
   pub list : ps ≡ before ++ (this ∷ after)
   pub place : length before ≡ i
-  pub kept : rules First before ≡ true
-  pub broken : Breaks rule (last_of First before) this
+  pub kept : rules None before ≡ true
+  pub broken : Breaks rule (last_of None before) this
 
 abbrev pub OfSetpoints : Type 0
-OfSetpoints = (part : Part) (ps : List Setpoint) (rule : Rule) (told : Part) (i : ℕ) → points_fault part 0 First ps ≡ Broken rule told i → FirstBroken part ps rule told i
+OfSetpoints = (part : Part) (ps : List Setpoint) (rule : Rule) (told : Part) (i : ℕ) → points_fault part 0 None ps ≡ broken rule told i → FirstBroken part ps rule told i
 
 -- bytes that begin with setpoints, and what follows these
 pub data Reads : List ℕ → List Setpoint → List ℕ → Type 0 where
   none : (s : List ℕ) → Reads s [] s
-  more : (s : List ℕ) (turn : ℕ) (trim : ℤ) (k : ℕ) (ps : List Setpoint) (rest : List ℕ) → point s ≡ p_is turn trim k → Reads (drop k s) ps rest
+  more : (s : List ℕ) (turn : ℕ) (trim : ℤ) (k : ℕ) (ps : List Setpoint) (rest : List ℕ) → point s ≡ Some (record { turn = turn; trim = trim; size = k }) → Reads (drop k s) ps rest
       → Reads s (record { turn = turn; trim = trim } ∷ ps) rest
 
 -- the same of bytes: what follows those that keep all rules is no setpoint of two short varints, or it is one that breaks the rule
-pub data Follows (rule : Rule) (p : Prev) (s : List ℕ) : Type 0 where
-  unread : rule ≡ NoSetpoint → short_point s ≡ p_broken → Follows rule p s
-  breaking : (q : Setpoint) (k : ℕ) → short_point s ≡ p_is q.turn q.trim k → Breaks rule p q → Follows rule p s
+pub data Follows (rule : Rule) (p : Option Setpoint) (s : List ℕ) : Type 0 where
+  unread : rule ≡ NoSetpoint → short_point s ≡ None → Follows rule p s
+  breaking : (q : Setpoint) (k : ℕ) → short_point s ≡ Some (record { turn = q.turn; trim = q.trim; size = k }) → Breaks rule p q → Follows rule p s
 
 pub record FirstInBytes (part : Part) (n : ℕ) (s : List ℕ) (rule : Rule) (told : Part) (i : ℕ) : Type 0 where
   pub there : told ≡ part
@@ -150,12 +147,12 @@ pub record FirstInBytes (part : Part) (n : ℕ) (s : List ℕ) (rule : Rule) (to
   pub rest : List ℕ
   pub reads : Reads s before rest
   pub place : length before ≡ i
-  pub kept : rules First before ≡ true
-  pub broken : Follows rule (last_of First before) rest
+  pub kept : rules None before ≡ true
+  pub broken : Follows rule (last_of None before) rest
 
 abbrev pub InBytes : Type 0
 InBytes =
-    (part : Part) (n : ℕ) (s : List ℕ) (rule : Rule) (told : Part) (i : ℕ) → bytes_fault part 0 First n s ≡ Broken rule told i
+    (part : Part) (n : ℕ) (s : List ℕ) (rule : Rule) (told : Part) (i : ℕ) → bytes_fault part 0 None n s ≡ broken rule told i
     → ((rule ≡ BytesLeft) × (told ≡ part) × (i ≡ 0)) ⊎ FirstInBytes part n s rule told i
 
 -- ---- all of it

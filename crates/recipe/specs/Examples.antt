@@ -4,10 +4,9 @@ use Rattle.octets.specs.Octets.{lower, little_number}
 use Rattle.octets.specs.Search.{all_of}
 use Rattle.recipe.specs.Recipe.{trim_of, continued, varint, point, and_then, setpoints, These, in_range, no_leap, follows, rules, ruled, is_list, distance_of, count_of, format_of, sequence_of, trailer_of, core_distance_of, core_count_of, pad_of}
 use Rattle.recipe.specs.Inner.{short, short_point}
-use Rattle.recipe.specs.Faults.{first_of, rises, trim_in, stays, setpoint_fault, bytes_fault, list_fault, lists_fault, is_known, fault_of}
+use Rattle.recipe.specs.Faults.{broken as told, first_of, rises, trim_in, stays, setpoint_fault, bytes_fault, list_fault, lists_fault, is_known, fault_of}
 use Rattle.recipe.specs.declared.Rule.TheVariants.{TooShort, UnknownFormat, PadNotZero, BadDistance, NoSetpoint, TurnNotRising, BytesLeft}
 use Rattle.recipe.specs.declared.Part.TheVariants.{Whole, Wrap, Core}
-use Rattle.recipe.specs.declared.Verdict.TheVariants.{Broken}
 use Rattle.recipe.specs.Recipe.{wrap_room, core_room, list_fills, recipe_within, is_recipe, outranks}
 
 -- turns 0 and 1, the second trim's two bytes left open: 00 00 01 .. .. 15 00 00 00 02 00 01 00 07 00 00 00 00 00 00 00
@@ -67,23 +66,23 @@ pub record Spools : Type 0 where
   pub core : setpoints (core_count_of both) (core_room both) ≡ These (record { turn = 0; trim = pos 0 } ∷ [])
   pub wrap : setpoints (count_of both) (wrap_room both) ≡ These (record { turn = 0; trim = negsuc 0 } ∷ [])
   -- "two zero bytes"
-  pub pad : (fault_of (spools 0x1C 0x01 0x01 0x00 0x1A 0x02) ≡ Broken PadNotZero Whole 0) × (fault_of (spools 0x1C 0x01 0x00 0x01 0x1A 0x02) ≡ Broken PadNotZero Whole 0)
+  pub pad : (fault_of (spools 0x1C 0x01 0x01 0x00 0x1A 0x02) ≡ told PadNotZero Whole 0) × (fault_of (spools 0x1C 0x01 0x00 0x01 0x1A 0x02) ≡ told PadNotZero Whole 0)
   -- "no distance is under 24"
-  pub under : (fault_of (spools 0x1C 0x01 0x00 0x00 0x17 0x02) ≡ Broken BadDistance Wrap 0) × (fault_of (spools 0x17 0x00 0x00 0x00 0x17 0x02) ≡ Broken BadDistance Wrap 0)
+  pub under : (fault_of (spools 0x1C 0x01 0x00 0x00 0x17 0x02) ≡ told BadDistance Wrap 0) × (fault_of (spools 0x17 0x00 0x00 0x00 0x17 0x02) ≡ told BadDistance Wrap 0)
   -- the core begins before the value, or past the wrap's beginning
-  pub past : (fault_of (spools 0x1D 0x01 0x00 0x00 0x1A 0x02) ≡ Broken BadDistance Core 0) × (fault_of (spools 0x19 0x01 0x00 0x00 0x1A 0x02) ≡ Broken BadDistance Core 0)
-      × (fault_of (spools 0x19 0x00 0x00 0x00 0x1A 0x02) ≡ Broken BadDistance Core 0)
+  pub past : (fault_of (spools 0x1D 0x01 0x00 0x00 0x1A 0x02) ≡ told BadDistance Core 0) × (fault_of (spools 0x19 0x01 0x00 0x00 0x1A 0x02) ≡ told BadDistance Core 0)
+      × (fault_of (spools 0x19 0x00 0x00 0x00 0x1A 0x02) ≡ told BadDistance Core 0)
   -- a core of two setpoints with bytes for one, and of none with bytes for one
-  pub counts : (fault_of (spools 0x1C 0x02 0x00 0x00 0x1A 0x02) ≡ Broken NoSetpoint Core 1) × (fault_of (spools 0x1C 0x00 0x00 0x00 0x1A 0x02) ≡ Broken BytesLeft Core 0)
+  pub counts : (fault_of (spools 0x1C 0x02 0x00 0x00 0x1A 0x02) ≡ told NoSetpoint Core 1) × (fault_of (spools 0x1C 0x00 0x00 0x00 0x1A 0x02) ≡ told BytesLeft Core 0)
   -- equal distances: the core is empty, and 00 00 is note
   pub empty : is_recipe (spools 0x1A 0x00 0x00 0x00 0x1A 0x02) ≡ true
-  pub other : fault_of (spools 0x1C 0x01 0x00 0x00 0x1A 0x03) ≡ Broken UnknownFormat Whole 0
+  pub other : fault_of (spools 0x1C 0x01 0x00 0x00 0x1A 0x03) ≡ told UnknownFormat Whole 0
   -- "Values need 16 or 24 bytes at least"
-  pub shortest : (is_recipe least ≡ true) × (is_recipe least_two ≡ true) × (fault_of short_two ≡ Broken TooShort Whole 0) × (fault_of [] ≡ Broken TooShort Whole 0)
+  pub shortest : (is_recipe least ≡ true) × (is_recipe least_two ≡ true) × (fault_of short_two ≡ told TooShort Whole 0) × (fault_of [] ≡ told TooShort Whole 0)
   -- each list for itself: neither turns nor trims go on from the core to the wrap
   pub each : is_recipe apart ≡ true
   -- the wrap is told before the core, and a turn before the trim beside it
-  pub first : fault_of broken ≡ Broken TurnNotRising Wrap 1
+  pub first : fault_of broken ≡ told TurnNotRising Wrap 1
   -- a box that knows format 1 alone takes what it took
   pub alone : (recipe_within (record { bytes = 3072; points = 400; two = false }) least ≡ true) × (recipe_within (record { bytes = 3072; points = 400; two = false }) least_two ≡ false)
   -- "Rank stays sequence, then bytes, across formats"

@@ -1,16 +1,12 @@
 -- When a value is a recipe, and which of two values ranks higher: RULES, Recipes.
-use Rattle.std.specs.Prelude.{ℕ, zero, suc, ◌+◌, ◌-◌, ◌*◌, ◌/◌, ◌%◌, Bool, true, false, cond, ◌&&◌, ◌||◌, List, [], ◌∷◌, length, drop, ltb, leb, eqb, ℤ, pos, negsuc, nat_abs, ◌-ℤ◌}
+use Rattle.std.specs.Prelude.{ℕ, zero, suc, ◌+◌, ◌-◌, ◌*◌, ◌/◌, ◌%◌, Bool, true, false, cond, ◌&&◌, ◌||◌, List, [], ◌∷◌, length, drop, ltb, leb, eqb, ℤ, pos, negsuc, nat_abs, ◌-ℤ◌, Option, Some, None}
 use Rattle.std.specs.Int.Signed.{le_z}
 use Rattle.octets.specs.Octets.{part, lower, little_number}
 use Rattle.octets.specs.Search.{all_of}
 use Rattle.limits.specs.Limits.{most_value, most_setpoints}
 use Rattle.recipe.specs.Limits.{trailer_size, long_trailer, format_one, format_two, turn_max, trim_max, leap_max}
-use Rattle.recipe.specs.declared.Varint.{Varint}
-use Rattle.recipe.specs.declared.Varint.TheVariants.{Is, Broken}
 use Rattle.recipe.specs.declared.Point.{Point}
-use Rattle.recipe.specs.declared.Point.TheVariants.{Is as p_is, Broken as p_broken}
-use Rattle.recipe.specs.declared.Prev.{Prev}
-use Rattle.recipe.specs.declared.Prev.TheVariants.{First, After}
+use Rattle.recipe.specs.declared.Setpoint.{Setpoint}
 
 -- ---- numbers in a setpoint
 -- zigzag form: 0, -1, 1, -2, 2 .. are 0, 1, 2, 3, 4 ..; `pos n` is n, and `negsuc n` is -(n + 1)
@@ -22,32 +18,28 @@ zigzag_of (pos n) = n * 2
 zigzag_of (negsuc n) = n * 2 + 1
 
 -- a byte with its top bit set, and the varint that goes on after it: minimal if what goes on isn't 0
-unfoldable pub continued : ℕ → Varint → Varint
-continued b (Is zero n) = Broken
-continued b (Is (suc v) n) = Is (b - 128 + 128 * suc v) (suc n)
-continued b Broken = Broken
+unfoldable pub continued : ℕ → Option (ℕ × ℕ) → Option (ℕ × ℕ)
+continued b (Some (zero, n)) = None
+continued b (Some (suc v, n)) = Some (b - 128 + 128 * suc v, suc n)
+continued b None = None
 
 -- the minimal varint that opens a byte string: its value, and its size in bytes
-unfoldable pub varint : List ℕ → Varint
-varint [] = Broken
-varint (b ∷ s) = cond (ltb b 128) (Is b 1) (continued b (varint s))
+unfoldable pub varint : List ℕ → Option (ℕ × ℕ)
+varint [] = None
+varint (b ∷ s) = cond (ltb b 128) (Some (b, 1)) (continued b (varint s))
 
-abbrev pub on_varint {ℓ} : {A : Type ℓ} → Varint → (ℕ → ℕ → A) → A → A
-on_varint (Is v n) f z = f v n
-on_varint Broken f z = z
+abbrev pub on_varint {ℓ} : {A : Type ℓ} → Option (ℕ × ℕ) → (ℕ → ℕ → A) → A → A
+on_varint (Some (v, n)) f z = f v n
+on_varint None f z = z
 
 -- ---- a list of setpoints
 -- "a minimal varint turn, .. then a trim .. in zigzag form, minimal": the setpoint that opens a byte string, and its size in bytes
-unfoldable pub point : List ℕ → Point
-point s = on_varint (varint s) (λ turn n. on_varint (varint (drop n s)) (λ z m. p_is turn (trim_of z) (n + m)) p_broken) p_broken
+unfoldable pub point : List ℕ → Option Point
+point s = on_varint (varint s) (λ turn n. on_varint (varint (drop n s)) (λ z m. Some (record { turn = turn; trim = trim_of z; size = n + m })) None) None
 
-abbrev pub on_point {ℓ} : {A : Type ℓ} → Point → (ℕ → ℤ → ℕ → A) → A → A
-on_point (p_is turn trim n) f z = f turn trim n
-on_point p_broken f z = z
-
-pub record Setpoint : Type 0 where
-  pub turn : ℕ
-  pub trim : ℤ
+abbrev pub on_point {ℓ} : {A : Type ℓ} → Option Point → (ℕ → ℤ → ℕ → A) → A → A
+on_point (Some p) f z = f p.turn p.trim p.size
+on_point None f z = z
 
 pub data Setpoints : Type 0 where
   These : List Setpoint → Setpoints
@@ -72,20 +64,20 @@ unfoldable pub no_leap : ℤ → ℤ → Bool
 no_leap a b = leb (nat_abs (a -ℤ b)) leap_max
 
 -- and for each after the one before it: turns are "strictly rising", and trims don't leap
-unfoldable pub follows : Prev → ℕ → ℤ → Bool
-follows First turn trim = true
-follows (After last before) turn trim = ltb last turn && no_leap before trim
+unfoldable pub follows : Option Setpoint → ℕ → ℤ → Bool
+follows None turn trim = true
+follows (Some last) turn trim = ltb last.turn turn && no_leap last.trim trim
 
-unfoldable pub rules : Prev → List Setpoint → Bool
+unfoldable pub rules : Option Setpoint → List Setpoint → Bool
 rules p [] = true
-rules p (q ∷ qs) = in_range q.turn q.trim && (follows p q.turn q.trim && rules (After q.turn q.trim) qs)
+rules p (q ∷ qs) = in_range q.turn q.trim && (follows p q.turn q.trim && rules (Some q) qs)
 
-unfoldable pub ruled : Prev → Setpoints → Bool
+unfoldable pub ruled : Option Setpoint → Setpoints → Bool
 ruled p (These ps) = rules p ps
 ruled p NoList = false
 
 unfoldable pub is_list : ℕ → List ℕ → Bool
-is_list n s = ruled First (setpoints n s)
+is_list n s = ruled None (setpoints n s)
 
 -- ---- the trailer, "little-endian"
 -- the bytes of a value from d before its end up to e before it

@@ -3,10 +3,8 @@
 ghost use Rattle.std.specs.Prelude.{◌≡◌, ◌+◌, ◌*◌, ◌-◌, ◌<◌, ◌≤◌, ◌^◌, length, drop};
 ghost use Rattle.octets.specs.Octets.{little_number};
 ghost use Rattle.recipe.specs.Recipe.{trim_of, zigzag_of, varint, no_leap, from_end, distance_of, count_of, format_of, sequence_of, trailer_of, core_distance_of, core_count_of, pad_of, is_recipe, outranks};
-ghost use Rattle.recipe.specs.Faults.{rule_number, part_number, is_good, rises, trim_in, stays, setpoint_fault, bytes_fault, list_fault, lists_fault, is_known, fault_of};
+ghost use Rattle.recipe.specs.Faults.{rule_number, part_number, broken, rises, trim_in, stays, setpoint_fault, bytes_fault, list_fault, lists_fault, is_known, fault_of};
 ghost use Rattle.recipe.specs.Inner.{short, short_point};
-ghost use Rattle.recipe.specs.declared.Prev.TheVariants.{First as pFirst};
-ghost use Rattle.recipe.specs.declared.Verdict.TheVariants.{Broken};
 
 // The limits of a recipe alone; specs/Limits.antt has the same.
 pub const TRAILER: usize = 16;
@@ -46,84 +44,66 @@ pub fn zigzag_of(t: i32) -> u32
     h * 2
 }
 
-// A varint: its value, and its size in bytes.
-#[derive(Drop)]
-pub enum Varint {
-    Is { value: u32, size: usize },
-    Broken,
-}
-
 fn wide(x: u8) -> u32
     ensures { (result ≡ x) × (result < 256) }
 {
     x as u32
 }
 
-// A minimal varint of at most three bytes: no turn and no trim within the limits has more.
-fn short_varint(s: &[u8], at: usize) -> Varint
+// A minimal varint of at most three bytes: its value, and its size in bytes. No turn and no trim within the limits has more.
+fn short_varint(s: &[u8], at: usize) -> Option<(u32, usize)>
     ensures { result ≡ short (varint (drop at s.now)) }
 {
     if s.len() <= at {
-        return Varint::Broken;
+        return None;
     }
     let a = wide(s[at]);
     if a < 128 {
-        return Varint::Is { value: a, size: 1 };
+        return Some((a, 1));
     }
     if s.len() - at <= 1 {
-        return Varint::Broken;
+        return None;
     }
     let b = wide(s[at + 1]);
     if b < 1 {
-        return Varint::Broken;
+        return None;
     }
     if b < 128 {
-        return Varint::Is {
-            value: a - 128 + 128 * b,
-            size: 2,
-        };
+        return Some((a - 128 + 128 * b, 2));
     }
     if s.len() - at <= 2 {
-        return Varint::Broken;
+        return None;
     }
     let c = wide(s[at + 2]);
     if c < 1 {
-        return Varint::Broken;
+        return None;
     }
     if c < 128 {
-        return Varint::Is {
-            value: a - 128 + 128 * (b - 128 + 128 * c),
-            size: 3,
-        };
+        return Some((a - 128 + 128 * (b - 128 + 128 * c), 3));
     }
-    Varint::Broken
+    None
 }
 
-// A setpoint, and its size in bytes.
-#[derive(Drop)]
-pub enum Point {
-    Is { turn: u32, trim: i32, size: usize },
-    Broken,
+// A setpoint as it is read: its turn, its trim, and its size in bytes.
+#[derive(Clone, Copy)]
+pub struct Point {
+    pub turn: u32,
+    pub trim: i32,
+    pub size: usize,
 }
 
 // The setpoint at a place: two minimal varints of at most three bytes each.
-pub fn point_at(s: &[u8], at: usize) -> Point
+pub fn point_at(s: &[u8], at: usize) -> Option<Point>
     ensures { result ≡ short_point (drop at s.now) }
 {
-    match short_varint(s, at) {
-        Varint::Is { value: turn, size } => match short_varint(s, at + size) {
-            Varint::Is { value, size: more } => {
-                let trim = trim_of(value);
-                Point::Is {
-                    turn,
-                    trim,
-                    size: size + more,
-                }
-            }
-            Varint::Broken => Point::Broken,
-        },
-        Varint::Broken => Point::Broken,
-    }
+    let (turn, size) = short_varint(s, at)?;
+    let (z, more) = short_varint(s, at + size)?;
+    let trim = trim_of(z);
+    Some(Point {
+        turn,
+        trim,
+        size: size + more,
+    })
 }
 
 // ---- the rules, and which of them is broken
@@ -161,6 +141,7 @@ pub enum Rule {
     BytesLeft,
 }
 
+// A function and no `From`, here and for parts, since callers and clauses of other crates go by its contract, which says each number.
 pub fn rule_number(rule: Rule) -> usize
     ensures { result ≡ rule_number rule }
 {
@@ -200,48 +181,40 @@ pub fn part_number(part: Part) -> usize
     }
 }
 
-// All rules are kept, or the first that is broken: where, and at which setpoint, from 0, if it is a rule on one.
+// The first rule that is broken: where, and at which setpoint, from 0, if it is a rule on one.
 #[derive(Clone, Copy)]
-pub enum Verdict {
-    Good,
-    Broken {
-        rule: Rule,
-        part: Part,
-        setpoint: usize,
-    },
+pub struct Breach {
+    pub rule: Rule,
+    pub part: Part,
+    pub setpoint: usize,
 }
 
-pub fn is_good(w: Verdict) -> bool
-    ensures { result ≡ is_good w }
+pub fn broken(rule: Rule, part: Part, setpoint: usize) -> Result<(), Breach>
+    ensures { result ≡ broken rule part setpoint }
 {
-    match w {
-        Verdict::Good => true,
-        Verdict::Broken {
-            rule: _,
-            part: _,
-            setpoint: _,
-        } => false,
-    }
+    Err(Breach {
+        rule,
+        part,
+        setpoint,
+    })
 }
 
 // ---- a list of setpoints
 
-// What a setpoint comes after.
+// A turn and the trim from it on.
 #[derive(Clone, Copy)]
-pub enum Prev {
-    First,
-    After { turn: u32, trim: i32 },
+pub struct Setpoint {
+    pub turn: u32,
+    pub trim: i32,
 }
 
-fn rises(p: Prev, turn: u32) -> bool
+// Whether a turn may follow the setpoint before it, where there is one.
+fn rises(p: Option<Setpoint>, turn: u32) -> bool
     ensures { result ≡ rises p turn }
 {
     match p {
-        Prev::First => true,
-        Prev::After {
-            turn: last,
-            trim: _,
-        } => last < turn,
+        None => true,
+        Some(last) => last.turn < turn,
     }
 }
 
@@ -265,30 +238,23 @@ fn no_leap(a: i32, b: i32) -> bool
     d <= LEAP_MAX
 }
 
-fn stays(p: Prev, trim: i32) -> bool
+fn stays(p: Option<Setpoint>, trim: i32) -> bool
     ensures { result ≡ stays p trim }
 {
     match p {
-        Prev::First => true,
-        Prev::After {
-            turn: _,
-            trim: before,
-        } => no_leap(before, trim),
-    }
-}
-
-pub fn broken(rule: Rule, part: Part, setpoint: usize) -> Verdict
-    ensures { result ≡ Broken rule part setpoint }
-{
-    Verdict::Broken {
-        rule,
-        part,
-        setpoint,
+        None => true,
+        Some(last) => no_leap(last.trim, trim),
     }
 }
 
 // A setpoint, the i-th of a list, after the one before it.
-pub fn setpoint_fault(part: Part, i: usize, p: Prev, turn: u32, trim: i32) -> Verdict
+pub fn setpoint_fault(
+    part: Part,
+    i: usize,
+    p: Option<Setpoint>,
+    turn: u32,
+    trim: i32,
+) -> Result<(), Breach>
     ensures { result ≡ setpoint_fault part i p turn trim }
 {
     if TURN_MAX < turn {
@@ -303,32 +269,25 @@ pub fn setpoint_fault(part: Part, i: usize, p: Prev, turn: u32, trim: i32) -> Ve
     if !stays(p, trim) {
         return broken(Rule::TrimLeaps, part, i);
     }
-    Verdict::Good
+    Ok(())
 }
 
 // So many setpoints, which have to fill a slice.
-fn bytes_fault(part: Part, s: &[u8], count: usize) -> Verdict
-    ensures { result ≡ bytes_fault part 0 pFirst count s.now }
+fn bytes_fault(part: Part, s: &[u8], count: usize) -> Result<(), Breach>
+    ensures { result ≡ bytes_fault part 0 None count s.now }
 {
-    let mut prev = Prev::First;
+    let mut prev = None;
     let mut at: usize = 0;
-    let mut i: usize = 0;
-    while i < count {
-        match point_at(s, at) {
-            Point::Is { turn, trim, size } => {
-                let w = setpoint_fault(part, i, prev, turn, trim);
-                if !is_good(w) {
-                    return w;
-                }
-                prev = Prev::After { turn, trim };
-                at += size;
-                i += 1;
-            }
-            Point::Broken => return broken(Rule::NoSetpoint, part, i),
-        }
+    for i in 0..count {
+        let Some(Point { turn, trim, size }) = point_at(s, at) else {
+            return broken(Rule::NoSetpoint, part, i);
+        };
+        setpoint_fault(part, i, prev, turn, trim)?;
+        prev = Some(Setpoint { turn, trim });
+        at += size;
     }
     if at == s.len() {
-        return Verdict::Good;
+        return Ok(());
     }
     broken(Rule::BytesLeft, part, 0)
 }
@@ -340,12 +299,9 @@ fn little(s: &[u8]) -> u64
     requires { length s.now ≤ 8 }
     ensures { result ≡ little_number s.now }
 {
-    let mut i = s.len();
     let mut n: u64 = 0;
-    while i > 0 {
-        let b = s[i - 1] as u64;
-        n = n * 256 + b;
-        i -= 1;
+    for b in s.iter().rev() {
+        n = n * 256 + *b as u64;
     }
     n
 }
@@ -441,7 +397,7 @@ fn pad(value: &[u8]) -> usize
 // ---- a recipe
 
 // A list of so many setpoints, from d before a value's end up to e before it.
-fn list_fault(part: Part, value: &[u8], count: usize, d: usize, e: usize) -> Verdict
+fn list_fault(part: Part, value: &[u8], count: usize, d: usize, e: usize) -> Result<(), Breach>
     ensures { result ≡ list_fault part count d e value.now }
 {
     let n = value.len();
@@ -460,14 +416,11 @@ fn list_fault(part: Part, value: &[u8], count: usize, d: usize, e: usize) -> Ver
 }
 
 // The wrap, which ends at the trailer, and the core, which ends where the wrap begins.
-fn lists_fault(value: &[u8], trailer: usize) -> Verdict
+fn lists_fault(value: &[u8], trailer: usize) -> Result<(), Breach>
     ensures { result ≡ lists_fault trailer value.now }
 {
     let d = distance(value);
-    let w = list_fault(Part::Wrap, value, count(value), d, trailer);
-    if !is_good(w) {
-        return w;
-    }
+    list_fault(Part::Wrap, value, count(value), d, trailer)?;
     list_fault(
         Part::Core,
         value,
@@ -487,7 +440,7 @@ pub fn is_known(format: usize) -> bool
 }
 
 // Which rule a value breaks that is no recipe.
-pub fn fault(value: &[u8]) -> Verdict
+pub fn fault(value: &[u8]) -> Result<(), Breach>
     ensures { result ≡ fault_of value.now }
 {
     let n = value.len();
@@ -515,7 +468,7 @@ pub fn fault(value: &[u8]) -> Verdict
 pub fn check(value: &[u8]) -> bool
     ensures { result ≡ is_recipe value.now }
 {
-    is_good(fault(value))
+    fault(value).is_ok()
 }
 
 // Whether a ranks higher than b.

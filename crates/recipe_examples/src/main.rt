@@ -2,6 +2,7 @@
 // The examples on recipes that aren't starred (RULES, Examples), the edges of each limit and of format 2 (RULES, Recipes), and recipes written and read: one line for each.
 ghost use Rattle.std.specs.Prelude.{◌+◌, ◌*◌, ◌<◌, ◌≤◌, length};
 
+use recipe::Breach;
 use std::io;
 use std::io::{Print, Stdout};
 
@@ -25,11 +26,9 @@ fn ask(out: Stdout, what: &[u8], yes: bool) -> io::Result<()> {
 fn put_points(buf: &mut [u8], at: usize, count: usize)
     requires { (count ≤ 401) × (at ≤ 3073) }
 {
-    let mut i: usize = 0;
-    while i < count {
+    for i in 0..count {
         let p = at + i * 3;
         octets::copy(buf, p, &[(i % 128 + 128) as u8, (i / 128 + 1) as u8, 1]);
-        i += 1;
     }
 }
 
@@ -238,7 +237,7 @@ fn shortest(out: Stdout) -> io::Result<()> {
 }
 
 // Written: two setpoints to each list, the core's trims as given.
-fn write_with(buf: &mut [u8], format: usize, before: i32, trim: i32) -> recipe_fields::Written {
+fn write_with(buf: &mut [u8], format: usize, before: i32, trim: i32) -> Result<usize, Breach> {
     recipe_fields::write(
         buf,
         format,
@@ -254,8 +253,8 @@ fn write_with(buf: &mut [u8], format: usize, before: i32, trim: i32) -> recipe_f
 // Whether so many bytes are written that are a recipe.
 fn is_written(buf: &mut [u8], format: usize, before: i32, trim: i32, length: usize) -> bool {
     match write_with(buf, format, before, trim) {
-        recipe_fields::Written::Length(n) => n == length,
-        recipe_fields::Written::Refused(_) => false,
+        Ok(n) => n == length,
+        Err(_) => false,
     }
 }
 
@@ -270,28 +269,15 @@ fn is_refused(
 ) -> bool {
     let mut buf = [0u8; 0];
     match write_with(&mut buf, format, before, trim) {
-        recipe_fields::Written::Length(_) => false,
-        recipe_fields::Written::Refused(w) => is_fault(w, rule, part, setpoint),
+        Ok(_) => false,
+        Err(w) => is_fault(w, rule, part, setpoint),
     }
 }
 
-fn is_fault(w: recipe::Verdict, rule: usize, part: usize, setpoint: usize) -> bool {
-    match w {
-        recipe::Verdict::Good => false,
-        recipe::Verdict::Broken {
-            rule: r,
-            part: p,
-            setpoint: i,
-        } => {
-            if recipe::rule_number(r) != rule {
-                return false;
-            }
-            if recipe::part_number(p) != part {
-                return false;
-            }
-            i == setpoint
-        }
-    }
+fn is_fault(w: Breach, rule: usize, part: usize, setpoint: usize) -> bool {
+    recipe::rule_number(w.rule) == rule
+        && recipe::part_number(w.part) == part
+        && w.setpoint == setpoint
 }
 
 fn writing(out: Stdout) -> io::Result<()> {
@@ -336,7 +322,7 @@ fn first_trim(value: &[u8], core: bool) -> i32 {
 
 fn reading(out: Stdout) -> io::Result<()> {
     let mut buf = [0u8; 44];
-    write_with(&mut buf, 2, -20000, -15000);
+    let _ = write_with(&mut buf, 2, -20000, -15000);
     ask(
         out,
         b"a core from -20,000 on",
@@ -348,7 +334,7 @@ fn reading(out: Stdout) -> io::Result<()> {
         first_trim(&buf, false) == 20000,
     )?;
     let mut part = [0u8; 43];
-    write_with(&mut part, 2, -20000, -15000);
+    let _ = write_with(&mut part, 2, -20000, -15000);
     ask(out, b"nothing of a part", first_trim(&part, true) == 7)
 }
 

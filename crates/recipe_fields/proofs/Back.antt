@@ -1,5 +1,5 @@
 -- Writing after reading gives the bytes. Assumes nothing.
-use Prim.Native.Nat.{ℕ, ◌+◌, ◌-◌, ◌^◌, ◌≤◌, ◌<◌}
+use Prim.Native.Nat.{ℕ, ◌-◌, ◌^◌, ◌≤◌, ◌<◌}
 use mathlib.Core.Path.{◌≡◌, refl, sym, ap, ◌∙◌}
 use mathlib.Core.Logic.{⊎_elim}
 use mathlib.Core.List.{List, [], ◌++◌}
@@ -8,6 +8,7 @@ use native.Mathlib.Omega.{arith}
 use lib.ListN.{length}
 use lib.Dec.{ltb, leb, eqb}
 use borrow.Author.Tests.{le-leb, lt-ltb, eq-eqb, ne_eqb}
+use Rattle.std.specs.Prelude.{None}
 use Rattle.octets.specs.Octets.{Bytes, little_number}
 use Rattle.octets.proofs.Bools.{all_none, all-one-more, cond_yes, cond_no}
 use Rattle.octets.proofs.Parts.{bytes-part}
@@ -15,7 +16,6 @@ use Rattle.octets.proofs.Numbers.{little-lt}
 use Rattle.limits.specs.Limits.{most_value, most_setpoints}
 use Rattle.recipe.specs.Limits.{trailer_size, long_trailer, format_one, format_two}
 use Rattle.recipe.specs.Recipe.{setpoints, rules, from_end, distance_of, count_of, format_of, sequence_of, is_two, trailer_of, core_distance_of, core_count_of, pad_of, wrap_room, core_room, ours}
-use Rattle.recipe.specs.declared.Prev.TheVariants.{First}
 use Rattle.recipe.proofs.Trailer.{Recipe, our-format}
 use Rattle.recipe_fields.specs.Fields.{Fields, fields, little_bytes, list_bytes, wrap_back, core_back, last_half, second_half, bytes_of, has_format, is_writable}
 use Rattle.recipe_fields.proofs.Numbers.{little-written}
@@ -36,11 +36,11 @@ module _ (v : List ℕ) (bs : Bytes v) (r : Recipe ours v) where
       ap (little_bytes k) h ∙ ap (λ (m : ℕ). little_bytes m (little_number (from_end d e v))) (sym (end-length v d e p q ∙ n)) ∙ little-written (from_end d e v) (bytes-end d e)
 
   -- ---- the lists
-  wrap-list : Listing First (count_of v) (wrap_room v) (setpoints (count_of v) (wrap_room v))
+  wrap-list : Listing None (count_of v) (wrap_room v) (setpoints (count_of v) (wrap_room v))
   unfolding wrap_room
   wrap-list = list_read (count_of v) (wrap_room v) (bytes-end (distance_of v) (trailer_of (format_of v))) r.wrap.list
 
-  core-list : Listing First (core_count_of v) (core_room v) (setpoints (core_count_of v) (core_room v))
+  core-list : Listing None (core_count_of v) (core_room v) (setpoints (core_count_of v) (core_room v))
   unfolding core_room
   core-list = list_read (core_count_of v) (core_room v) (bytes-end (core_distance_of v) (distance_of v)) r.core.list
 
@@ -196,11 +196,11 @@ module _ (v : List ℕ) (bs : Bytes v) (r : Recipe ours v) where
       ∙ ap (λ (x : List ℕ). from_end (length v) k v ++ x) (end-join v k d 0 (omega arith) r.core.near)
       ∙ end-join v (length v) k 0 (omega arith) r.core.far ∙ end_whole v
 
-  kept-wrap : rules First f.wrap ≡ true
+  kept-wrap : rules None f.wrap ≡ true
   unfolding fields
   kept-wrap = wrap-list.kept
 
-  kept-core : rules First f.core ≡ true
+  kept-core : rules None f.core ≡ true
   unfolding fields
   kept-core = core-list.kept
 
@@ -217,8 +217,8 @@ module _ (v : List ℕ) (bs : Bytes v) (r : Recipe ours v) where
       all-one-more (has_format f.format (length f.core)) _ format-good
       (all-one-more (leb (length f.wrap) most_setpoints) _ (le-leb (length f.wrap) most_setpoints (rw wrap-count r.wrap.few))
       (all-one-more (leb (length f.core) most_setpoints) _ (le-leb (length f.core) most_setpoints (rw core-count r.core.few))
-      (all-one-more (rules First f.wrap) _ kept-wrap
-      (all-one-more (rules First f.core) _ kept-core
+      (all-one-more (rules None f.wrap) _ kept-wrap
+      (all-one-more (rules None f.core) _ kept-core
       (all-one-more (ltb f.sequence (2 ^ 64)) _ (lt-ltb f.sequence (2 ^ 64) sequence-fits)
       (all-one-more (leb (length (bytes_of f)) most_value) _ (le-leb (length (bytes_of f)) most_value (rw read-bytes r.most)) all_none))))))
     where

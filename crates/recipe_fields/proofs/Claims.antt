@@ -1,5 +1,5 @@
 -- The claims of specs/Claims.antt. Assumes nothing.
-use Prim.Native.Nat.{ℕ, ◌-◌, ◌^◌, ◌<◌}
+use Prim.Native.Nat.{ℕ, ◌^◌, ◌<◌}
 use mathlib.Core.Path.{◌≡◌, refl, sym, ap, ◌∙◌}
 use mathlib.Core.Bool.{Bool, true, false, cond, ◌&&◌, ◌||◌}
 use mathlib.Core.List.{List, [], ◌∷◌}
@@ -9,20 +9,18 @@ use lib.Seq.{sets}
 use lib.IntN.{ℤ}
 use lib.Dec.{ltb, eqb}
 use borrow.Author.Tests.{eqb-true}
+use Rattle.std.specs.Prelude.{Result, Ok, Err, ⊤, is_ok}
 use Rattle.octets.specs.Octets.{Bytes, lower}
 use Rattle.octets.specs.Search.{all_of}
 use Rattle.octets.proofs.Bools.{not-both, cond_yes, cond_no, all_head, all_rest}
-use Rattle.recipe.specs.Recipe.{distance_of, count_of, format_of, sequence_of, trailer_of, core_distance_of, core_count_of, Bounds, recipe_within, ours, is_recipe, outranks}
-use Rattle.recipe.specs.Faults.{is_good, fault_of}
-use Rattle.recipe.specs.declared.Verdict.{Verdict}
+use Rattle.recipe.specs.Recipe.{format_of, Bounds, recipe_within, ours, is_recipe, outranks}
+use Rattle.recipe.specs.Faults.{first_of, fault_of}
+use Rattle.recipe.specs.declared.Breach.{Breach}
 use Rattle.recipe.proofs.Trailer.{recipe-is}
-use Rattle.recipe.proofs.Faults.{fault-or-recipe}
 use Rattle.recipe.proofs.Bounded.{one-alone}
 use Rattle.recipe_fields.specs.Fields.{Fields, Holds, NoRecipe, fields, fields_within, fields_of, is_read, bytes_of, is_writable}
 use Rattle.recipe_fields.specs.Places.{spans_of, turns_of, trims_of, list_of, turns_after, trims_after}
 use Rattle.recipe_fields.specs.Writing.{Given, fields_in, pairs, given_fault, written_of}
-use Rattle.recipe_fields.specs.declared.Spans.TheVariants as spans
-use Rattle.recipe_fields.specs.declared.Written.TheVariants as wrote
 use Rattle.recipe_fields.specs.Claims.{Claims}
 use Rattle.recipe_fields.proofs.Forth.{writable, is-sequence, written_read}
 use Rattle.recipe_fields.proofs.Back.{read-bytes, read-writable}
@@ -80,7 +78,7 @@ read-fields v f e = go (recipe_within ours v) refl e
     go false h q = let z : ◌≡◌ {A = ℕ} 0 1 = cc in absurd (omega arith)
     go true h q = let x : fields v ≡ f = cc in (h, x)
 
-module _ (g : Given) (h : g.sequence < 2 ^ 64) (k : is_good (given_fault g) ≡ true) where
+module _ (g : Given) (h : g.sequence < 2 ^ 64) (k : is_ok (given_fault g) ≡ true) where
   tests : all_of (eqb (length g.wrap_turns) (length g.wrap_trims) ∷ eqb (length g.core_turns) (length g.core_trims) ∷ is_writable (fields_in g) ∷ []) ≡ true
   tests = sym (writable-given g.format g.note g.wrap_turns g.wrap_trims g.core_turns g.core_trims g.sequence h) ∙ k
 
@@ -122,24 +120,18 @@ unfolding turns_after trims_after
 none-given v h core turns trims = (cond_no (is_recipe v) _ turns h, cond_no (is_recipe v) _ trims h)
 
 -- ---- a refusal tells a rule
-read-tells : (v : List ℕ) (w : Verdict) → spans_of v ≡ spans.Refused w → is_good w ≡ false
-unfolding spans_of
-read-tells v w e = go (is_recipe v) refl e
-  where
-    go : (b : Bool) → is_recipe v ≡ b
-        → cond b (spans.Recipe (format_of v) (length v - core_distance_of v) (length v - distance_of v) (length v - trailer_of (format_of v)) (core_count_of v) (count_of v) (sequence_of v)) (spans.Refused (fault_of v))
-        ≡ spans.Refused w
-        → is_good w ≡ false
-    go true h q = let z : ◌≡◌ {A = ℕ} 0 1 = cc in absurd (omega arith)
-    go false h q = let x : fault_of v ≡ w = cc in ap is_good (sym x) ∙ fault-or-recipe v ∙ h
+first-told : {A : Type 0} (w : Result ⊤ Breach) (x : A) (f : Breach) → first_of w (Ok x) ≡ Err f → w ≡ Err f
+unfolding first_of
+first-told (Ok u) x f e = absurd (let z : ◌≡◌ {A = ℕ} 0 1 = cc in omega arith)
+first-told (Err g) x f e = let z : g ≡ f = cc in ap (λ (b : Breach). Err b) z
 
-write-tells : (g : Given) (w : Verdict) → written_of g ≡ wrote.Refused w → is_good w ≡ false
+read-tells : (v : List ℕ) (f : Breach) → spans_of v ≡ Err f → fault_of v ≡ Err f
+unfolding spans_of
+read-tells v f e = first-told (fault_of v) _ f e
+
+write-tells : (g : Given) (f : Breach) → written_of g ≡ Err f → given_fault g ≡ Err f
 unfolding written_of
-write-tells g w e = go (is_good (given_fault g)) refl e
-  where
-    go : (b : Bool) → is_good (given_fault g) ≡ b → cond b (wrote.Length (length (bytes_of (fields_in g)))) (wrote.Refused (given_fault g)) ≡ wrote.Refused w → is_good w ≡ false
-    go true h q = let z : ◌≡◌ {A = ℕ} 0 1 = cc in absurd (omega arith)
-    go false h q = let x : given_fault g ≡ w = cc in ap is_good (sym x) ∙ h
+write-tells g f e = first-told (given_fault g) _ f e
 
 pub claims : Claims
 claims = record {

@@ -1,5 +1,5 @@
 -- Reading after writing gives the fields. Assumes nothing.
-use Prim.Native.Nat.{ℕ, ◌+◌, ◌^◌, ◌≤◌, ◌<◌}
+use Prim.Native.Nat.{ℕ, ◌^◌, ◌≤◌, ◌<◌}
 use mathlib.Core.Path.{◌≡◌, refl, sym, ap, ◌∙◌}
 use mathlib.Core.Logic.{◌⊎◌, inl, inr, ⊎_elim}
 use mathlib.Core.List.{List, [], ◌∷◌, ◌++◌}
@@ -8,12 +8,13 @@ use native.Mathlib.Omega.{arith}
 use lib.ListN.{length, length-append}
 use lib.Dec.{ltb, leb, eqb}
 use borrow.Author.Tests.{leb-true, ltb-true, eqb-true, eq-eqb, ne_eqb}
+use Rattle.std.specs.Prelude.{None}
 use Rattle.octets.specs.Octets.{little_number}
 use Rattle.octets.proofs.Bools.{all_head, all_rest, and_i, and_l, and_r, or-e, or_l, or_r, cond_yes, cond_no}
 use Rattle.limits.specs.Limits.{most_value, most_setpoints}
 use Rattle.recipe.specs.Limits.{format_one, format_two}
-use Rattle.recipe.specs.Recipe.{Setpoint, rules, is_list, from_end, distance_of, count_of, format_of, sequence_of, is_two, trailer_of, core_distance_of, core_count_of, pad_of, wrap_room, core_room, knows, recipe_within, ours}
-use Rattle.recipe.specs.declared.Prev.TheVariants.{First}
+use Rattle.recipe.specs.Recipe.{rules, is_list, from_end, distance_of, count_of, format_of, sequence_of, is_two, trailer_of, core_distance_of, core_count_of, pad_of, wrap_room, core_room, knows, recipe_within, ours}
+use Rattle.recipe.specs.declared.Setpoint.{Setpoint}
 use Rattle.recipe.proofs.Trailer.{is-recipe}
 use Rattle.recipe_fields.specs.Fields.{Fields, Reading, Holds, fields, fields_within, fields_of, little_bytes, list_bytes, wrap_back, core_back, last_half, second_half, bytes_of, has_format, is_writable}
 use Rattle.recipe_fields.proofs.Numbers.{little-length, little-read}
@@ -27,8 +28,8 @@ pub record Writable (f : Fields) : Type 0 where
   pub one : (f.format ≡ format_two → ⊥) → length f.core ≡ 0
   pub wrap-few : length f.wrap ≤ most_setpoints
   pub core-few : length f.core ≤ most_setpoints
-  pub wrap-kept : rules First f.wrap ≡ true
-  pub core-kept : rules First f.core ≡ true
+  pub wrap-kept : rules None f.wrap ≡ true
+  pub core-kept : rules None f.core ≡ true
   pub sequence : f.sequence < 2 ^ 64
   pub most : length (bytes_of f) ≤ most_value
 
@@ -55,10 +56,10 @@ module _ (f : Fields) where
   t7 = ltb f.sequence (2 ^ 64) ∷ t8
 
   abbrev t6 : List Bool
-  t6 = rules First f.core ∷ t7
+  t6 = rules None f.core ∷ t7
 
   abbrev t5 : List Bool
-  t5 = rules First f.wrap ∷ t6
+  t5 = rules None f.wrap ∷ t6
 
   abbrev t4 : List Bool
   t4 = leb (length f.core) most_setpoints ∷ t5
@@ -76,16 +77,16 @@ module _ (f : Fields) where
       let h₂ = all_rest has-format t3 h in
       let h₃ = all_rest (leb (length f.wrap) most_setpoints) t4 h₂ in
       let h₄ = all_rest (leb (length f.core) most_setpoints) t5 h₃ in
-      let h₅ = all_rest (rules First f.wrap) t6 h₄ in
-      let h₆ = all_rest (rules First f.core) t7 h₅ in
+      let h₅ = all_rest (rules None f.wrap) t6 h₄ in
+      let h₆ = all_rest (rules None f.core) t7 h₅ in
       let h₇ = all_rest (ltb f.sequence (2 ^ 64)) t8 h₆ in
       record {
         format = ⊎_elim (λ e. inr e) (λ e. inl e.0) h₁;
         one = λ q. ⊎_elim (λ e. absurd (q e)) (λ e. e.1) h₁;
         wrap-few = leb-true _ _ (all_head (leb (length f.wrap) most_setpoints) t4 h₂);
         core-few = leb-true _ _ (all_head (leb (length f.core) most_setpoints) t5 h₃);
-        wrap-kept = all_head (rules First f.wrap) t6 h₄;
-        core-kept = all_head (rules First f.core) t7 h₅;
+        wrap-kept = all_head (rules None f.wrap) t6 h₄;
+        core-kept = all_head (rules None f.core) t7 h₅;
         sequence = ltb-true _ _ (all_head (ltb f.sequence (2 ^ 64)) t8 h₆);
         most = leb-true _ _ (all_head (leb (length (bytes_of f)) most_value) [] h₇);
       }
@@ -284,7 +285,7 @@ module _ (f : Fields) (g : Writable f) where
   -- ---- the whole
   pub written-fields : fields v ≡ f
   unfolding fields
-  written-fields = rw (is-format, is-note, is-count, room-wrap, is-count₂, room-core, is-sequence, list_written f.wrap First g.wrap-kept, list_written f.core First g.core-kept) refl
+  written-fields = rw (is-format, is-note, is-count, room-wrap, is-count₂, room-core, is-sequence, list_written f.wrap None g.wrap-kept, list_written f.core None g.core-kept) refl
 
   wrap-there : is_list (count_of v) (wrap_room v) ≡ true
   wrap-there = rw (is-count, room-wrap) (list-good f.wrap g.wrap-kept)

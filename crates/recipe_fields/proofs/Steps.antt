@@ -2,7 +2,6 @@
 use Prim.Native.Nat.{ℕ, zero, suc, ◌+◌, ◌-◌, ◌*◌, ◌/◌, ◌%◌, ◌^◌, ◌≤◌, ◌<◌}
 use mathlib.Core.Path.{◌≡◌, refl, sym, ap, ◌∙◌}
 use mathlib.Core.List.{List, [], ◌∷◌, ◌++◌}
-use mathlib.Core.Bool.{true, false}
 use native.Mathlib.Omega.{arith}
 use native.Mathlib.Numerals.{add-one}
 use lib.ListN.{length, get_or, drop, length-append, drop_of_length-le}
@@ -12,17 +11,17 @@ use lib.Signed.{mag}
 use mir.Syntax.{w32}
 use mir.Val.{to_z, of_z}
 use mir.ValLaws.{to_z-of_z}
+use Rattle.std.specs.Prelude.{Option, None, Result, Ok, Err, ⊤, is_ok}
 use Rattle.wire.specs.Items.{minimal, Put}
 use Rattle.wire_put.proofs.Digits.{minimal-most}
 use Rattle.wire_put.proofs.Putting.{put-start, put-length, put_on, put_is}
 use Rattle.limits.specs.Limits.{most_setpoints}
-use Rattle.recipe.specs.Recipe.{Setpoint, zigzag_of}
-use Rattle.recipe.specs.Faults.{is_good, first_of, setpoint_fault, points_fault}
-use Rattle.recipe.specs.declared.Prev.{Prev}
-use Rattle.recipe.specs.declared.Prev.TheVariants.{First, After}
+use Rattle.recipe.specs.Recipe.{zigzag_of}
+use Rattle.recipe.specs.declared.Setpoint.{Setpoint}
+use Rattle.recipe.specs.Faults.{first_of, setpoint_fault, points_fault}
 use Rattle.recipe.specs.declared.Part.{Part}
-use Rattle.recipe.specs.declared.Verdict.{Verdict}
-use Rattle.recipe.specs.declared.Verdict.TheVariants.{Good}
+use Rattle.recipe.specs.declared.Breach.{Breach}
+use Rattle.recipe.proofs.Points.{a_setpoint}
 use Rattle.recipe.proofs.Faults.{stops, goes_on}
 use Rattle.recipe_fields.specs.Fields.{little_bytes, point_bytes, list_bytes}
 use Rattle.recipe_fields.specs.Writing.{pairs}
@@ -50,36 +49,36 @@ unfolding pairs
 left-on ts ms i h g = rw (drop-cons ts i 0 h, drop-cons ms i (pos 0) g, add-one i)
 
 -- ---- the loop of `points_fault`: what is left of the list is judged after p
-pub record Judged (part : Part) (ts : List ℕ) (ms : List ℤ) (p : Prev) (i : ℕ) : Type 0 where
+pub record Judged (part : Part) (ts : List ℕ) (ms : List ℤ) (p : Option Setpoint) (i : ℕ) : Type 0 where
   pub inside : i ≤ length ts
-  pub same : points_fault part i p (left ts ms i) ≡ points_fault part 0 First (pairs ts ms)
+  pub same : points_fault part i p (left ts ms i) ≡ points_fault part 0 None (pairs ts ms)
 
-pub judging : (part : Part) (ts : List ℕ) (ms : List ℤ) → Judged part ts ms First 0
+pub judging : (part : Part) (ts : List ℕ) (ms : List ℤ) → Judged part ts ms None 0
 judging part ts ms = record { inside = omega arith; same = refl }
 
-module _ (part : Part) (ts : List ℕ) (ms : List ℤ) (p : Prev) (i : ℕ) (g : Judged part ts ms p i) where
-  pub judged-all : length ts ≤ i → Good ≡ points_fault part 0 First (pairs ts ms)
+module _ (part : Part) (ts : List ℕ) (ms : List ℤ) (p : Option Setpoint) (i : ℕ) (g : Judged part ts ms p i) where
+  pub judged-all : length ts ≤ i → Ok tt ≡ points_fault part 0 None (pairs ts ms)
   unfolding points_fault
   judged-all h = sym (ap (points_fault part i p) (left_end ts ms i h)) ∙ g.same
 
-  module _ (h : i < length ts) (k : i < length ms) {m : ℤ} (e : m ≡ get_or ms i (pos 0)) {w : Verdict} (q : w ≡ setpoint_fault part i p (get_or ts i 0) m) where
-    abbrev after : Verdict
-    after = points_fault part (suc i) (After (get_or ts i 0) m) (left ts ms (i + 1))
+  module _ (h : i < length ts) (k : i < length ms) {m : ℤ} (e : m ≡ get_or ms i (pos 0)) {w : Result ⊤ Breach} (q : w ≡ setpoint_fault part i p (get_or ts i 0) m) where
+    abbrev after : Result ⊤ Breach
+    after = points_fault part (suc i) (a_setpoint (get_or ts i 0) m) (left ts ms (i + 1))
 
     split : points_fault part i p (left ts ms i) ≡ first_of (setpoint_fault part i p (get_or ts i 0) m) after
     unfolding points_fault
     split = ap (points_fault part i p) (left-on ts ms i h k) ∙ rw (sym e)
 
-    whole : first_of w after ≡ points_fault part 0 First (pairs ts ms)
-    whole = ap (λ (x : Verdict). first_of x after) q ∙ sym split ∙ g.same
+    whole : first_of w after ≡ points_fault part 0 None (pairs ts ms)
+    whole = ap (λ (x : Result ⊤ Breach). first_of x after) q ∙ sym split ∙ g.same
 
-    pub judged-stop : is_good w ≡ false → w ≡ points_fault part 0 First (pairs ts ms)
-    judged-stop z = sym (stops w after z) ∙ whole
+    pub judged-stop : {f : Breach} → w ≡ Err f → w ≡ points_fault part 0 None (pairs ts ms)
+    judged-stop z = sym (stops w after (ap is_ok z)) ∙ whole
 
-    pub judged-on : is_good w ≡ true → Judged part ts ms (After (get_or ts i 0) m) (i + 1)
+    pub judged-on : {o : ⊤} → w ≡ Ok o → Judged part ts ms (a_setpoint (get_or ts i 0) m) (i + 1)
     judged-on z =
         let j : i + 1 ≡ suc i = omega arith in
-        record { inside = omega arith; same = ap (λ (n : ℕ). points_fault part n (After (get_or ts i 0) m) (left ts ms (i + 1))) j ∙ sym (goes_on w after z) ∙ whole }
+        record { inside = omega arith; same = ap (λ (n : ℕ). points_fault part n (a_setpoint (get_or ts i 0) m) (left ts ms (i + 1))) j ∙ sym (goes_on w after (ap is_ok z)) ∙ whole }
 
 -- ---- the loop of `list_len`
 pub record Counted (ts : List ℕ) (ms : List ℤ) (n i : ℕ) : Type 0 where
@@ -98,7 +97,7 @@ module _ (ts : List ℕ) (ms : List ℤ) (n i : ℕ) (g : Counted ts ms n i) whe
       (omega (arith, g.same, z), omega (arith, g.small, g.inside))
 
   module _ (h : i < length ts) (k : i < length ms) (t z : ℕ) (et : t ≡ get_or ts i 0) (ez : z ≡ zigzag_of (get_or ms i (pos 0))) (ft : t < 2 ^ 64) (fz : z < 2 ^ 64) where
-    pub counted-on : {a b : ℕ} → a ≡ length (minimal t) → b ≡ length (minimal z) → Counted ts ms (n + a + b) (i + 1)
+    pub counted-on : {a b : ℕ} → a ≡ length (minimal t) → b ≡ length (minimal z) → Counted ts ms (n + (a + b)) (i + 1)
     unfolding list_bytes point_bytes
     counted-on {a} {b} ea eb =
         let q : length (list_bytes (left ts ms i)) ≡ length (minimal t) + length (minimal z) + length (list_bytes (left ts ms (i + 1))) =
@@ -110,10 +109,7 @@ module _ (ts : List ℕ) (ms : List ℤ) (n i : ℕ) (g : Counted ts ms n i) whe
           same = omega (arith, g.same, ea, eb, q);
         }
 
-    pub counted-first : {a : ℕ} → a ≡ length (minimal t) → length ts ≤ most_setpoints → n + a ≤ most_setpoints * 20
-    counted-first ea c = omega (arith, g.small, ea, minimal-most t ft)
-
-    pub counted-less : {a b : ℕ} → a ≡ length (minimal t) → b ≡ length (minimal z) → length ts ≤ most_setpoints → n + a + b ≤ most_setpoints * 20
+    pub counted-less : {a b : ℕ} → a ≡ length (minimal t) → b ≡ length (minimal z) → length ts ≤ most_setpoints → n + (a + b) ≤ most_setpoints * 20
     counted-less ea eb c = omega (arith, g.small, ea, eb, minimal-most t ft, minimal-most z fz)
 
 -- ---- the loops that write: whatever writes the rest writes the whole
@@ -159,6 +155,9 @@ module _ (buf₀ : List ℕ) (at : ℕ) (ts : List ℕ) (ms : List ℤ) (buf : L
       }
 
 -- ---- the loop of `put_little`
+pub little-put : (buf : List ℕ) (at n x : ℕ) → Putting buf at (little_bytes n x) buf at (little_bytes (n - 0) x)
+little-put buf at n x = let z : n - 0 ≡ n = omega arith in rw z (putting buf at (little_bytes n x))
+
 module _ (buf₀ : List ℕ) (at : ℕ) (all buf : List ℕ) (next n x : ℕ) (g : Putting buf₀ at all buf next (little_bytes n x)) where
   pub little-on : 0 < n → (b : ℕ) → b ≡ x % 256 → (buf₁ : List ℕ) (next₁ : ℕ) → Put buf next (b ∷ []) buf₁ next₁ → Putting buf₀ at all buf₁ next₁ (little_bytes (n - 1) (x / 256))
   unfolding little_bytes

@@ -10,49 +10,28 @@ use lib.IntN.{ℤ}
 use mir.Syntax.{w32}
 use mir.Val.{to_z, of_z, SFits}
 use mir.ValLaws.{to_z-of_z}
+use Rattle.std.specs.Prelude.{Option, None}
 use Rattle.octets.specs.Octets.{part}
 use Rattle.octets.proofs.Bools.{not-both, cond_yes, cond_no}
-use Rattle.recipe.specs.Recipe.{Setpoint, Setpoints, These, NoList, trim_of, varint, on_varint, point, and_then, setpoints, ruled, is_list}
+use Rattle.recipe.specs.Recipe.{Setpoints, These, NoList, and_then, setpoints, ruled, is_list}
+use Rattle.recipe.specs.declared.Setpoint.{Setpoint}
 use Rattle.recipe.specs.Recipe.{distance_of, count_of, format_of, trailer_of, core_distance_of, core_count_of, wrap_room, core_room, is_recipe}
-use Rattle.recipe.specs.Inner.{short, short_point}
-use Rattle.recipe.specs.declared.Varint.{Varint}
-use Rattle.recipe.specs.declared.Varint.TheVariants.{Is, Broken}
+use Rattle.recipe.specs.Inner.{short_point}
 use Rattle.recipe.specs.declared.Point.{Point}
-use Rattle.recipe.specs.declared.Point.TheVariants.{Is as p_is, Broken as p_broken}
-use Rattle.recipe.specs.declared.Prev.{Prev}
-use Rattle.recipe.specs.declared.Prev.TheVariants.{First, After}
-use Rattle.recipe.proofs.Points.{short-out, short-step, point-size}
+use Rattle.recipe.proofs.Points.{a_point, a_setpoint, short-step, short-point, point-size}
 use Rattle.recipe.proofs.Trailer.{our-recipe}
 use Rattle.recipe_fields.specs.Fields.{fields, listed}
 use Rattle.recipe_fields.specs.Places.{points_in, turns_of, trims_of, turns_after, trims_after}
 use Rattle.recipe_fields.proofs.Lists.{rules-tail}
 
 -- ---- one setpoint
--- a short one is what `point` reads
-short-point : (l : List ℕ) {a : ℕ} {t : ℤ} {k : ℕ} → short_point l ≡ p_is a t k → point l ≡ p_is a t k
-unfolding short_point point
-short-point l {a} {t} {k} e = turn (short (varint l)) refl e
-  where
-    none : p_broken ≡ p_is a t k → ⊥
-    none q = let z : ◌≡◌ {A = ℕ} 0 1 = cc in omega arith
-
-    trim : (v n : ℕ) (r : Varint) → short (varint (drop n l)) ≡ r → on_varint r (λ z m. p_is v (trim_of z) (n + m)) p_broken ≡ p_is a t k
-        → on_varint (varint (drop n l)) (λ z m. p_is v (trim_of z) (n + m)) p_broken ≡ p_is a t k
-    trim v n Broken f q = absurd (none q)
-    trim v n (Is z m) f q = rw (short-out (varint (drop n l)) (sym f)) q
-
-    turn : (r : Varint) → short (varint l) ≡ r → on_varint r (λ v n. on_varint (short (varint (drop n l))) (λ z m. p_is v (trim_of z) (n + m)) p_broken) p_broken ≡ p_is a t k
-        → on_varint (varint l) (λ v n. on_varint (varint (drop n l)) (λ z m. p_is v (trim_of z) (n + m)) p_broken) p_broken ≡ p_is a t k
-    turn Broken f q = absurd (none q)
-    turn (Is v n) f q = rw (short-out (varint l) (sym f)) (trim v n (short (varint (drop n l))) refl q)
-
 -- the first of a list that keeps the rules, and what is left of it
 pub record Next (a : ℕ) (t : ℤ) (l rest : List Setpoint) : Type 0 where
   pub turns : turns_of l ≡ a ∷ turns_of rest
   pub trims : trims_of l ≡ t ∷ trims_of rest
 
-module _ (p : Prev) (a : ℕ) (t : ℤ) where
-  then-kept : (x : Setpoints) → ruled p (and_then a t x) ≡ true → ruled (After a t) x ≡ true
+module _ (p : Option Setpoint) (a : ℕ) (t : ℤ) where
+  then-kept : (x : Setpoints) → ruled p (and_then a t x) ≡ true → ruled (a_setpoint a t) x ≡ true
   unfolding ruled and_then
   then-kept (These qs) h = rules-tail p (record { turn = a; trim = t }) qs h
   then-kept NoList h = h
@@ -62,16 +41,16 @@ module _ (p : Prev) (a : ℕ) (t : ℤ) where
   then_next (These qs) h = record { turns = refl; trims = refl }
   then_next NoList h = absurd (not-both false h refl)
 
-module _ (p : Prev) (n : ℕ) (l : List ℕ) (h : ruled p (setpoints (suc n) l) ≡ true) where
-  some-point : short_point l ≡ p_broken → ⊥
+module _ (p : Option Setpoint) (n : ℕ) (l : List ℕ) (h : ruled p (setpoints (suc n) l) ≡ true) where
+  some-point : short_point l ≡ None → ⊥
   some-point e = not-both false (rw e at (sym (short-step p n l) ∙ h)) refl
 
-  module _ {a : ℕ} {t : ℤ} {k : ℕ} (e : short_point l ≡ p_is a t k) where
+  module _ {a : ℕ} {t : ℤ} {k : ℕ} (e : short_point l ≡ a_point a t k) where
     first-point : setpoints (suc n) l ≡ and_then a t (setpoints n (drop k l))
     unfolding setpoints
     first-point = rw (short-point l e)
 
-    left-kept : ruled (After a t) (setpoints n (drop k l)) ≡ true
+    left-kept : ruled (a_setpoint a t) (setpoints n (drop k l)) ≡ true
     left-kept = then-kept p a t (setpoints n (drop k l)) (rw first-point at h)
 
     left-next : Next a t (points_in (suc n) l) (points_in n (drop k l))
@@ -92,7 +71,7 @@ set_next {A = A} l i {l₁} {x} {rest} e p q =
 pub record Taking (s : List ℕ) (count : ℕ) (ts₀ : List ℕ) (ms₀ : List ℤ) (ts : List ℕ) (ms : List ℤ) (at i : ℕ) : Type 0 where
   pub inside : at ≤ length s
   pub some : i ≤ count
-  pub prev : Prev
+  pub prev : Option Setpoint
   pub kept : ruled prev (setpoints (count - i) (drop at s)) ≡ true
   pub turns-long : length ts ≡ length ts₀
   pub trims-long : length ms ≡ length ms₀
@@ -103,7 +82,7 @@ pub taking : (s : List ℕ) (count : ℕ) (ts : List ℕ) (ms : List ℤ) → is
 unfolding is_list
 taking s count ts ms h =
     let e : count - 0 ≡ count = omega arith in
-    record { inside = omega arith; some = omega arith; prev = First; kept = rw e h; turns-long = refl; trims-long = refl; turns = rw e refl; trims = rw e refl }
+    record { inside = omega arith; some = omega arith; prev = None; kept = rw e h; turns-long = refl; trims-long = refl; turns = rw e refl; trims = rw e refl }
 
 module _ (s : List ℕ) (count : ℕ) (ts₀ : List ℕ) (ms₀ : List ℤ) (ts : List ℕ) (ms : List ℤ) (at i : ℕ) (g : Taking s count ts₀ ms₀ ts ms at i) where
   pub taken-all : count ≤ i → (ts ≡ sets ts₀ 0 (turns_of (points_in count s))) × (ms ≡ sets ms₀ 0 (trims_of (points_in count s)))
@@ -122,10 +101,10 @@ module _ (s : List ℕ) (count : ℕ) (ts₀ : List ℕ) (ms₀ : List ℤ) (ts 
     kept_here : ruled g.prev (setpoints (suc (count - (i + 1))) (drop at s)) ≡ true
     kept_here = rw one_more at g.kept
 
-    pub taken-some : {r : Point} → r ≡ short_point (drop at s) → r ≡ p_broken → ⊥
+    pub taken-some : {r : Option Point} → r ≡ short_point (drop at s) → r ≡ None → ⊥
     taken-some e b = some-point g.prev (count - (i + 1)) (drop at s) kept_here (sym e ∙ b)
 
-    module _ {a : ℕ} {t : ℤ} {k : ℕ} {r : Point} (e : r ≡ short_point (drop at s)) (b : r ≡ p_is a t k) where
+    module _ {a : ℕ} {t : ℤ} {k : ℕ} {r : Option Point} (e : r ≡ short_point (drop at s)) (b : r ≡ a_point a t k) where
       pub taken-size : k ≤ length s - at
       taken-size = let d : length (drop at s) ≡ length s - at = length-drop at s in omega (arith, point-size (drop at s) (sym e ∙ b))
 
@@ -140,7 +119,7 @@ module _ (s : List ℕ) (count : ℕ) (ts₀ : List ℕ) (ms₀ : List ℤ) (ts 
           record {
             inside = omega (arith, g.inside, taken-size);
             some = omega arith;
-            prev = After a t;
+            prev = a_setpoint a t;
             kept = rw (sym d) (left-kept g.prev (count - (i + 1)) (drop at s) kept_here (sym e ∙ b));
             turns-long = ap length p ∙ length-set ts i a ∙ g.turns-long;
             trims-long = ap length m ∙ length-set ms i t ∙ g.trims-long;

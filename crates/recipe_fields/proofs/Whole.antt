@@ -2,7 +2,7 @@
 use Prim.Native.Nat.{ℕ, ◌+◌, ◌≤◌}
 use mathlib.Core.Path.{◌≡◌, sym, ap, ◌∙◌}
 use mathlib.Core.List.{List, [], ◌++◌}
-use mathlib.Core.Bool.{true, false}
+use mathlib.Core.Bool.{true}
 use native.Mathlib.Omega.{arith}
 use lib.ListN.{length}
 use lib.Seq.{sets}
@@ -10,16 +10,17 @@ use lib.Dec.{eqb}
 use lib.IntN.{ℤ}
 use borrow.Author.Tests.{eq-eqb, ne_eqb}
 use Rattle.octets.proofs.Bools.{cond_yes, cond_no}
+use Rattle.std.specs.Prelude.{Result, Ok, Err, ⊤, is_ok}
 use Rattle.wire.specs.Items.{Put}
 use Rattle.wire_put.proofs.Putting.{put_on}
 use Rattle.limits.specs.Limits.{most_value}
 use Rattle.recipe.specs.Limits.{format_two}
 use Rattle.recipe.specs.Recipe.{trailer_of}
-use Rattle.recipe.specs.Faults.{is_good}
-use Rattle.recipe.specs.declared.Verdict.{Verdict}
+use Rattle.recipe.specs.Faults.{first_of}
+use Rattle.recipe.specs.declared.Breach.{Breach}
+use Rattle.recipe.proofs.Faults.{goes_on, handed-up}
 use Rattle.recipe_fields.specs.Fields.{Fields, list_bytes, wrap_back, core_back, last_bytes, second_bytes, last_half, second_half, bytes_of}
 use Rattle.recipe_fields.specs.Writing.{Given, given, pairs, fields_in, given_fault, written_of, after_of, trailer_bytes}
-use Rattle.recipe_fields.specs.declared.Written.TheVariants.{Length, Refused}
 use Rattle.recipe_fields.proofs.Sizes.{size-all}
 use Rattle.recipe_fields.proofs.Judging.{May, may, pairs-length, no-sequence}
 
@@ -37,7 +38,7 @@ module _ (format far cores near wraps sequence : ℕ) where
   trailer-one e = ap (λ (x : List ℕ). x ++ last_bytes near wraps format sequence) (sym (cond_no (eqb format format_two) (second_bytes far cores) [] (ne_eqb format format_two e)))
 
 -- ---- `write`
-module _ (format : ℕ) (note wt : List ℕ) (wm : List ℤ) (ct : List ℕ) (cm : List ℤ) (sequence : ℕ) {w : Verdict} (q : w ≡ given_fault (given format note wt wm ct cm 0)) where
+module _ (format : ℕ) (note wt : List ℕ) (wm : List ℤ) (ct : List ℕ) (cm : List ℤ) (sequence : ℕ) {w : Result ⊤ Breach} (q : w ≡ given_fault (given format note wt wm ct cm 0)) where
   abbrev g : Given
   g = given format note wt wm ct cm sequence
 
@@ -47,15 +48,19 @@ module _ (format : ℕ) (note wt : List ℕ) (wm : List ℤ) (ct : List ℕ) (cm
   told : w ≡ given_fault g
   told = q ∙ no-sequence format note wt wm ct cm sequence
 
-  pub refused : (buf : List ℕ) → is_good w ≡ false → (Refused w ≡ written_of g) × (buf ≡ after_of g buf)
-  unfolding written_of after_of
-  refused buf z =
-      let n : is_good (given_fault g) ≡ false = ap is_good (sym told) ∙ z in
-      (ap Refused told ∙ sym (cond_no (is_good (given_fault g)) (Length (length (bytes_of f))) (Refused (given_fault g)) n), sym (cond_no (is_good (given_fault g)) (sets buf 0 (bytes_of f)) buf n))
+  abbrev whole : Result ℕ Breach
+  whole = Ok (length (bytes_of f))
 
-  module _ (z : is_good w ≡ true) where
-    good : is_good (given_fault g) ≡ true
-    good = ap is_good (sym told) ∙ z
+  pub refused : (buf : List ℕ) {r : Result ℕ Breach} {y b : Breach} → r ≡ Err y → y ≡ b → w ≡ Err b → (r ≡ written_of g) × (buf ≡ after_of g buf)
+  unfolding written_of after_of
+  refused buf p e z = (
+    handed-up whole p e z ∙ ap (λ (x : Result ⊤ Breach). first_of x whole) told,
+    sym (cond_no (is_ok (given_fault g)) (sets buf 0 (bytes_of f)) buf (ap is_ok (sym told ∙ z))),
+  )
+
+  module _ {o : ⊤} (z : w ≡ Ok o) where
+    good : is_ok (given_fault g) ≡ true
+    good = ap is_ok (sym told ∙ z)
 
     pub facts : May format note wt wm ct cm sequence
     facts = may format note wt wm ct cm sequence good
@@ -80,10 +85,10 @@ module _ (format : ℕ) (note wt : List ℕ) (wm : List ℤ) (ct : List ℕ) (cm
       trailer-is = rw (far-is, near-is, pairs-length wt wm facts.wrap.even, pairs-length ct cm facts.core.even)
 
       pub all-written : {buf buf₁ buf₂ buf₃ buf₄ : List ℕ} {r₁ r₂ r₃ r₄ : ℕ} → Put buf 0 note buf₁ r₁ → Put buf₁ r₁ (list_bytes (pairs ct cm)) buf₂ r₂ → Put buf₂ r₂ (list_bytes (pairs wt wm)) buf₃ r₃
-          → Put buf₃ r₃ (trailer_bytes format (t + a + b) (length ct) (t + a) (length wt) sequence) buf₄ r₄ → (Length (length note + (t + a + b)) ≡ written_of g) × (buf₄ ≡ after_of g buf)
+          → Put buf₃ r₃ (trailer_bytes format (t + a + b) (length ct) (t + a) (length wt) sequence) buf₄ r₄ → (Ok (length note + (t + a + b)) ≡ written_of g) × (buf₄ ≡ after_of g buf)
       unfolding written_of after_of bytes_of
       all-written {buf} p u r s =
           let o = then-put p (then-put u (then-put r s)) in
           let x : note ++ (list_bytes (pairs ct cm) ++ (list_bytes (pairs wt wm) ++ trailer_bytes format (t + a + b) (length ct) (t + a) (length wt) sequence)) ≡ bytes_of f =
           ap (λ (k : List ℕ). note ++ (list_bytes (pairs ct cm) ++ (list_bytes (pairs wt wm) ++ k))) trailer-is in
-          (ap Length total ∙ sym (cond_yes (is_good (given_fault g)) (Length (length (bytes_of f))) (Refused (given_fault g)) good), o.same ∙ ap (sets buf 0) x ∙ sym (cond_yes (is_good (given_fault g)) (sets buf 0 (bytes_of f)) buf good))
+          (rw total (sym (goes_on (given_fault g) whole good)), o.same ∙ ap (sets buf 0) x ∙ sym (cond_yes (is_ok (given_fault g)) (sets buf 0 (bytes_of f)) buf good))

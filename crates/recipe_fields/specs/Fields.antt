@@ -1,12 +1,12 @@
 -- The fields of a recipe, and the way between fields and bytes: RULES, Recipes.
-use Rattle.std.specs.Prelude.{ℕ, zero, suc, ◌+◌, ◌/◌, ◌%◌, ◌^◌, List, [], ◌∷◌, ◌++◌, Bool, true, false, cond, ◌&&◌, ◌||◌, length, ltb, leb, eqb}
+use Rattle.std.specs.Prelude.{ℕ, zero, suc, ◌+◌, ◌/◌, ◌%◌, ◌^◌, List, [], ◌∷◌, ◌++◌, Bool, true, false, cond, ◌&&◌, ◌||◌, length, ltb, leb, eqb, None}
 use Rattle.octets.specs.Search.{all_of}
 use Rattle.wire.specs.Items.{minimal}
 use Rattle.limits.specs.Limits.{most_value, most_setpoints}
 use Rattle.recipe.specs.Limits.{format_one, format_two}
-use Rattle.recipe.specs.Recipe.{Setpoint, Setpoints, These, NoList, zigzag_of, setpoints, rules, from_end, count_of, format_of, sequence_of, trailer_of, core_distance_of, core_count_of, wrap_room, core_room}
+use Rattle.recipe.specs.Recipe.{Setpoints, These, NoList, zigzag_of, setpoints, rules, from_end, count_of, format_of, sequence_of, trailer_of, core_distance_of, core_count_of, wrap_room, core_room}
+use Rattle.recipe.specs.declared.Setpoint.{Setpoint}
 use Rattle.recipe.specs.Recipe.{Bounds, recipe_within, ours}
-use Rattle.recipe.specs.declared.Prev.TheVariants.{First}
 
 pub record Fields : Type 0 where
   -- 1 or 2
@@ -98,8 +98,8 @@ is_writable f =
     (has_format f.format (length f.core)
     ∷ leb (length f.wrap) most_setpoints
     ∷ leb (length f.core) most_setpoints
-    ∷ rules First f.wrap
-    ∷ rules First f.core
+    ∷ rules None f.wrap
+    ∷ rules None f.core
     ∷ ltb f.sequence (2 ^ 64)
     ∷ leb (length (bytes_of f)) most_value
     ∷ [])

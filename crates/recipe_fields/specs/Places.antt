@@ -1,36 +1,46 @@
 -- Where the fields of a recipe stand in its bytes, and its setpoints as turns and trims: RULES, Recipes.
-use Rattle.std.specs.Prelude.{ℕ, ◌-◌, List, [], ◌∷◌, Bool, cond, length, ℤ}
+use Rattle.std.specs.Prelude.{ℕ, ◌-◌, List, [], ◌∷◌, Bool, cond, length, ℤ, Result, Ok, Err}
 use Rattle.std.proofs.lemmas.List.Edits.{sets}
 use Rattle.octets.specs.Octets.{part}
-use Rattle.recipe.specs.Recipe.{Setpoint, setpoints, distance_of, count_of, format_of, sequence_of, trailer_of, core_distance_of, core_count_of, is_recipe}
-use Rattle.recipe.specs.Faults.{fault_of}
+use Rattle.recipe.specs.Recipe.{setpoints, distance_of, count_of, format_of, sequence_of, trailer_of, core_distance_of, core_count_of, is_recipe}
+use Rattle.recipe.specs.declared.Setpoint.{Setpoint}
+use Rattle.recipe.specs.Faults.{first_of, fault_of}
+use Rattle.recipe.specs.declared.Breach.{Breach}
 use Rattle.recipe_fields.specs.Fields.{Fields, fields, Reading, Holds, NoRecipe, listed}
 use Rattle.recipe_fields.specs.declared.Spans.{Spans}
-use Rattle.recipe_fields.specs.declared.Spans.TheVariants.{Recipe, Refused}
 
--- "The second list ends where the first begins, the first ends at the trailer"; of a value that is no recipe it is told why, and nothing else
-unfoldable pub spans_of : List ℕ → Spans
+-- "The second list ends where the first begins, the first ends at the trailer"; of a value that is no recipe, which is one that breaks a rule (recipe,
+-- NoneIsBroken), it is told why, and nothing else
+unfoldable pub spans_of : List ℕ → Result Spans Breach
 spans_of v =
-    cond (is_recipe v)
-    (Recipe (format_of v) (length v - core_distance_of v) (length v - distance_of v) (length v - trailer_of (format_of v)) (core_count_of v) (count_of v) (sequence_of v))
-    (Refused (fault_of v))
+    first_of (fault_of v)
+    (Ok
+    (record {
+      format = format_of v;
+      core = length v - core_distance_of v;
+      wrap = length v - distance_of v;
+      trailer = length v - trailer_of (format_of v);
+      cores = core_count_of v;
+      wraps = count_of v;
+      sequence = sequence_of v;
+    }))
 
 -- so many setpoints in bytes
 abbrev pub points_in : ℕ → List ℕ → List Setpoint
 points_in n s = listed (setpoints n s)
 
 -- the fields at their spans
-unfoldable pub fields_at : List ℕ → Spans → Reading
-fields_at v (Recipe format core wrap trailer cores wraps sequence) =
+unfoldable pub fields_at : List ℕ → Result Spans Breach → Reading
+fields_at v (Ok s) =
     Holds
     (record {
-      format = format;
-      note = part v 0 core;
-      wrap = points_in wraps (part v wrap trailer);
-      core = points_in cores (part v core wrap);
-      sequence = sequence;
+      format = s.format;
+      note = part v 0 s.core;
+      wrap = points_in s.wraps (part v s.wrap s.trailer);
+      core = points_in s.cores (part v s.core s.wrap);
+      sequence = s.sequence;
     })
-fields_at v (Refused w) = NoRecipe
+fields_at v (Err f) = NoRecipe
 
 -- ---- setpoints as numbers
 unfoldable pub turns_of : List Setpoint → List ℕ

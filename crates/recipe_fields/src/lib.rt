@@ -6,44 +6,31 @@ ghost use Rattle.limits.specs.Limits.{most_setpoints};
 ghost use Rattle.wire.specs.Items.{Put};
 ghost use Rattle.recipe.specs.Recipe.{is_list, is_recipe};
 ghost use Rattle.recipe.specs.Faults.{points_fault};
-ghost use Rattle.recipe.specs.declared.Prev.TheVariants.{First};
 ghost use Rattle.recipe_fields.specs.Fields.{little_bytes, list_bytes, last_bytes, second_bytes};
 ghost use Rattle.recipe_fields.specs.Places.{spans_of, turns_of, trims_of, points_in, turns_after, trims_after};
 ghost use Rattle.recipe_fields.specs.Writing.{pairs, given, pairs_fault, core_fits, given_fault, trailer_bytes, written_of, after_of};
 
-use recipe::{Part, Point, Prev, Rule, Verdict};
+use recipe::{Breach, Part, Point, Rule, Setpoint};
 
 // Where the fields of a recipe stand in its bytes: the note up to the core, the core up to the wrap, the wrap up to the trailer; and how many setpoints the lists have.
-#[derive(Drop)]
-pub enum Spans {
-    Recipe {
-        format: usize,
-        core: usize,
-        wrap: usize,
-        trailer: usize,
-        cores: usize,
-        wraps: usize,
-        sequence: u64,
-    },
-    Refused(Verdict),
-}
-
-// What the writer answers: how many bytes the recipe has, or which rule is broken.
-#[derive(Drop)]
-pub enum Written {
-    Length(usize),
-    Refused(Verdict),
+#[derive(Clone, Copy)]
+pub struct Spans {
+    pub format: usize,
+    pub core: usize,
+    pub wrap: usize,
+    pub trailer: usize,
+    pub cores: usize,
+    pub wraps: usize,
+    pub sequence: u64,
 }
 
 // ---- reading
 
-pub fn read(value: &[u8]) -> Spans
+// Where the fields stand, or which rule is broken.
+pub fn read(value: &[u8]) -> Result<Spans, Breach>
     ensures { result ≡ spans_of value.now }
 {
-    let w = recipe::fault(value);
-    if !recipe::is_good(w) {
-        return Spans::Refused(w);
-    }
+    recipe::fault(value)?;
     let n = value.len();
     let format = recipe::format(value);
     let core = n - recipe::core_distance(value);
@@ -52,7 +39,7 @@ pub fn read(value: &[u8]) -> Spans
     let cores = recipe::core_count(value);
     let wraps = recipe::count(value);
     let sequence = recipe::sequence(value);
-    Spans::Recipe {
+    Ok(Spans {
         format,
         core,
         wrap,
@@ -60,7 +47,7 @@ pub fn read(value: &[u8]) -> Spans
         cores,
         wraps,
         sequence,
-    }
+    })
 }
 
 // One number into its place, if there is such a place.
@@ -88,17 +75,13 @@ fn take_setpoints(s: &[u8], count: usize, turns: &mut [u32], trims: &mut [i32])
     ensures { (turns.new ≡ sets turns.old 0 (turns_of (points_in count s.now))) × (trims.new ≡ sets trims.old 0 (trims_of (points_in count s.now))) }
 {
     let mut at: usize = 0;
-    let mut i: usize = 0;
-    while i < count {
-        match recipe::point_at(s, at) {
-            Point::Is { turn, trim, size } => {
-                set_turn(turns, i, turn);
-                set_trim(trims, i, trim);
-                at += size;
-                i += 1;
-            }
-            Point::Broken => return,
-        }
+    for i in 0..count {
+        let Some(Point { turn, trim, size }) = recipe::point_at(s, at) else {
+            return;
+        };
+        set_turn(turns, i, turn);
+        set_trim(trims, i, trim);
+        at += size;
     }
 }
 
@@ -126,26 +109,21 @@ pub fn setpoints(value: &[u8], core: bool, turns: &mut [u32], trims: &mut [i32])
 // ---- whether fields can be written
 
 // The first rule that setpoints break, which are given as turns and trims.
-fn points_fault(part: Part, turns: &[u32], trims: &[i32]) -> Verdict
+fn points_fault(part: Part, turns: &[u32], trims: &[i32]) -> Result<(), Breach>
     requires { length turns.now ≡ length trims.now }
-    ensures { result ≡ points_fault part 0 First (pairs turns.now trims.now) }
+    ensures { result ≡ points_fault part 0 None (pairs turns.now trims.now) }
 {
-    let mut prev = Prev::First;
-    let mut i: usize = 0;
-    while i < turns.len() {
+    let mut prev = None;
+    for i in 0..turns.len() {
         let turn = turns[i];
         let trim = trims[i];
-        let w = recipe::setpoint_fault(part, i, prev, turn, trim);
-        if !recipe::is_good(w) {
-            return w;
-        }
-        prev = Prev::After { turn, trim };
-        i += 1;
+        recipe::setpoint_fault(part, i, prev, turn, trim)?;
+        prev = Some(Setpoint { turn, trim });
     }
-    Verdict::Good
+    Ok(())
 }
 
-fn pairs_fault(part: Part, turns: &[u32], trims: &[i32]) -> Verdict
+fn pairs_fault(part: Part, turns: &[u32], trims: &[i32]) -> Result<(), Breach>
     ensures { result ≡ pairs_fault part turns.now trims.now }
 {
     if turns.len() != trims.len() {
@@ -176,13 +154,11 @@ fn list_len(turns: &[u32], trims: &[i32]) -> usize
     ensures { (result ≡ length (list_bytes (pairs turns.now trims.now))) × (result ≤ most_setpoints * 20) }
 {
     let mut n: usize = 0;
-    let mut i: usize = 0;
-    while i < turns.len() {
+    for i in 0..turns.len() {
         let turn = turns[i] as u64;
         let trim = trims[i];
         let z = recipe::zigzag_of(trim) as u64;
-        n = n + wire_put::varint_len(turn) + wire_put::varint_len(z);
-        i += 1;
+        n += wire_put::varint_len(turn) + wire_put::varint_len(z);
     }
     n
 }
@@ -195,7 +171,7 @@ fn given_fault(
     wrap_trims: &[i32],
     core_turns: &[u32],
     core_trims: &[i32],
-) -> Verdict
+) -> Result<(), Breach>
     ensures { result ≡ given_fault (given format note.now wrap_turns.now wrap_trims.now core_turns.now core_trims.now 0) }
 {
     if !recipe::is_known(format) {
@@ -204,14 +180,8 @@ fn given_fault(
     if !core_fits(format, core_turns.len(), core_trims.len()) {
         return recipe::broken(Rule::CoreInFormatOne, Part::Core, 0);
     }
-    let w = pairs_fault(Part::Wrap, wrap_turns, wrap_trims);
-    if !recipe::is_good(w) {
-        return w;
-    }
-    let c = pairs_fault(Part::Core, core_turns, core_trims);
-    if !recipe::is_good(c) {
-        return c;
-    }
+    pairs_fault(Part::Wrap, wrap_turns, wrap_trims)?;
+    pairs_fault(Part::Core, core_turns, core_trims)?;
     let lists = list_len(wrap_turns, wrap_trims) + list_len(core_turns, core_trims);
     if limits::MOST_VALUE < note.len() {
         return recipe::broken(Rule::TooLong, Part::Whole, 0);
@@ -219,7 +189,7 @@ fn given_fault(
     if limits::MOST_VALUE < note.len() + recipe::trailer_of(format) + lists {
         return recipe::broken(Rule::TooLong, Part::Whole, 0);
     }
-    Verdict::Good
+    Ok(())
 }
 
 // ---- writing
@@ -229,14 +199,12 @@ fn put_list(buf: &mut [u8], at: usize, turns: &[u32], trims: &[i32]) -> usize
     ensures { Put buf.old at (list_bytes (pairs turns.now trims.now)) buf.new result }
 {
     let mut next = at;
-    let mut i: usize = 0;
-    while i < turns.len() {
+    for i in 0..turns.len() {
         let turn = turns[i] as u64;
         let trim = trims[i];
         let z = recipe::zigzag_of(trim) as u64;
         next = wire_put::put_varint(buf, next, turn);
         next = wire_put::put_varint(buf, next, z);
-        i += 1;
     }
     next
 }
@@ -247,12 +215,10 @@ fn put_little(buf: &mut [u8], at: usize, x: u64, n: usize) -> usize
 {
     let mut next = at;
     let mut rest = x;
-    let mut left = n;
-    while left > 0 {
+    for _ in 0..n {
         let b = (rest % 256) as u8;
         next = wire_put::put_raw(buf, next, &[b]);
         rest /= 256;
-        left -= 1;
     }
     next
 }
@@ -308,7 +274,8 @@ fn put_trailer(
     put_last(buf, at, near as u64, wraps as u64, format as u64, sequence)
 }
 
-// Writes a recipe from its fields. What would stand past the end of buf is left out, and the whole length is told; of fields that no recipe has, nothing is written.
+// Writes a recipe from its fields, and tells how many bytes it has, or which rule is broken. What would stand past the end of buf is left out, and the whole length is told; of fields that no
+// recipe has, nothing is written.
 pub fn write(
     buf: &mut [u8],
     format: usize,
@@ -318,14 +285,11 @@ pub fn write(
     core_turns: &[u32],
     core_trims: &[i32],
     sequence: u64,
-) -> Written
+) -> Result<usize, Breach>
     ensures { (result ≡ written_of (given format note.now wrap_turns.now wrap_trims.now core_turns.now core_trims.now sequence))
         × (buf.new ≡ after_of (given format note.now wrap_turns.now wrap_trims.now core_turns.now core_trims.now sequence) buf.old) }
 {
-    let w = given_fault(format, note, wrap_turns, wrap_trims, core_turns, core_trims);
-    if !recipe::is_good(w) {
-        return Written::Refused(w);
-    }
+    given_fault(format, note, wrap_turns, wrap_trims, core_turns, core_trims)?;
     let near = recipe::trailer_of(format) + list_len(wrap_turns, wrap_trims);
     let far = near + list_len(core_turns, core_trims);
     let a = wire_put::put_raw(buf, 0, note);
@@ -341,5 +305,5 @@ pub fn write(
         wrap_turns.len(),
         sequence,
     );
-    Written::Length(note.len() + far)
+    Ok(note.len() + far)
 }

@@ -95,12 +95,10 @@ fn all_sound(store: &[u8]) -> bool
     ensures { result ≡ all (slots_of store.now) (sound store.now) }
 {
     let n = slots(store);
-    let mut i: usize = 0;
-    while i < n {
+    for i in 0..n {
         if !sound_at(store, i) {
             return false;
         }
-        i += 1;
     }
     true
 }

@@ -16,7 +16,7 @@ use Rattle.refusal.specs.declared.Refusal.TheVariants.{Outranked}
 use Rattle.record_slots.specs.Limits.{key_at, value_at}
 use Rattle.record_slots.specs.Slots.{padded, header, slot_bytes}
 use Rattle.records.specs.Store.{held_plan}
-use Rattle.records.specs.declared.Plan.TheVariants.{Write, Keep, Refuse}
+use Rattle.std.specs.Prelude.{Ok, Err, Some, None}
 
 -- one test that is left of a list of them
 only : (b : Bool) → all_of (b ∷ []) ≡ b
@@ -25,16 +25,16 @@ only false = all-off false [] refl
 
 -- ---- what a put does to a held record
 module _ (held v : List ℕ) (i : ℕ) {b : Bool} (e : b ≡ same held v) where
-  pub held_same : b ≡ true → Keep ≡ held_plan held v i
+  pub held_same : b ≡ true → (Ok None) ≡ held_plan held v i
   unfolding held_plan
   held_same z = rw (← e, z)
 
   module _ (z : b ≡ false) {c : Bool} (f : c ≡ outranks held v) where
-    pub held-higher : c ≡ true → Refuse Outranked ≡ held_plan held v i
+    pub held-higher : c ≡ true → Err Outranked ≡ held_plan held v i
     unfolding held_plan
     held-higher y = rw (← e, z, ← f, y)
 
-    pub held-lower : c ≡ false → Write i ≡ held_plan held v i
+    pub held-lower : c ≡ false → (Ok (Some i)) ≡ held_plan held v i
     unfolding held_plan
     held-lower y = rw (← e, z, ← f, y)
 

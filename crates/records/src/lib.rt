@@ -50,67 +50,58 @@ fn value_of(s: &[u8]) -> &[u8]
     &s[VALUE_AT..e]
 }
 
-// What a key gives: where in the store its value starts and ends.
-#[derive(Drop)]
-pub enum Found {
-    Held { start: usize, end: usize },
-    NotHeld,
-    Refused(Refusal),
+// Where in the store a held value starts and ends.
+#[derive(Clone, Copy)]
+pub struct Held {
+    pub start: usize,
+    pub end: usize,
 }
 
 // Looks a key up, in a store of any bytes: for callers that have tested the form.
-pub fn look(store: &[u8], key: &[u8]) -> Found
+pub fn look(store: &[u8], key: &[u8]) -> Result<Option<Held>, Refusal>
     ensures { result ≡ found store.now key.now }
 {
-    let i = record_slots::slot_with(store, key);
-    if record_slots::slots(store) <= i {
-        return Found::NotHeld;
+    let at = record_slots::slot_with(store, key);
+    if at < record_slots::slots(store) {
+        let start = at * SLOT + VALUE_AT;
+        let end = start + held_size(slot_at(store, at));
+        return Ok(Some(Held { start, end }));
     }
-    let start = i * SLOT + VALUE_AT;
-    let end = start + held_size(slot_at(store, i));
-    Found::Held { start, end }
+    Ok(None)
 }
 
 // The record of a key, or 0.
-pub fn find(store: &[u8], key: &[u8]) -> Found
+pub fn find(store: &[u8], key: &[u8]) -> Result<Option<Held>, Refusal>
     ensures { result ≡ find_of store.now key.now }
 {
-    if !in_form(store) {
-        return Found::Refused(Refusal::OutOfForm);
+    if in_form(store) {
+        return look(store, key);
     }
-    look(store, key)
+    Err(Refusal::OutOfForm)
 }
 
-// What a put is to do.
-#[derive(Drop)]
-pub enum Plan {
-    Write(usize),
-    Keep,
-    Refuse(Refusal),
-}
-
-// What is to be done with a value, where slot `at` holds another or the same of its key.
-fn held_plan(held: &[u8], value: &[u8], at: usize) -> Plan
+// What is to be done with a value, where slot `at` holds another or the same of its key: the slot that it is written into, or nothing.
+fn held_plan(held: &[u8], value: &[u8], at: usize) -> Result<Option<usize>, Refusal>
     ensures { result ≡ held_plan held.now value.now at }
 {
     if octets::same_bytes(held, value) {
-        return Plan::Keep;
+        return Ok(None);
     }
     if recipe::outranks(held, value) {
-        return Plan::Refuse(Refusal::Outranked);
+        return Err(Refusal::Outranked);
     }
-    Plan::Write(at)
+    Ok(Some(at))
 }
 
-// What a put is to do, with a store of any bytes.
-pub fn plan_put(store: &[u8], key: &[u8], value: &[u8]) -> Plan
+// What a put is to do, with a store of any bytes: the slot that the record is written into, or nothing where it is held already.
+pub fn plan_put(store: &[u8], key: &[u8], value: &[u8]) -> Result<Option<usize>, Refusal>
     ensures { result ≡ plan_of store.now key.now value.now }
 {
     if !is_key(key) {
-        return Plan::Refuse(Refusal::BreaksRules);
+        return Err(Refusal::BreaksRules);
     }
     if !recipe::check(value) {
-        return Plan::Refuse(Refusal::BrokenRecipe);
+        return Err(Refusal::BrokenRecipe);
     }
     let i = record_slots::slot_with(store, key);
     if i < record_slots::slots(store) {
@@ -118,9 +109,9 @@ pub fn plan_put(store: &[u8], key: &[u8], value: &[u8]) -> Plan
     }
     let j = record_slots::free_slot(store);
     if j < record_slots::slots(store) {
-        return Plan::Write(j);
+        return Ok(Some(j));
     }
-    Plan::Refuse(Refusal::NoRecordSlot)
+    Err(Refusal::NoRecordSlot)
 }
 
 // Stores n zeros from a place on.
@@ -128,10 +119,8 @@ fn clear(buf: &mut [u8], at: usize, n: usize)
     requires { at + n ≤ length buf.old }
     ensures { buf.new ≡ sets buf.old at (replicate n 0) }
 {
-    let mut i: usize = 0;
-    while i < n {
+    for i in 0..n {
         buf[at + i] = 0;
-        i += 1;
     }
 }
 
@@ -163,33 +152,22 @@ fn write_slot(store: &mut [u8], at: usize, key: &[u8], value: &[u8])
     put_padded(store, at + VALUE_AT, value, limits::MOST_VALUE);
 }
 
-// What a put answers.
-#[derive(Drop)]
-pub enum Answer {
-    Taken,
-    Refused(Refusal),
-}
-
 // Offers a record to a store of any bytes: for callers that have tested the form.
-pub fn offer(store: &mut [u8], key: &[u8], value: &[u8]) -> Answer
+pub fn offer(store: &mut [u8], key: &[u8], value: &[u8]) -> Result<(), Refusal>
     ensures { (result ≡ offer_answer store.old key.now value.now) × (store.new ≡ offer_after store.old key.now value.now) }
 {
-    match plan_put(store, key, value) {
-        Plan::Write(i) => {
-            write_slot(store, i * SLOT, key, value);
-            Answer::Taken
-        }
-        Plan::Keep => Answer::Taken,
-        Plan::Refuse(r) => Answer::Refused(r),
+    if let Some(i) = plan_put(store, key, value)? {
+        write_slot(store, i * SLOT, key, value);
     }
+    Ok(())
 }
 
 // Offers a record to the store: 0, or 8 to 11, or it is taken.
-pub fn put(store: &mut [u8], key: &[u8], value: &[u8]) -> Answer
+pub fn put(store: &mut [u8], key: &[u8], value: &[u8]) -> Result<(), Refusal>
     ensures { (result ≡ put_answer store.old key.now value.now) × (store.new ≡ put_after store.old key.now value.now) }
 {
     if !in_form(store) {
-        return Answer::Refused(Refusal::OutOfForm);
+        return Err(Refusal::OutOfForm);
     }
     offer(store, key, value)
 }

@@ -4,24 +4,25 @@ ghost use Rattle.std.specs.Prelude.{◌≡◌};
 ghost use Rattle.records.specs.Store.{in_form, find_of, put_answer, put_after};
 ghost use Rattle.records_c.specs.Codes.{code_of, start_of};
 
-use records::{Answer, Found};
+use records::Held;
+use refusal::Refusal;
 
-fn code_of(a: Answer) -> u8
+fn code_of(a: Result<(), Refusal>) -> u8
     ensures { result ≡ code_of a }
 {
     match a {
-        Answer::Taken => 255,
-        Answer::Refused(r) => refusal::number(r),
+        Ok(()) => 255,
+        Err(r) => refusal::number(r),
     }
 }
 
-fn start_of(f: Found) -> usize
+fn start_of(f: Result<Option<Held>, Refusal>) -> usize
     ensures { result ≡ start_of f }
 {
     match f {
-        Found::Held { start, end: _ } => start,
-        Found::NotHeld => 0,
-        Found::Refused(_) => 0,
+        Ok(Some(held)) => held.start,
+        Ok(None) => 0,
+        Err(_) => 0,
     }
 }
 

@@ -11,14 +11,14 @@ use Rattle.octets.proofs.Strings.{same-eq, same-yes, differ}
 use Rattle.recipe.specs.Recipe.{is_recipe, outranks}
 use Rattle.recipe.proofs.Rank.{outranks-asym, outranks-total, outranks-self, outranked-not}
 use Rattle.records.specs.Store.{slot, key_of, value_of, is_key, in_form, slot_with, put_answer, put_after}
-use Rattle.records.specs.declared.Answer.{Answer}
-use Rattle.records.specs.declared.Answer.TheVariants.{Refused}
 use Rattle.refusal.specs.declared.Refusal.TheVariants.{NoRecordSlot}
 use Rattle.record_slots.proofs.Finding.{with-holds, holds-out, holds-in}
-use Rattle.records_history.specs.History.{Got, Has, None, got, taken, Offer, accepts, offered, after}
+use Rattle.records_history.specs.History.{got, taken, Offer, accepts, offered, after}
 use Rattle.records_history.specs.Agree.{NoRecords, IsOffered, SameSet, Never11, Within, HoldSame, Counts, Highest, higher, held_from, held_after, Agrees, Agreement}
 use Rattle.records_history.proofs.Stays.{has, none, Over, put_other, put_refused, put-form, cleared-free, free-form, free-none, form-kept, step-taken}
 use Rattle.records_history.proofs.Holding.{held_in, held-value, held-is-found, judged-first, put-told, joins-unless-11}
+use Rattle.std.specs.Prelude.{Err, Some, None, Result, Option, ⊤}
+use Rattle.refusal.specs.declared.Refusal.{Refusal}
 
 -- ---- offers, and more of them
 module _ (k v : List ℕ) where
@@ -47,23 +47,23 @@ never-more t [] ps a b = b
 never-more t (o ∷ os) ps a b = (a.0, never-more (offered t o) os ps a.1 b)
 
 -- ---- a put keeps the higher-ranking of two
-higher-new : (g : Got) (v : List ℕ) → Over v (higher g v)
+higher-new : (g : Option (List ℕ)) (v : List ℕ) → Over v (higher g v)
 unfolding higher
 higher-new None v = (v, refl, outranks-self v)
-higher-new (Has u) v =
-    ⊎_elim (λ q. (u, ap Has (cond_yes _ u v q), to-false (outranks v u) (λ h. outranks-asym u v q h))) (λ q. (v, ap Has (cond_no _ u v q), outranks-self v)) (either (outranks u v))
+higher-new (Some u) v =
+    ⊎_elim (λ q. (u, ap Some (cond_yes _ u v q), to-false (outranks v u) (λ h. outranks-asym u v q h))) (λ q. (v, ap Some (cond_no _ u v q), outranks-self v)) (either (outranks u v))
 
-higher-over : (w : List ℕ) (g : Got) (v : List ℕ) → Over w g → Over w (higher g v)
+higher-over : (w : List ℕ) (g : Option (List ℕ)) (v : List ℕ) → Over w g → Over w (higher g v)
 unfolding higher
 higher-over w None v o = absurd (none o.1)
-higher-over w (Has u) v o =
+higher-over w (Some u) v o =
     let low : outranks w u ≡ false = subst (λ (x : List ℕ). outranks w x ≡ false) (sym (has o.1)) o.2 in
-    ⊎_elim (λ q. (u, ap Has (cond_yes _ u v q), low)) (λ q. (v, ap Has (cond_no _ u v q), outranked-not w u v low q)) (either (outranks u v))
+    ⊎_elim (λ q. (u, ap Some (cond_yes _ u v q), low)) (λ q. (v, ap Some (cond_no _ u v q), outranked-not w u v low q)) (either (outranks u v))
 
-higher-one : (g : Got) (v u : List ℕ) → higher g v ≡ Has u → (g ≡ Has u) ⊎ (v ≡ u)
+higher-one : (g : Option (List ℕ)) (v u : List ℕ) → higher g v ≡ Some u → (g ≡ Some u) ⊎ (v ≡ u)
 unfolding higher
 higher-one None v u e = inr (has e)
-higher-one (Has x) v u e = ⊎_elim (λ q. inl (sym (ap Has (cond_yes _ x v q)) ∙ e)) (λ q. inr (has (sym (ap Has (cond_no _ x v q)) ∙ e))) (either (outranks x v))
+higher-one (Some x) v u e = ⊎_elim (λ q. inl (sym (ap Some (cond_yes _ x v q)) ∙ e)) (λ q. inr (has (sym (ap Some (cond_no _ x v q)) ∙ e))) (either (outranks x v))
 
 -- ---- so of all offers what is held is the highest-ranking, whatever the rules
 module _ (rules : List ℕ → Bool) (k : List ℕ) where
@@ -73,16 +73,16 @@ module _ (rules : List ℕ → Bool) (k : List ℕ) where
   abbrev Among : List Offer → List ℕ → Type 0
   Among os v = IsOffered k v os
 
-  abbrev put : Got → Offer → Got
+  abbrev put : Option (List ℕ) → Offer → Option (List ℕ)
   put g o = cond (counts o) (higher g o.value) g
 
   -- it gives way only upwards
-  held-over : (os : List Offer) (g : Got) (w : List ℕ) → Over w g → Over w (held_from rules higher g os k)
+  held-over : (os : List Offer) (g : Option (List ℕ)) (w : List ℕ) → Over w g → Over w (held_from rules higher g os k)
   unfolding held_from
   held-over [] g w h = h
   held-over (o ∷ os) g w h = held-over os (put g o) w (cond_ind (Over w) (counts o) (higher g o.value) g (λ e. higher-over w g o.value h) (λ e. h))
 
-  held-top : (os : List Offer) (g : Got) (v : List ℕ) → Counts rules k (Among os) v → Over v (held_from rules higher g os k)
+  held-top : (os : List Offer) (g : Option (List ℕ)) (v : List ℕ) → Counts rules k (Among os) v → Over v (held_from rules higher g os k)
   unfolding held_from IsOffered
   held-top [] g v c = absurd c.offered
   held-top (o ∷ os) g v c =
@@ -93,7 +93,7 @@ module _ (rules : List ℕ → Bool) (k : List ℕ) where
           let yes : counts o ≡ true = and_i (same o.key k) _ (same-yes o.key k p) (and_i (is_key k) _ c.key (ap rules q ∙ c.fits)) in
           subst (Over v) (sym (cond_yes (counts o) (higher g o.value) g yes)) (subst (λ (x : List ℕ). Over v (higher g x)) (sym q) (higher-new g v))
 
-  held_one : (os : List Offer) (g : Got) (u : List ℕ) → held_from rules higher g os k ≡ Has u → (g ≡ Has u) ⊎ Counts rules k (Among os) u
+  held_one : (os : List Offer) (g : Option (List ℕ)) (u : List ℕ) → held_from rules higher g os k ≡ Some u → (g ≡ Some u) ⊎ Counts rules k (Among os) u
   unfolding held_from IsOffered
   held_one [] g u e = inl e
   held_one (o ∷ os) g u e =
@@ -108,7 +108,7 @@ module _ (rules : List ℕ → Bool) (k : List ℕ) where
             fits = ap rules (sym w) ∙ and_r (is_key k) (rules o.value) r;
           }
 
-      here : (counts o ≡ true) ⊎ (counts o ≡ false) → put g o ≡ Has u → (g ≡ Has u) ⊎ Counts rules k (Among (o ∷ os)) u
+      here : (counts o ≡ true) ⊎ (counts o ≡ false) → put g o ≡ Some u → (g ≡ Some u) ⊎ Counts rules k (Among (o ∷ os)) u
       here (inl q) h = ⊎_elim (λ w. inl w) (λ w. inr (this q w)) (higher-one g o.value u (sym (cond_yes (counts o) (higher g o.value) g q) ∙ h))
       here (inr q) h = inl (sym (cond_no (counts o) (higher g o.value) g q) ∙ h)
 
@@ -121,39 +121,39 @@ module _ (rules : List ℕ → Bool) (k : List ℕ) where
   moved : (A B : List ℕ → Type 0) (v : List ℕ) → (A v → B v) → Counts rules k A v → Counts rules k B v
   moved A B v f c = record { offered = f c.offered; key = c.key; fits = c.fits }
 
-  pub highest-moved : (A B : List ℕ → Type 0) → ((v : List ℕ) → A v → B v) → ((v : List ℕ) → B v → A v) → (g : Got) → Highest rules k A g → Highest rules k B g
+  pub highest-moved : (A B : List ℕ → Type 0) → ((v : List ℕ) → A v → B v) → ((v : List ℕ) → B v → A v) → (g : Option (List ℕ)) → Highest rules k A g → Highest rules k B g
   highest-moved A B f e g h = record { one = λ u q. moved A B u (f u) (h.one u q); top = λ v c. h.top v (moved B A v (e v) c) }
 
-  pub only : (A B : List ℕ → Type 0) → ((v : List ℕ) → A v → B v) → ((v : List ℕ) → B v → A v) → (g h : Got) → Highest rules k A g → Highest rules k B h → g ≡ h
+  pub only : (A B : List ℕ → Type 0) → ((v : List ℕ) → A v → B v) → ((v : List ℕ) → B v → A v) → (g h : Option (List ℕ)) → Highest rules k A g → Highest rules k B h → g ≡ h
   only A B f e None None p q = refl
-  only A B f e (Has u) None p q = absurd (none (q.top u (moved A B u (f u) (p.one u refl))).1)
-  only A B f e None (Has v) p q = absurd (none (p.top v (moved B A v (e v) (q.one v refl))).1)
-  only A B f e (Has u) (Has v) p q =
+  only A B f e (Some u) None p q = absurd (none (q.top u (moved A B u (f u) (p.one u refl))).1)
+  only A B f e None (Some v) p q = absurd (none (p.top v (moved B A v (e v) (q.one v refl))).1)
+  only A B f e (Some u) (Some v) p q =
       let a = q.top u (moved A B u (f u) (p.one u refl)) in
       let b = p.top v (moved B A v (e v) (q.one v refl)) in
-      ap Has
+      ap Some
       (outranks-total u v (subst (λ (x : List ℕ). outranks u x ≡ false) (sym (has a.1)) a.2)
       (subst (λ (x : List ℕ). outranks v x ≡ false) (sym (has b.1)) b.2))
 
 -- ---- what the store does with an offer that isn't answered 11
-was-refused : (t k v : List ℕ) (x : Answer) → put_answer t k v ≡ x → taken x ≡ false → got (put_after t k v) k ≡ got t k
+was-refused : (t k v : List ℕ) (x : Result ⊤ Refusal) → put_answer t k v ≡ x → taken x ≡ false → got (put_after t k v) k ≡ got t k
 was-refused t k v x e h = ap (λ (s : List ℕ). got s k) (put_refused t k v (ap taken e ∙ h))
 
 module _ (t : List ℕ) (form : in_form t ≡ true) where
-  ranked : (k v : List ℕ) → (put_answer t k v ≡ Refused NoRecordSlot → ⊥) → is_key k ≡ true → is_recipe v ≡ true
-      → (g : Got) → got t k ≡ g → got (put_after t k v) k ≡ higher g v
+  ranked : (k v : List ℕ) → (put_answer t k v ≡ Err NoRecordSlot → ⊥) → is_key k ≡ true → is_recipe v ≡ true
+      → (g : Option (List ℕ)) → got t k ≡ g → got (put_after t k v) k ≡ higher g v
   unfolding higher accepts offered taken
   ranked k v room a b None e = step-taken k t (record { key = k; value = v }) refl (ap taken (joins-unless-11 t k v form a b e room))
-  ranked k v room a b (Has u) e = (judged-first.ranked t k u v form e b).1
+  ranked k v room a b (Some u) e = (judged-first.ranked t k u v form e b).1
 
-  own_key : (k v : List ℕ) → (put_answer t k v ≡ Refused NoRecordSlot → ⊥) → (a b : Bool) → is_key k ≡ a → is_recipe v ≡ b
+  own_key : (k v : List ℕ) → (put_answer t k v ≡ Err NoRecordSlot → ⊥) → (a b : Bool) → is_key k ≡ a → is_recipe v ≡ b
       → got (put_after t k v) k ≡ cond (a && b) (higher (got t k) v) (got t k)
   unfolding taken
   own_key k v room true true p q = ranked k v room p q (got t k) refl
   own_key k v room true false p q = was-refused t k v _ (judged-first.broken t k v form p q) refl
   own_key k v room false b p q = was-refused t k v _ (put-told.rules t k v form p) refl
 
-  put_step : (o : Offer) → (put_answer t o.key o.value ≡ Refused NoRecordSlot → ⊥) → (k : List ℕ) → got (offered t o) k ≡ put is_recipe k (got t k) o
+  put_step : (o : Offer) → (put_answer t o.key o.value ≡ Err NoRecordSlot → ⊥) → (k : List ℕ) → got (offered t o) k ≡ put is_recipe k (got t k) o
   unfolding offered
   put_step o room k = ⊎_elim (λ q. at q) (λ q. other q) (either (same o.key k))
     where
@@ -172,12 +172,12 @@ unfolding after Never11 held_from offered
 store-held [] t form n k = refl
 store-held (o ∷ os) t form n k =
     store-held os (put_after t o.key o.value) (put-form t o.key o.value form) n.1 k
-    ∙ ap (λ (g : Got). held_from is_recipe higher g os k) (put_step t form o n.0 k)
+    ∙ ap (λ (g : Option (List ℕ)). held_from is_recipe higher g os k) (put_step t form o n.0 k)
 
 -- ---- from no records
 module _ (t : List ℕ) (os : List Offer) (e : NoRecords t) (n : Never11 t os) where
   held : (k : List ℕ) → got (after t os) k ≡ held_from is_recipe higher None os k
-  held k = store-held os t (free-form t e) n k ∙ ap (λ (g : Got). held_from is_recipe higher g os k) (free-none t k e)
+  held k = store-held os t (free-form t e) n k ∙ ap (λ (g : Option (List ℕ)). held_from is_recipe higher g os k) (free-none t k e)
 
   highest : (k : List ℕ) → Highest is_recipe k (Among is_recipe k os) (got (after t os) k)
   highest k = subst (Highest is_recipe k (Among is_recipe k os)) (sym (held k)) (held-highest is_recipe k os)
@@ -187,7 +187,7 @@ within : (t u : List ℕ) → in_form t ≡ true → ((k : List ℕ) → got t k
 within t u form s i l h =
     let k : List ℕ = key_of (slot t i) in
     let v : List ℕ = value_of (slot t i) in
-    let g : got u k ≡ Has v = sym (s k) ∙ held-is-found.held t k i form l (holds-in t k i h refl) in
+    let g : got u k ≡ Some v = sym (s k) ∙ held-is-found.held t k i form l (holds-in t k i h refl) in
     let o = holds-out u k (slot_with u k) (with-holds u k (held_in u k v g)) in
     (slot_with u k, held_in u k v g, o.0, o.1, held-value u k v g)
 

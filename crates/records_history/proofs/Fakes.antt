@@ -13,11 +13,12 @@ use Rattle.octets.proofs.Strings.{same_refl}
 use Rattle.recipe.specs.Recipe.{varint, point, and_then, setpoints, in_range, follows, rules, ruled, is_list, distance_of, count_of, format_of, trailer_of, core_distance_of, core_count_of, pad_of, list_fills, recipe_within, is_recipe, sequence_of, outranks}
 use Rattle.records.specs.Limits.{slot_size}
 use Rattle.records.specs.Store.{slots_of, is_key}
-use Rattle.records_history.specs.History.{Got, Has, None, got, Offer, offered, after, cleared, accepts, taken}
+use Rattle.records_history.specs.History.{got, Offer, offered, after, cleared, accepts, taken}
 use Rattle.records_history.specs.Agree.{NoRecords, IsOffered, SameSet, higher, held_from, held_after, Agrees}
 use Rattle.records_history.specs.Fakes.{takes_newest, goes_by_sequence, forgets, no_rules, NoFake}
 use Rattle.records_history.proofs.Stays.{has, none, put_refused, cleared-free, free-form, free-none, step-taken}
 use Rattle.records_history.proofs.Holding.{put-told}
+use Rattle.std.specs.Prelude.{Some, None, Option}
 
 -- ---- /wind/a, and two recipes of sequence 7, of which the second ranks higher by its note, a byte
 abbrev key : List ℕ
@@ -70,12 +71,12 @@ turned o p k v h = ⊎_elim (λ a. inr (inl a)) (λ r. ⊎_elim (λ b. inl b) (�
 swapped : (o p : Offer) → SameSet (o ∷ p ∷ []) (p ∷ o ∷ [])
 swapped o p = record { there = turned o p; back = turned p o }
 
-after_both : (put : Got → List ℕ → Got) (u v : List ℕ) → is_recipe u ≡ true → is_recipe v ≡ true → held_after is_recipe put (offer u ∷ offer v ∷ []) key ≡ put (put None u) v
+after_both : (put : Option (List ℕ) → List ℕ → Option (List ℕ)) (u v : List ℕ) → is_recipe u ≡ true → is_recipe v ≡ true → held_after is_recipe put (offer u ∷ offer v ∷ []) key ≡ put (put None u) v
 unfolding held_from
 after_both put u v a b = rw (same_refl key, is-key, a, b)
 
 -- a store that agrees holds the same after low and high as after high and low
-either_way : (put : Got → List ℕ → Got) → Agrees (held_after is_recipe put) → put (put None low) high ≡ put (put None high) low
+either_way : (put : Option (List ℕ) → List ℕ → Option (List ℕ)) → Agrees (held_after is_recipe put) → put (put None low) high ≡ put (put None high) low
 either_way put h =
     sym (after_both put low high is-low is-high) ∙ h (offer low ∷ offer high ∷ []) (offer high ∷ offer low ∷ []) (swapped (offer low) (offer high)) key
     ∙ after_both put high low is-high is-low
@@ -90,7 +91,7 @@ no-sequence h = differ (has (sym (either_way goes_by_sequence h)))
 
 no-forgetting : Agrees (held_after is_recipe forgets) → ⊥
 unfolding forgets
-no-forgetting h = none {x = high} (sym (cond_yes (outranks high low) None (Has low) is-higher) ∙ sym (either_way forgets h) ∙ cond_no (outranks low high) None (Has high) is-lower)
+no-forgetting h = none {x = high} (sym (cond_yes (outranks high low) None (Some low) is-higher) ∙ sym (either_way forgets h) ∙ cond_no (outranks low high) None (Some high) is-lower)
 
 -- ---- other rules
 other : ((os : List Offer) (k : List ℕ) → held_after is_recipe higher os k ≡ held_after no_rules higher os k) → ⊥
@@ -118,7 +119,7 @@ one-slot : 0 < slots_of (cleared slot_size)
 unfolding slots_of
 one-slot = let n : length (cleared slot_size) ≡ slot_size = length-replicate {A = ℕ} slot_size 0 in omega (arith, n)
 
-room : got (offered (cleared slot_size) (offer low)) key ≡ Has low
+room : got (offered (cleared slot_size) (offer low)) key ≡ Some low
 unfolding accepts taken
 room =
     let t : List ℕ = cleared slot_size in

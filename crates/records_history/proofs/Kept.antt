@@ -19,15 +19,17 @@ use Rattle.recipe.proofs.Trailer.{recipe-least, recipe-most}
 use Rattle.keyed_slots.specs.Slots as keyed
 use Rattle.keyed_slots.proofs.Writing as writing
 use Rattle.records.specs.Limits.{value_at, slot_size}
-use Rattle.records.specs.Store.{slots_of, slot, used, key_of, size_of, value_of, slot_bytes, is_key, is_record, holds, apart, fits, in_form, slot_with, is_free, free_slot, held_at, found, plan_of}
-use Rattle.records_history.specs.History.{Has, None, got}
-use Rattle.records.specs.declared.Found.TheVariants.{Held, NotHeld}
-use Rattle.records.specs.declared.Plan.TheVariants.{Write}
+use Rattle.records.specs.Store.{between, slots_of, slot, used, key_of, size_of, value_of, slot_bytes, is_key, is_record, holds, apart, fits, in_form, slot_with, is_free, free_slot, held_at, found, plan_of}
+use Rattle.records_history.specs.History.{got}
 use Rattle.record_slots.specs.Inner.{sound}
 use Rattle.record_slots.proofs.Laying.{slot-in, slot-long, value-size, value-cut, key-most, key-least, record_is}
 use Rattle.record_slots.proofs.Keyed.{with-same, form-same, sound-record, sound-same}
 use Rattle.records.proofs.Putting.{write-key, write-recipe, write-where, write-in}
 use Rattle.records_history.proofs.Written.{bytes-size, bytes-used, bytes-key, bytes_count, bytes-value, written-slots, written_same, written-other}
+use Rattle.std.specs.Prelude.{Ok, Some, None}
+use Rattle.records.specs.declared.Held.{Held}
+use Rattle.refusal.specs.declared.Refusal.{Refusal}
+use Rattle.std.specs.Prelude.{Result, Option}
 
 -- ---- what a key gives
 value-part : (t : List ℕ) (i : ℕ) → i < slots_of t → value_of (slot t i) ≡ part t (i * slot_size + value_at) (i * slot_size + value_at + length (value_of (slot t i)))
@@ -40,7 +42,7 @@ value-part t i l =
     sym (value-cut (slot t i) h m) ∙ part-part t (i * slot_size) (i * slot_size + slot_size) value_at (value_at + length (value_of (slot t i))) (omega arith)
     ∙ ap (λ (x : ℕ). part t (i * slot_size + value_at) x) e
 
-pub got-held : (t k : List ℕ) (i : ℕ) → slot_with t k ≡ i → i < slots_of t → got t k ≡ Has (value_of (slot t i))
+pub got-held : (t k : List ℕ) (i : ℕ) → slot_with t k ≡ i → i < slots_of t → got t k ≡ Some (value_of (slot t i))
 unfolding got
 got-held t k i e h = rw (e, lt-ltb i (slots_of t) h)
 
@@ -49,33 +51,34 @@ unfolding got
 got-none t k h = rw (le-ltb (slot_with t k) (slots_of t) h)
 
 -- where `look` says that a value stands, the value of the key stands; and it says nothing else
-pub found-is : (t k : List ℕ) {a e : ℕ} → found t k ≡ Held a e → (a ≤ e) × (e ≤ length t) × (got t k ≡ Has (part t a e))
+pub found-is : (t k : List ℕ) {a e : ℕ} → found t k ≡ Ok (Some (between a e)) → (a ≤ e) × (e ≤ length t) × (got t k ≡ Some (part t a e))
 unfolding found held_at
-found-is t k {a} {e} q = ⊎_elim (λ b. held (ltb-true (slot_with t k) (slots_of t) b) (sym (cond_yes (ltb (slot_with t k) (slots_of t)) (held_at t (slot_with t k)) NotHeld b) ∙ q)) (λ b. lost (sym (cond_no (ltb (slot_with t k) (slots_of t)) (held_at t (slot_with t k)) NotHeld b) ∙ q)) (either (ltb (slot_with t k) (slots_of t)))
+found-is t k {a} {e} q = ⊎_elim (λ b. held (ltb-true (slot_with t k) (slots_of t) b) (sym (cond_yes (ltb (slot_with t k) (slots_of t)) (held_at t (slot_with t k)) (Ok None) b) ∙ q)) (λ b. lost (sym (cond_no (ltb (slot_with t k) (slots_of t)) (held_at t (slot_with t k)) (Ok None) b) ∙ q)) (either (ltb (slot_with t k) (slots_of t)))
   where
-    lost : NotHeld ≡ Held a e → (a ≤ e) × (e ≤ length t) × (got t k ≡ Has (part t a e))
+    lost : ◌≡◌ {A = Result (Option Held) Refusal} (Ok None) (Ok (Some (between a e))) → (a ≤ e) × (e ≤ length t) × (got t k ≡ Some (part t a e))
     lost w = let z : ◌≡◌ {A = ℕ} 0 1 = cc in absurd (omega arith)
 
-    held : slot_with t k < slots_of t → Held (slot_with t k * slot_size + value_at) (slot_with t k * slot_size + value_at + length (value_of (slot t (slot_with t k)))) ≡ Held a e → (a ≤ e) × (e ≤ length t) × (got t k ≡ Has (part t a e))
+    held : slot_with t k < slots_of t → ◌≡◌ {A = Result (Option Held) Refusal} (Ok (Some (between (slot_with t k * slot_size + value_at) (slot_with t k * slot_size + value_at + length (value_of (slot t (slot_with t k))))))) (Ok (Some (between a e))) → (a ≤ e) × (e ≤ length t) × (got t k ≡ Some (part t a e))
     held l w =
-        let ea : slot_with t k * slot_size + value_at ≡ a = cc in
-        let ee : slot_with t k * slot_size + value_at + length (value_of (slot t (slot_with t k))) ≡ e = cc in
+        let p : between (slot_with t k * slot_size + value_at) (slot_with t k * slot_size + value_at + length (value_of (slot t (slot_with t k)))) ≡ between a e = cc in
+        let ea : slot_with t k * slot_size + value_at ≡ a = ap (λ (x : Held). x.start) p in
+        let ee : slot_with t k * slot_size + value_at + length (value_of (slot t (slot_with t k))) ≡ e = ap (λ (x : Held). x.end) p in
         let n = value-size (slot t (slot_with t k)) (slot-long t (slot_with t k) l) in
         let g = slot-in t (slot_with t k) l in
-        (omega arith, omega arith, got-held t k (slot_with t k) refl l ∙ ap Has (value-part t (slot_with t k) l ∙ ap₂ (λ (x y : ℕ). part t x y) ea ee))
+        (omega arith, omega arith, got-held t k (slot_with t k) refl l ∙ ap Some (value-part t (slot_with t k) l ∙ ap₂ (λ (x y : ℕ). part t x y) ea ee))
 
 -- and a value that a key gives stands where `look` says
-pub got-found : (t k v : List ℕ) → got t k ≡ Has v → (a : ℕ) × (e : ℕ) × (found t k ≡ Held a e) × (part t a e ≡ v)
+pub got-found : (t k v : List ℕ) → got t k ≡ Some v → (a : ℕ) × (e : ℕ) × (found t k ≡ Ok (Some (between a e))) × (part t a e ≡ v)
 unfolding found held_at
-got-found t k v g = ⊎_elim (λ b. there (cond_yes (ltb (slot_with t k) (slots_of t)) (held_at t (slot_with t k)) NotHeld b)) (λ b. absurd (gone (sym (got-none t k (ltb-false (slot_with t k) (slots_of t) b)) ∙ g))) (either (ltb (slot_with t k) (slots_of t)))
+got-found t k v g = ⊎_elim (λ b. there (cond_yes (ltb (slot_with t k) (slots_of t)) (held_at t (slot_with t k)) (Ok None) b)) (λ b. absurd (gone (sym (got-none t k (ltb-false (slot_with t k) (slots_of t) b)) ∙ g))) (either (ltb (slot_with t k) (slots_of t)))
   where
-    gone : None ≡ Has v → ⊥
+    gone : None ≡ Some v → ⊥
     gone w = let z : ◌≡◌ {A = ℕ} 0 1 = cc in omega arith
 
-    the : {x y : List ℕ} → Has x ≡ Has y → x ≡ y
+    the : {x y : List ℕ} → Some x ≡ Some y → x ≡ y
     the w = cc
 
-    there : {a e : ℕ} → found t k ≡ Held a e → (a : ℕ) × (e : ℕ) × (found t k ≡ Held a e) × (part t a e ≡ v)
+    there : {a e : ℕ} → found t k ≡ Ok (Some (between a e)) → (a : ℕ) × (e : ℕ) × (found t k ≡ Ok (Some (between a e))) × (part t a e ≡ v)
     there {a} {e} q = (a, e, q, the (sym (found-is t k q).2 ∙ g))
 
 -- ---- keys apart
@@ -96,7 +99,7 @@ fits_in t j h = go (used (slot t j)) refl
     go false q = rw q
 
 -- ---- a put that writes slot i, into a store of any bytes
-module _ (t k v : List ℕ) (i : ℕ) (e : plan_of t k v ≡ Write i) where
+module _ (t k v : List ℕ) (i : ℕ) (e : plan_of t k v ≡ Ok (Some i)) where
   lk : length k ≤ most_key
   lk = key-most k (write-key t k v i e)
 
@@ -140,8 +143,8 @@ module _ (t k v : List ℕ) (i : ℕ) (e : plan_of t k v ≡ Write i) where
   find-new : slot_with W k ≡ i
   find-new = sym (with-same W k) ∙ writing.find-new slot_size t k (slot_bytes k v) i home es us ks
 
-  pub write-got : got W k ≡ Has v
-  write-got = got-held W k i find-new (rw wn li) ∙ ap Has (ap value_of ws ∙ bytes-value k v lk lv)
+  pub write-got : got W k ≡ Some v
+  write-got = got-held W k i find-new (rw wn li) ∙ ap Some (ap value_of ws ∙ bytes-value k v lk lv)
 
   module _ (k' : List ℕ) (ne : k ≡ k' → ⊥) where
     find-other : slot_with W k' ≡ slot_with t k'
@@ -155,7 +158,7 @@ module _ (t k v : List ℕ) (i : ℕ) (e : plan_of t k v ≡ Write i) where
     write-other = ⊎_elim (λ q. held (ltb-true (slot_with t k') (slots_of t) q)) (λ q. lost (ltb-false (slot_with t k') (slots_of t) q)) (either (ltb (slot_with t k') (slots_of t)))
       where
         held : slot_with t k' < slots_of t → got W k' ≡ got t k'
-        held l = got-held W k' (slot_with t k') find-other (rw wn l) ∙ ap (λ (x : List ℕ). Has (value_of x)) (other-slot l) ∙ sym (got-held t k' (slot_with t k') refl l)
+        held l = got-held W k' (slot_with t k') find-other (rw wn l) ∙ ap (λ (x : List ℕ). Some (value_of x)) (other-slot l) ∙ sym (got-held t k' (slot_with t k') refl l)
 
         lost : slots_of t ≤ slot_with t k' → got W k' ≡ got t k'
         lost l = got-none W k' (rw (wn, find-other) l) ∙ sym (got-none t k' l)

@@ -10,11 +10,11 @@ use Rattle.recipe.specs.Recipe.{Bounds, recipe_within}
 use Rattle.recipe.proofs.Trailer.{Recipe, recipe-is, is-recipe}
 use Rattle.recipe.proofs.Bounded.{one-alone}
 use Rattle.records.specs.Store.{slot_bytes, header, in_form, answer_of, after_of, put_answer, put_after}
-use Rattle.records.specs.declared.Answer.TheVariants.{Taken}
-use Rattle.records_history.specs.History.{Has, got, taken, accepts, offered}
+use Rattle.records_history.specs.History.{got, taken, accepts, offered}
 use Rattle.records_history.specs.Claims.{LengthInSlot, TakenWhole, Outside, RefusedBefore}
 use Rattle.records_history.proofs.Stays.{put-form, step-taken}
 use Rattle.records_history.proofs.Holding.{held-is-found, put-told}
+use Rattle.std.specs.Prelude.{Ok, Some}
 
 -- ---- laid out
 pub length-in-slot : LengthInSlot
@@ -22,11 +22,11 @@ unfolding slot_bytes header
 length-in-slot k v = (refl, refl)
 
 -- ---- found whole
-pub taken-form : (t k v : List ℕ) → put_answer t k v ≡ Taken → in_form t ≡ true
+pub taken-form : (t k v : List ℕ) → put_answer t k v ≡ Ok tt → in_form t ≡ true
 taken-form t k v e =
     ⊎_elim (λ b. b) (λ b. absurd (let q = sym (put-told.out_of_form t k v b) ∙ e in let z : ◌≡◌ {A = ℕ} 0 1 = cc in omega arith)) (either (in_form t))
 
-pub taken-got : (t k v : List ℕ) → put_answer t k v ≡ Taken → got (put_after t k v) k ≡ Has v
+pub taken-got : (t k v : List ℕ) → put_answer t k v ≡ Ok tt → got (put_after t k v) k ≡ Some v
 unfolding taken accepts offered
 taken-got t k v e = step-taken k t (record { key = k; value = v }) refl (ap taken e)
 

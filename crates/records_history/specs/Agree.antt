@@ -5,8 +5,8 @@ use Rattle.octets.specs.Octets.{same}
 use Rattle.refusal.specs.declared.Refusal.TheVariants.{NoRecordSlot}
 use Rattle.recipe.specs.Recipe.{is_recipe, outranks}
 use Rattle.records.specs.Store.{slots_of, slot, used, key_of, value_of, is_key, put_answer}
-use Rattle.records.specs.declared.Answer.TheVariants.{Refused}
-use Rattle.records_history.specs.History.{Got, Has, None, got, Offer, offered, after, cleared}
+use Rattle.records_history.specs.History.{got, Offer, offered, after, cleared}
+use Rattle.std.specs.Prelude.{Err, Some, None, Option}
 
 -- "start with no records": no slot is used. How many slots there are is free
 abbrev pub NoRecords : List ℕ → Type 0
@@ -24,7 +24,7 @@ pub record SameSet (os ps : List Offer) : Type 0 where
 -- "neither ever gave 11": none of the offers, as they come, is answered so. 8, 9 and 10 may be: "Refusals 8, 9 and 10 on the way don't spoil it"
 unfoldable pub Never11 : List ℕ → List Offer → Type 0
 Never11 t [] = Unit {0}
-Never11 t (o ∷ os) = (put_answer t o.key o.value ≡ Refused NoRecordSlot → ⊥) × Never11 (offered t o) os
+Never11 t (o ∷ os) = (put_answer t o.key o.value ≡ Err NoRecordSlot → ⊥) × Never11 (offered t o) os
 
 -- "they hold the same keys with identical values": each gives the same for every key, and every record in a slot of one stands in a slot of the other
 abbrev pub Within : List ℕ → List ℕ → Type 0
@@ -46,24 +46,24 @@ pub record Counts (rules : List ℕ → Bool) (k : List ℕ) (Among : List ℕ �
   pub fits : rules v ≡ true
 
 -- the highest-ranking of these, or none where there are none
-pub record Highest (rules : List ℕ → Bool) (k : List ℕ) (Among : List ℕ → Type 0) (g : Got) : Type 0 where
-  pub one : (u : List ℕ) → g ≡ Has u → Counts rules k Among u
-  pub top : (v : List ℕ) → Counts rules k Among v → (u : List ℕ) × (g ≡ Has u) × (outranks v u ≡ false)
+pub record Highest (rules : List ℕ → Bool) (k : List ℕ) (Among : List ℕ → Type 0) (g : Option (List ℕ)) : Type 0 where
+  pub one : (u : List ℕ) → g ≡ Some u → Counts rules k Among u
+  pub top : (v : List ℕ) → Counts rules k Among v → (u : List ℕ) × (g ≡ Some u) × (outranks v u ≡ false)
 
 -- the same worked out: what a put makes of what is held under its key, and what all offers make of it, one after the other
-unfoldable pub higher : Got → List ℕ → Got
-higher None v = Has v
-higher (Has u) v = Has (cond (outranks u v) u v)
+unfoldable pub higher : Option (List ℕ) → List ℕ → Option (List ℕ)
+higher None v = Some v
+higher (Some u) v = Some (cond (outranks u v) u v)
 
-unfoldable pub held_from : (List ℕ → Bool) → (Got → List ℕ → Got) → Got → List Offer → List ℕ → Got
+unfoldable pub held_from : (List ℕ → Bool) → ((Option (List ℕ)) → List ℕ → Option (List ℕ)) → Option (List ℕ) → List Offer → List ℕ → Option (List ℕ)
 held_from rules put g [] k = g
 held_from rules put g (o ∷ os) k = held_from rules put (cond (same o.key k && (is_key k && rules o.value)) (put g o.value) g) os k
 
-abbrev pub held_after : (List ℕ → Bool) → (Got → List ℕ → Got) → List Offer → List ℕ → Got
+abbrev pub held_after : (List ℕ → Bool) → ((Option (List ℕ)) → List ℕ → Option (List ℕ)) → List Offer → List ℕ → Option (List ℕ)
 held_after rules put os k = held_from rules put None os k
 
 -- what offers come to goes by their set alone
-abbrev pub Agrees : (List Offer → List ℕ → Got) → Type 0
+abbrev pub Agrees : (List Offer → List ℕ → Option (List ℕ)) → Type 0
 Agrees holds = (os ps : List Offer) → SameSet os ps → (k : List ℕ) → holds os k ≡ holds ps k
 
 -- ---- the request

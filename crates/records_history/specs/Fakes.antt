@@ -2,22 +2,23 @@
 -- never gives 11. Proved in proofs/Fakes.antt.
 use Rattle.std.specs.Prelude.{ℕ, ◌≡◌, Bool, true, cond, List, ◌++◌, ltb}
 use Rattle.recipe.specs.Recipe.{is_recipe, sequence_of, outranks}
-use Rattle.records_history.specs.History.{Got, Has, None, got, Offer, after}
+use Rattle.records_history.specs.History.{got, Offer, after}
 use Rattle.records_history.specs.Agree.{NoRecords, SameSet, higher, held_from, held_after, Agrees}
+use Rattle.std.specs.Prelude.{Some, None, Option}
 
 -- a put that takes the newest
-unfoldable pub takes_newest : Got → List ℕ → Got
-takes_newest g v = Has v
+unfoldable pub takes_newest : Option (List ℕ) → List ℕ → Option (List ℕ)
+takes_newest g v = Some v
 
 -- a put that ranks by sequence alone: of equal sequences neither ranks higher, so the one that came last stays
-unfoldable pub goes_by_sequence : Got → List ℕ → Got
-goes_by_sequence None v = Has v
-goes_by_sequence (Has u) v = Has (cond (ltb (sequence_of v) (sequence_of u)) u v)
+unfoldable pub goes_by_sequence : Option (List ℕ) → List ℕ → Option (List ℕ)
+goes_by_sequence None v = Some v
+goes_by_sequence (Some u) v = Some (cond (ltb (sequence_of v) (sequence_of u)) u v)
 
 -- a put that forgets what it holds when it gives 10
-unfoldable pub forgets : Got → List ℕ → Got
-forgets None v = Has v
-forgets (Has u) v = cond (outranks u v) None (Has v)
+unfoldable pub forgets : Option (List ℕ) → List ℕ → Option (List ℕ)
+forgets None v = Some v
+forgets (Some u) v = cond (outranks u v) None (Some v)
 
 -- other rules, by which every value is a recipe
 abbrev pub no_rules : List ℕ → Bool

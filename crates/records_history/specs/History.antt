@@ -2,20 +2,16 @@
 use Rattle.std.specs.Prelude.{ℕ, ◌≡◌, ◌⊎◌, Bool, true, false, cond, List, [], ◌∷◌, replicate, ltb}
 use Rattle.recipe.specs.Recipe.{outranks}
 use Rattle.records.specs.Store.{slots_of, slot, value_of, slot_with, put_answer, put_after}
-use Rattle.records.specs.declared.Answer.{Answer}
-use Rattle.records.specs.declared.Answer.TheVariants.{Taken, Refused}
-
-pub data Got : Type 0 where
-  Has : List ℕ → Got
-  None : Got
+use Rattle.std.specs.Prelude.{Ok, Err, Some, None, Result, Option, ⊤}
+use Rattle.refusal.specs.declared.Refusal.{Refusal}
 
 -- the value that a store holds under a key
-unfoldable pub got : List ℕ → List ℕ → Got
-got t k = cond (ltb (slot_with t k) (slots_of t)) (Has (value_of (slot t (slot_with t k)))) None
+unfoldable pub got : List ℕ → List ℕ → Option (List ℕ)
+got t k = cond (ltb (slot_with t k) (slots_of t)) (Some (value_of (slot t (slot_with t k)))) None
 
-unfoldable pub taken : Answer → Bool
-taken Taken = true
-taken (Refused r) = false
+unfoldable pub taken : Result ⊤ Refusal → Bool
+taken (Ok tt) = true
+taken (Err r) = false
 
 -- memory once cleared
 abbrev pub cleared : ℕ → List ℕ

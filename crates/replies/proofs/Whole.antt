@@ -3,7 +3,6 @@ use Prim.Native.Nat.{ℕ, ◌+◌, ◌≤◌, ◌<◌}
 use mathlib.Core.Path.{◌≡◌, refl, sym, ap, ap₂, subst, ◌∙◌}
 use mathlib.Core.Bool.{Bool, true, false}
 use mathlib.Core.List.{List, [], ◌∷◌, ◌++◌, map, append_assoc, append-nil}
-use mathlib.Core.Option.{none, some}
 use native.Mathlib.Omega.{arith}
 use lib.ListN.{length, get_or, take, length-append, length-take}
 use lib.Seq.{sets, get_or-take}
@@ -18,8 +17,7 @@ use Rattle.contacts.specs.Near.{sorted, nearest_slots, filled, nearest_of}
 use Rattle.contacts.specs.declared.Closest.{Closest}
 use Rattle.contacts.proofs.Sorting.{take-filled, length-filled}
 use Rattle.peer.specs.declared.Peer as peers
-use Rattle.records.specs.Store.{found}
-use Rattle.records.specs.declared.Found.TheVariants as looked
+use Rattle.records.specs.Store.{between, found}
 use Rattle.refusal.specs.declared.Refusal.{Refusal}
 use Rattle.wire.specs.Items.{Put, num, bytes, minimal, written, written1, single, repeated}
 use Rattle.wire_put.proofs.Digits.{minimal-one, minimal-three}
@@ -33,6 +31,7 @@ use Rattle.replies.specs.Replies.{closer_peers, listed, last_entry, find_node_re
 use Rattle.replies.specs.Inner.{entries_to, lies_among, entry_bytes, reply_with}
 use Rattle.replies.specs.Verdicts.{Framed}
 use Rattle.pieces.specs.Sizes.{most_peer_field, most_record_field, most_peer_fields}
+use Rattle.std.specs.Prelude.{Ok, Err, Some, None}
 
 -- ---- a body after its prefix
 two_bytes : (kind : ℕ) → kind ≤ 5 → length (written1 (num 1 kind)) ≡ 2
@@ -69,7 +68,7 @@ no_key : written (single 2 []) ≡ []
 unfolding single written
 no_key = refl
 
-no-held : written (held_items none) ≡ []
+no-held : written (held_items None) ≡ []
 unfolding held_items written
 no-held = refl
 
@@ -77,13 +76,13 @@ no-peers : (f : ℕ) → written (repeated f []) ≡ []
 unfolding repeated written
 no-peers f = refl
 
-closer-bytes : (kind : ℕ) (l : List Peer) → encode (reply_with kind none l) ≡ written1 (num 1 kind) ++ entry_bytes l
+closer-bytes : (kind : ℕ) (l : List Peer) → encode (reply_with kind None l) ≡ written1 (num 1 kind) ++ entry_bytes l
 unfolding reply_with entry_bytes
-closer-bytes kind l = message-bytes (reply_with kind none l) ∙ rw (no_key, no-held, no-peers 9, append-nil (written (repeated 8 (map encode_peer l))))
+closer-bytes kind l = message-bytes (reply_with kind None l) ∙ rw (no_key, no-held, no-peers 9, append-nil (written (repeated 8 (map encode_peer l))))
 
-held_bytes : (kind : ℕ) (r : Record) (l : List Peer) → record_fits r ≡ true → encode (reply_with kind (some r) l) ≡ written1 (num 1 kind) ++ (record_piece r ++ entry_bytes l)
+held_bytes : (kind : ℕ) (r : Record) (l : List Peer) → record_fits r ≡ true → encode (reply_with kind (Some r) l) ≡ written1 (num 1 kind) ++ (record_piece r ++ entry_bytes l)
 unfolding reply_with entry_bytes
-held_bytes kind r l e = message-bytes (reply_with kind (some r) l) ∙ rw (no_key, ← record-piece r e, no-peers 9, append-nil (written (repeated 8 (map encode_peer l))))
+held_bytes kind r l e = message-bytes (reply_with kind (Some r) l) ∙ rw (no_key, ← record-piece r e, no-peers 9, append-nil (written (repeated 8 (map encode_peer l))))
 
 put-bytes : (key value : List ℕ) → (length key ≡ 0 → ⊥) → record_fits (record_with key value) ≡ true
     → encode (put_value_reply key value) ≡ written1 (num 1 0) ++ (written1 (bytes 2 key) ++ record_piece (record_with key value))
@@ -108,11 +107,11 @@ record-piece-most key value h l = rw (record-fits key value h l) (record-entry-m
 module _ (buf b₁ : List ℕ) (r₁ : ℕ) (b₂ : List ℕ) (r₂ s : ℕ) where
   pub closer-done : (kind : ℕ) (l : List Peer) (e : ℕ) → kind ≤ 5 → (e ≡ length (entry_bytes l)) × (e ≤ most_peer_fields)
       → Put buf 0 (minimal (2 + e) ++ written1 (num 1 kind)) b₁ r₁ → Put b₁ r₁ (entry_bytes l) b₂ r₂ → s ≡ length (minimal (2 + e)) + (2 + e)
-      → Framed (reply_with kind none l) buf b₂ s
+      → Framed (reply_with kind None l) buf b₂ s
   closer-done kind l e h q p₁ p₂ es =
-      let n : 2 + e ≡ length (encode (reply_with kind none l)) =
+      let n : 2 + e ≡ length (encode (reply_with kind None l)) =
       omega (arith, ap length (closer-bytes kind l), length-append (written1 (num 1 kind)) (entry_bytes l), two_bytes kind h, q.0) in
-      framed (reply_with kind none l) (2 + e) n kind (entry_bytes l) (closer-bytes kind l) buf b₁ r₁ b₂ r₂ p₁ p₂ s es
+      framed (reply_with kind None l) (2 + e) n kind (entry_bytes l) (closer-bytes kind l) buf b₁ r₁ b₂ r₂ p₁ p₂ s es
 
 pub ping-done : (buf b₁ : List ℕ) (r₁ s : ℕ) → Put buf 0 (minimal 2 ++ written1 (num 1 5)) b₁ r₁ → s ≡ length (minimal 2) + 2 → Framed ping_reply buf b₁ s
 ping-done buf b₁ r₁ s p es =
@@ -122,23 +121,23 @@ ping-done buf b₁ r₁ s p es =
 module _ (buf b₁ : List ℕ) (r₁ : ℕ) (b₂ : List ℕ) (r₂ : ℕ) (b₃ : List ℕ) (r₃ s : ℕ) where
   pub last_done : (l : List Peer) (e o : ℕ) (p : Peer) → (e ≡ length (entry_bytes l)) × (e ≤ most_peer_fields) → (o ≡ length (peer_piece 8 p)) × (o ≤ most_peer_field) × (peer_fits p ≡ true)
       → Put buf 0 (minimal (2 + e + o) ++ written1 (num 1 4)) b₁ r₁ → Put b₁ r₁ (entry_bytes l) b₂ r₂ → Put b₂ r₂ (peer_piece 8 p) b₃ r₃ → s ≡ length (minimal (2 + e + o)) + (2 + e + o)
-      → Framed (reply_with 4 none (l ++ (p ∷ []))) buf b₃ s
+      → Framed (reply_with 4 None (l ++ (p ∷ []))) buf b₃ s
   last_done l e o p q qo p₁ p₂ p₃ es =
       let more : entry_bytes (l ++ (p ∷ [])) ≡ entry_bytes l ++ peer_piece 8 p = unfold entry_bytes in entries-more 8 l p qo.2 in
-      let b : encode (reply_with 4 none (l ++ (p ∷ []))) ≡ written1 (num 1 4) ++ (entry_bytes l ++ peer_piece 8 p) = closer-bytes 4 (l ++ (p ∷ [])) ∙ ap (λ (x : List ℕ). written1 (num 1 4) ++ x) more in
-      let n : 2 + e + o ≡ length (encode (reply_with 4 none (l ++ (p ∷ [])))) =
+      let b : encode (reply_with 4 None (l ++ (p ∷ []))) ≡ written1 (num 1 4) ++ (entry_bytes l ++ peer_piece 8 p) = closer-bytes 4 (l ++ (p ∷ [])) ∙ ap (λ (x : List ℕ). written1 (num 1 4) ++ x) more in
+      let n : 2 + e + o ≡ length (encode (reply_with 4 None (l ++ (p ∷ [])))) =
       omega (arith, ap length b, length-append (written1 (num 1 4)) (entry_bytes l ++ peer_piece 8 p), length-append (entry_bytes l) (peer_piece 8 p), two_bytes 4 (omega arith), q.0, qo.0) in
-      framed (reply_with 4 none (l ++ (p ∷ []))) (2 + e + o) n 4 (entry_bytes l ++ peer_piece 8 p) b buf b₁ r₁ b₃ r₃ p₁
+      framed (reply_with 4 None (l ++ (p ∷ []))) (2 + e + o) n 4 (entry_bytes l ++ peer_piece 8 p) b buf b₁ r₁ b₃ r₃ p₁
       (put_on b₁ r₁ (entry_bytes l) b₂ r₂ (peer_piece 8 p) b₃ r₃ p₂ p₃) s es
 
   pub held-done : (key value : List ℕ) (l : List Peer) (h e : ℕ) → length key ≤ 128 → length value ≤ most_value → h ≡ length (record_piece (record_with key value)) → (e ≡ length (entry_bytes l)) × (e ≤ most_peer_fields)
       → Put buf 0 (minimal (2 + h + e) ++ written1 (num 1 1)) b₁ r₁ → Put b₁ r₁ (record_piece (record_with key value)) b₂ r₂ → Put b₂ r₂ (entry_bytes l) b₃ r₃ → s ≡ length (minimal (2 + h + e)) + (2 + h + e)
-      → Framed (reply_with 1 (some (record_with key value)) l) buf b₃ s
+      → Framed (reply_with 1 (Some (record_with key value)) l) buf b₃ s
   held-done key value l h e hk hv eh q p₁ p₂ p₃ es =
-      let b : encode (reply_with 1 (some (record_with key value)) l) ≡ written1 (num 1 1) ++ (record_piece (record_with key value) ++ entry_bytes l) = held_bytes 1 (record_with key value) l (record-fits key value hk hv) in
-      let n : 2 + h + e ≡ length (encode (reply_with 1 (some (record_with key value)) l)) =
+      let b : encode (reply_with 1 (Some (record_with key value)) l) ≡ written1 (num 1 1) ++ (record_piece (record_with key value) ++ entry_bytes l) = held_bytes 1 (record_with key value) l (record-fits key value hk hv) in
+      let n : 2 + h + e ≡ length (encode (reply_with 1 (Some (record_with key value)) l)) =
       omega (arith, ap length b, length-append (written1 (num 1 1)) (record_piece (record_with key value) ++ entry_bytes l), length-append (record_piece (record_with key value)) (entry_bytes l), two_bytes 1 (omega arith), q.0) in
-      framed (reply_with 1 (some (record_with key value)) l) (2 + h + e) n 1 (record_piece (record_with key value) ++ entry_bytes l) b buf b₁ r₁ b₃ r₃ p₁
+      framed (reply_with 1 (Some (record_with key value)) l) (2 + h + e) n 1 (record_piece (record_with key value) ++ entry_bytes l) b buf b₁ r₁ b₃ r₃ p₁
       (put_on b₁ r₁ (record_piece (record_with key value)) b₂ r₂ (entry_bytes l) b₃ r₃ p₂ p₃) s es
 
   pub echo-done : (key value : List ℕ) (v h : ℕ) → 1 ≤ length key → length key ≤ 128 → length value ≤ most_value → v ≡ length (minimal (length key)) → h ≡ length (record_piece (record_with key value))
@@ -196,7 +195,7 @@ module _ (me who : peers.Peer) (t key x : List ℕ) (near : Closest) (ex : x ≡
   abbrev L : List Peer
   L = entries_to t near.at near.n
 
-  find-is : (last : List Peer) → last_entry me who t x ≡ last → reply_with 4 none (L ++ last) ≡ find_node_reply me who t key
+  find-is : (last : List Peer) → last_entry me who t x ≡ last → reply_with 4 None (L ++ last) ≡ find_node_reply me who t key
   unfolding reply_with find_node_reply
   find-is last q = rw (near-entries t x near e, ← q, ex)
 
@@ -204,30 +203,30 @@ module _ (me who : peers.Peer) (t key x : List ℕ) (near : Closest) (ex : x ≡
     is-listed : b ≡ listed t x
     is-listed = eb ∙ near-listed t x near e
 
-    pub find-listed : b ≡ true → reply_with 4 none L ≡ find_node_reply me who t key
-    find-listed y = ap (reply_with 4 none) (sym (append-nil L)) ∙ find-is [] (unfold last_entry in rw (← is-listed, y))
+    pub find-listed : b ≡ true → reply_with 4 None L ≡ find_node_reply me who t key
+    find-listed y = ap (reply_with 4 None) (sym (append-nil L)) ∙ find-is [] (unfold last_entry in rw (← is-listed, y))
 
     module _ (n : b ≡ false) (c : Bool) (ec : c ≡ same x me.place) where
-      pub find-me : c ≡ true → reply_with 4 none (L ++ (peer_entry me ∷ [])) ≡ find_node_reply me who t key
+      pub find-me : c ≡ true → reply_with 4 None (L ++ (peer_entry me ∷ [])) ≡ find_node_reply me who t key
       find-me y = find-is (peer_entry me ∷ []) (unfold last_entry in rw (← is-listed, n, ← ec, y))
 
       module _ (m : c ≡ false) (d : Bool) (ed : d ≡ same x who.place) where
-        pub find-who : d ≡ true → reply_with 4 none (L ++ (peer_entry who ∷ [])) ≡ find_node_reply me who t key
+        pub find-who : d ≡ true → reply_with 4 None (L ++ (peer_entry who ∷ [])) ≡ find_node_reply me who t key
         find-who y = find-is (peer_entry who ∷ []) (unfold last_entry in rw (← is-listed, n, ← ec, m, ← ed, y))
 
-        pub find_none : d ≡ false → reply_with 4 none L ≡ find_node_reply me who t key
-        find_none y = ap (reply_with 4 none) (sym (append-nil L)) ∙ find-is [] (unfold last_entry in rw (← is-listed, n, ← ec, m, ← ed, y))
+        pub find_none : d ≡ false → reply_with 4 None L ≡ find_node_reply me who t key
+        find_none y = ap (reply_with 4 None) (sym (append-nil L)) ∙ find-is [] (unfold last_entry in rw (← is-listed, n, ← ec, m, ← ed, y))
 
 -- ---- GET_VALUE
 module _ (t k key x : List ℕ) (near : Closest) (ex : x ≡ place_of key) (e : near ≡ nearest_of t x) where
-  pub get-held : (a z : ℕ) → found k key ≡ looked.Held a z → reply_with 1 (some (record_with key (part k a z))) (entries_to t near.at near.n) ≡ get_value_reply t k key
+  pub get-held : (a z : ℕ) → found k key ≡ Ok (Some (between a z)) → reply_with 1 (Some (record_with key (part k a z))) (entries_to t near.at near.n) ≡ get_value_reply t k key
   unfolding reply_with get_value_reply record_with
   get-held a z q = rw (near-entries t x near e, q, ex)
 
-  pub get_none : found k key ≡ looked.NotHeld → reply_with 1 none (entries_to t near.at near.n) ≡ get_value_reply t k key
+  pub get_none : found k key ≡ Ok None → reply_with 1 None (entries_to t near.at near.n) ≡ get_value_reply t k key
   unfolding reply_with get_value_reply
   get_none q = rw (near-entries t x near e, q, ex)
 
-  pub get_refused : (r : Refusal) → found k key ≡ looked.Refused r → reply_with 1 none (entries_to t near.at near.n) ≡ get_value_reply t k key
+  pub get_refused : (r : Refusal) → found k key ≡ Err r → reply_with 1 None (entries_to t near.at near.n) ≡ get_value_reply t k key
   unfolding reply_with get_value_reply
   get_refused r q = rw (near-entries t x near e, q, ex)

@@ -1,12 +1,12 @@
 -- What the inner functions of the crate ensure. No reader of the public contracts needs these.
 use Rattle.std.specs.Prelude.{ℕ, Bool, List, [], map, get_or, take}
-use Rattle.std.proofs.Math.Option.{Option}
 use Rattle.octets.specs.Octets.{same}
 use Rattle.octets.specs.Search.{some as some_below}
 use Rattle.contacts.specs.Table.{slot, place}
 use Rattle.wire.specs.Items.{written, repeated}
 use Rattle.message.specs.Message.{Peer, Record, Message, encode_peer}
 use Rattle.entries.specs.Entries.{contact_entry}
+use Rattle.std.specs.Prelude.{Option}
 
 -- the contacts of the first n slots that a list names, as entries
 unfoldable pub entries_to : List ℕ → List ℕ → ℕ → List Peer

@@ -1,6 +1,5 @@
 -- The replies to requests, as messages: RULES, Answers.
 use Rattle.std.specs.Prelude.{ℕ, Bool, cond, List, [], ◌∷◌, ◌++◌, map, length, get_or}
-use Rattle.std.proofs.Math.Option.{Option, none, some}
 use Rattle.message.specs.Kinds.{put_value, get_value, find_node, ping}
 use Rattle.octets.specs.Octets.{part, same}
 use Rattle.octets.specs.Search.{some as some_below}
@@ -9,10 +8,11 @@ use Rattle.contacts.specs.Table.{slot, place}
 use Rattle.contacts.specs.Near.{nearest_slots}
 use Rattle.entries.specs.Entries.{contact_entry, peer_entry}
 use Rattle.peer.specs.declared.Peer as peers
-use Rattle.records.specs.declared.Found.{Found}
-use Rattle.records.specs.declared.Found.TheVariants as looked
 use Rattle.records.specs.Store.{found}
 use Rattle.message.specs.Message.{Peer, Record, Message}
+use Rattle.std.specs.Prelude.{Ok, Err, Some, None, Result, Option}
+use Rattle.records.specs.declared.Held.{Held}
+use Rattle.refusal.specs.declared.Refusal.{Refusal}
 
 -- ---- closer peers
 -- "closerPeers are the 20 nearest contacts", nearest first, the doubtful passed over: those of the table t nearest to the place x
@@ -33,13 +33,13 @@ last_entry me who t x =
 -- ---- the replies
 unfoldable pub find_node_reply : peers.Peer → peers.Peer → List ℕ → List ℕ → Message
 find_node_reply me who t key =
-    record { kind = find_node; key = []; held = none; closer = closer_peers t (place_of key) ++ last_entry me who t (place_of key); providers = [] }
+    record { kind = find_node; key = []; held = None; closer = closer_peers t (place_of key) ++ last_entry me who t (place_of key); providers = [] }
 
 -- the record that a store holds under a key
-abbrev pub record_at : List ℕ → List ℕ → Found → Option Record
-record_at k key (looked.Held at end) = some (record { key = key; value = part k at end })
-record_at k key looked.NotHeld = none
-record_at k key (looked.Refused r) = none
+abbrev pub record_at : List ℕ → List ℕ → Result (Option Held) Refusal → Option Record
+record_at k key (Ok (Some h)) = Some (record { key = key; value = part k h.start h.end })
+record_at k key (Ok None) = None
+record_at k key (Err r) = None
 
 -- "GET_VALUE adds the record, if held"
 unfoldable pub get_value_reply : List ℕ → List ℕ → List ℕ → Message
@@ -47,8 +47,8 @@ get_value_reply t k key = record { kind = get_value; key = []; held = record_at 
 
 -- "Echo: type, key, record's key and value"
 unfoldable pub put_value_reply : List ℕ → List ℕ → Message
-put_value_reply key value = record { kind = put_value; key = key; held = some (record { key = key; value = value }); closer = []; providers = [] }
+put_value_reply key value = record { kind = put_value; key = key; held = Some (record { key = key; value = value }); closer = []; providers = [] }
 
 -- "PING: type alone"
 unfoldable pub ping_reply : Message
-ping_reply = record { kind = ping; key = []; held = none; closer = []; providers = [] }
+ping_reply = record { kind = ping; key = []; held = None; closer = []; providers = [] }

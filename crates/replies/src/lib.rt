@@ -2,7 +2,6 @@
 // The replies to requests, written straight from contact and record memory into a reply buffer: FIND_NODE, GET_VALUE, PUT_VALUE and PING. Every public
 // function takes any bytes: callers test form and sizes first.
 ghost use Rattle.std.specs.Prelude.{◌≡◌, List, [], ◌∷◌, ◌++◌, true, ℕ, ◌+◌, ◌<◌, ◌≤◌, length};
-ghost use Rattle.std.proofs.Math.Option.{none, some};
 ghost use Rattle.limits.specs.Limits.{most_key, most_value, most_body, most_kind, most_near};
 ghost use Rattle.wire.specs.Items.{Put, minimal, num, written1};
 ghost use Rattle.pieces.specs.Writable.{record_with};
@@ -14,15 +13,7 @@ ghost use Rattle.replies.specs.Inner.{entries_to, lies_among, entry_bytes, reply
 ghost use Rattle.pieces.specs.Sizes.{most_peer_fields};
 
 use peer::Peer;
-use records::Found;
 use refusal::Refusal;
-
-#[derive(Drop)]
-pub enum Answered {
-    // The reply stands at the reply buffer's start: so many bytes, with its length prefix.
-    Reply(usize),
-    Refused(Refusal),
-}
 
 // How many bytes the first n contacts of a list of slots take as entries.
 fn entries_len(table: &[u8], near: &[usize], n: usize) -> usize
@@ -30,10 +21,8 @@ fn entries_len(table: &[u8], near: &[usize], n: usize) -> usize
     ensures { (result ≡ length (entry_bytes (entries_to table.now near.now n))) × (result ≤ most_peer_fields) }
 {
     let mut sum: usize = 0;
-    let mut k: usize = 0;
-    while k < n {
+    for k in 0..n {
         sum += entries::contact_len(table, near[k]);
-        k += 1;
     }
     sum
 }
@@ -44,10 +33,8 @@ fn put_entries(buf: &mut [u8], from: usize, table: &[u8], near: &[usize], n: usi
     ensures { Put buf.old from (entry_bytes (entries_to table.now near.now n)) buf.new result }
 {
     let mut to = from;
-    let mut k: usize = 0;
-    while k < n {
+    for k in 0..n {
         to = entries::put_contact(buf, to, table, near[k]);
-        k += 1;
     }
     to
 }
@@ -57,12 +44,10 @@ fn lies_among(table: &[u8], near: &[usize], n: usize, x: &[u8]) -> bool
     requires { n ≤ length near.now }
     ensures { result ≡ lies_among table.now near.now n x.now }
 {
-    let mut k: usize = 0;
-    while k < n {
+    for k in 0..n {
         if octets::same_bytes(contacts::place_of(table, near[k]), x) {
             return true;
         }
-        k += 1;
     }
     false
 }
@@ -86,7 +71,7 @@ fn framed_len(size: usize) -> usize
 // A reply of closer peers alone.
 fn reply_closer(reply: &mut [u8], kind: u64, table: &[u8], near: &[usize], n: usize) -> usize
     requires { (n ≤ most_near) × (n ≤ length near.now) × (kind ≤ most_kind) }
-    ensures { Framed (reply_with kind none (entries_to table.now near.now n)) reply.old reply.new result }
+    ensures { Framed (reply_with kind None (entries_to table.now near.now n)) reply.old reply.new result }
 {
     let size = 2 + entries_len(table, near, n);
     let a = begin(reply, size, kind);
@@ -97,7 +82,7 @@ fn reply_closer(reply: &mut [u8], kind: u64, table: &[u8], near: &[usize], n: us
 // FIND_NODE's reply with a last entry.
 fn reply_last(reply: &mut [u8], table: &[u8], near: &[usize], n: usize, p: Peer) -> usize
     requires { (n ≤ most_near) × (n ≤ length near.now) }
-    ensures { Framed (reply_with 4 none (entries_to table.now near.now n ++ (peer_entry p ∷ []))) reply.old reply.new result }
+    ensures { Framed (reply_with 4 None (entries_to table.now near.now n ++ (peer_entry p ∷ []))) reply.old reply.new result }
 {
     let size = 2 + entries_len(table, near, n) + entries::own_len(p);
     let a = begin(reply, size, message::FIND_NODE);
@@ -116,7 +101,7 @@ fn reply_held(
     n: usize,
 ) -> usize
     requires { (n ≤ most_near) × (n ≤ length near.now) × (length key.now ≤ most_key) × (length value.now ≤ most_value) }
-    ensures { Framed (reply_with 1 (some (record_with key.now value.now)) (entries_to table.now near.now n)) reply.old reply.new result }
+    ensures { Framed (reply_with 1 (Some (record_with key.now value.now)) (entries_to table.now near.now n)) reply.old reply.new result }
 {
     let size = 2 + pieces::record_len(key, value) + entries_len(table, near, n);
     let a = begin(reply, size, message::GET_VALUE);
@@ -178,30 +163,41 @@ fn get_value(reply: &mut [u8], key: &[u8], table: &[u8], records: &[u8]) -> usiz
     let at = near.at;
     let n = near.n;
     match records::look(records, key) {
-        Found::Held { start, end } => reply_held(reply, key, &records[start..end], table, &at, n),
-        Found::NotHeld => reply_closer(reply, message::GET_VALUE, table, &at, n),
-        Found::Refused(_) => reply_closer(reply, message::GET_VALUE, table, &at, n),
+        Ok(Some(held)) => reply_held(reply, key, &records[held.start..held.end], table, &at, n),
+        Ok(None) => reply_closer(reply, message::GET_VALUE, table, &at, n),
+        Err(_) => reply_closer(reply, message::GET_VALUE, table, &at, n),
     }
 }
 
 // Answers FIND_NODE.
-pub fn answer_find(reply: &mut [u8], me: Peer, who: Peer, key: &[u8], table: &[u8]) -> Answered
+pub fn answer_find(
+    reply: &mut [u8],
+    me: Peer,
+    who: Peer,
+    key: &[u8],
+    table: &[u8],
+) -> Result<usize, Refusal>
     ensures { Told (keyed key.now (find_node_reply me who table.now key.now)) reply.old reply.new result }
 {
     if message::key_fits(key) {
-        return Answered::Reply(find_node(reply, me, who, key, table));
+        return Ok(find_node(reply, me, who, key, table));
     }
-    Answered::Refused(Refusal::BreaksRules)
+    Err(Refusal::BreaksRules)
 }
 
 // Answers GET_VALUE.
-pub fn answer_get(reply: &mut [u8], key: &[u8], table: &[u8], records: &[u8]) -> Answered
+pub fn answer_get(
+    reply: &mut [u8],
+    key: &[u8],
+    table: &[u8],
+    records: &[u8],
+) -> Result<usize, Refusal>
     ensures { Told (keyed key.now (get_value_reply table.now records.now key.now)) reply.old reply.new result }
 {
     if message::key_fits(key) {
-        return Answered::Reply(get_value(reply, key, table, records));
+        return Ok(get_value(reply, key, table, records));
     }
-    Answered::Refused(Refusal::BreaksRules)
+    Err(Refusal::BreaksRules)
 }
 
 // Answers PUT_VALUE with a record: stores it, unless the store refuses it. Whatever contacts t are lent beside.
@@ -211,14 +207,12 @@ pub fn answer_put(
     key: &[u8],
     record_key: &[u8],
     value: &[u8],
-) -> Answered
-    ensures { (t : List ℕ) → Gives (put_dealt key.now (some (record_with record_key.now value.now)) (lent t records.old reply.old)) result records.new reply.new }
+) -> Result<usize, Refusal>
+    ensures { (t : List ℕ) → Gives (put_dealt key.now (Some (record_with record_key.now value.now)) (lent t records.old reply.old)) result records.new reply.new }
 {
     if !octets::same_bytes(record_key, key) {
-        return Answered::Refused(Refusal::BreaksRules);
+        return Err(Refusal::BreaksRules);
     }
-    match records::offer(records, key, value) {
-        records::Answer::Taken => Answered::Reply(echo(reply, key, value)),
-        records::Answer::Refused(r) => Answered::Refused(r),
-    }
+    records::offer(records, key, value)?;
+    Ok(echo(reply, key, value))
 }

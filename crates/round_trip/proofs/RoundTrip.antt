@@ -3,7 +3,6 @@ use Prim.Native.Nat.{ℕ, ◌≤◌, ◌<◌, ◌^◌}
 use mathlib.Core.Path.{◌≡◌, refl, ◌∙◌}
 use mathlib.Core.List.{List, [], ◌∷◌, ◌++◌, map, append-nil, flatten as joined}
 use mathlib.Core.Bool.{true, false}
-use mathlib.Core.Option.{Option, none, some}
 use native.Mathlib.Omega.{arith}
 use lib.ListN.{length}
 use lib.Dec.{eqb}
@@ -18,6 +17,7 @@ use Rattle.wire_put.proofs.RoundTrip.{read_back, good-append, good-well, values-
 use Rattle.message.specs.Message.{Peer, Record, Message, record_of, connection_of, peer_of, merged, message_of, well_formed, well_message, decode, peer_items, encode_peer, record_items, encode_record, held_items, message_items, encode}
 use Rattle.pieces.specs.Writable.{peer_fits, writable}
 use Rattle.round_trip.specs.Claims.{RoundTrip}
+use Rattle.std.specs.Prelude.{Some, None, Option}
 
 -- ---- a record
 module _ (r : Record) where
@@ -104,28 +104,28 @@ module _ (n : ℕ) (hn : n < 2 ^ 64) where
 
   held-well : (o : Option Record) → Short n (parts 3 (held_items o)) → every well_formed (parts 3 (held_items o)) ≡ true
   unfolding every held_items parts
-  held-well none s = refl
-  held-well (some r) s = rw (record-well r (omega arith))
+  held-well None s = refl
+  held-well (Some r) s = rw (record-well r (omega arith))
 
   held_back : (o : Option Record) → Short n (parts 3 (held_items o)) → merged (parts 3 (held_items o)) ≡ o
   unfolding merged joined held_items parts
-  held_back none s = refl
-  held_back (some r) s = rw (append-nil (encode_record r), record-back r (omega arith))
+  held_back None s = refl
+  held_back (Some r) s = rw (append-nil (encode_record r), record-back r (omega arith))
 
 held-good : (o : Option Record) → AllGood (held_items o)
 unfolding held_items
-held-good none = tt
-held-good (some r) = ((omega arith, omega arith), tt)
+held-good None = tt
+held-good (Some r) = ((omega arith, omega arith), tt)
 
 held-values : (g : ℕ) (o : Option Record) → values g (held_items o) ≡ []
 unfolding held_items values
-held-values g none = refl
-held-values g (some r) = refl
+held-values g None = refl
+held-values g (Some r) = refl
 
 held-parts : (g : ℕ) → eqb 3 g ≡ false → (o : Option Record) → parts g (held_items o) ≡ []
 unfolding held_items parts
-held-parts g e none = refl
-held-parts g e (some r) = rw e
+held-parts g e None = refl
+held-parts g e (Some r) = rw e
 
 -- ---- a message
 module _ (m : Message) where
@@ -211,7 +211,7 @@ module _ (m : Message) where
           peers-back (length (encode m)) h m.providers c₂ (rw of-providers at (short 9)),
         )
 
-    pub decode-encode : decode (encode m) ≡ some m
+    pub decode-encode : decode (encode m) ≡ Some m
     unfolding decode
     decode-encode = rw (message-well, message-back)
 

@@ -4,16 +4,16 @@ use mathlib.Core.Bool.{true}
 use Rattle.message.specs.Message.{Message, encode}
 use Rattle.message.specs.View.{fields_of, reading_of, meant}
 use Rattle.pieces.specs.Writable.{writable}
-use Rattle.message.specs.declared.Reading.TheVariants.{Whole}
 use Rattle.message.proofs.Views.{whole-read}
 use Rattle.round_trip.specs.Claims.{WrittenIsRead}
 use Rattle.round_trip.proofs.RoundTrip.{fitting, round_trip}
+use Rattle.std.specs.Prelude.{Ok}
 
 module _ (m : Message) (w : writable m ≡ true) where
-  both : (reading_of (encode m) ≡ Whole (fields_of (encode m))) × (meant (encode m) (fields_of (encode m)) ≡ m)
+  both : (reading_of (encode m) ≡ Ok (fields_of (encode m))) × (meant (encode m) (fields_of (encode m)) ≡ m)
   both = let f = fitting m w in whole-read (encode m) m f.body (round_trip m w) f.kind
 
-  pub read-written : reading_of (encode m) ≡ Whole (fields_of (encode m))
+  pub read-written : reading_of (encode m) ≡ Ok (fields_of (encode m))
   read-written = both.0
 
   pub meant-written : meant (encode m) (fields_of (encode m)) ≡ m

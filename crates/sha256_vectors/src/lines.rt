@@ -1,19 +1,15 @@
 // Lines of text: where one ends, and the value of a line `NAME = VALUE`.
-ghost use Rattle.std.specs.Prelude.{◌≡◌, true, ◌+◌, ◌-◌, ◌≤◌, min, length};
+ghost use Rattle.std.specs.Prelude.{IfSome, ◌≡◌, true, ◌+◌, ◌-◌, ◌≤◌, min, length};
 
 // Where the line that `at` stands in ends: at its line feed, or at the text's end.
 fn line_end(text: &[u8], at: usize) -> usize
     requires { at ≤ length text.now }
     ensures { (at ≤ result) × (result ≤ length text.now) }
 {
-    let mut i = at;
-    while i < text.len() {
-        if text[i] == b'\n' {
-            return i;
-        }
-        i += 1;
+    match text[at..].iter().position(|c| *c == b'\n') {
+        Some(n) => at + n,
+        None => text.len(),
     }
-    i
 }
 
 // What follows a line that ends at `end`, in a text of `size` bytes: the next line, or nothing.
@@ -56,39 +52,37 @@ fn begins(s: &[u8], name: &[u8]) -> bool
     &s[..n] == name
 }
 
-// A line whose value stands from `from` up to `to`, and after which the next one starts at `next`. Where `found` is false the line has
-// another name, and no value.
+// Where a value stands in a text: from `from` up to `to`.
 #[derive(Clone, Copy)]
-pub struct Line {
-    pub found: bool,
+pub struct Span {
     pub from: usize,
     pub to: usize,
+}
+
+// A line after which the next one starts at `next`. It has no value where its name is another one.
+#[derive(Clone, Copy)]
+pub struct Line {
+    pub value: Option<Span>,
     pub next: usize,
 }
 
 // The line at `at`, with its value where it begins with `name`. There is always a next line, or the end, so a reader gets on.
 pub fn line_at(text: &[u8], at: usize, name: &[u8]) -> Line
     requires { at ≤ length text.now }
-    ensures from_le_to { (result.from ≤ result.to) × (result.to ≤ length text.now) }
+    ensures from_le_to { IfSome result.value (λ v. (v.from ≤ v.to) × (v.to ≤ length text.now)) }
     ensures at_le_next { (at ≤ result.next) × (result.next ≤ length text.now) × (min (at + 1) (length text.now) ≤ result.next) }
 {
     let end = line_end(text, at);
     let next = after(end, text.len());
     let to = without_return(text, at, end);
     if begins(&text[at..to], name) {
+        let from = at + name.len();
         return Line {
-            found: true,
-            from: at + name.len(),
-            to: to,
-            next: next,
+            value: Some(Span { from, to }),
+            next,
         };
     }
-    Line {
-        found: false,
-        from: at,
-        to: at,
-        next: next,
-    }
+    Line { value: None, next }
 }
 
 // The value of a decimal digit.
@@ -99,32 +93,20 @@ fn decimal(c: u8) -> usize
     (c - b'0') as usize
 }
 
-#[derive(Drop)]
-pub enum Number {
-    Is(usize),
-    Nothing,
-}
-
 // The number that decimal digits say. Nothing where there are none, where a byte is no digit, and from a thousand million on.
-pub fn value_of(src: &[u8]) -> Number {
-    if src.len() == 0 {
-        return Number::Nothing;
+pub fn value_of(src: &[u8]) -> Option<usize> {
+    if src.is_empty() {
+        return None;
     }
     let mut value: usize = 0;
-    let mut i = 0;
-    while i < src.len() {
-        let c = src[i];
-        if c < b'0' {
-            return Number::Nothing;
-        }
-        if c > b'9' {
-            return Number::Nothing;
+    for &c in src {
+        if !c.is_ascii_digit() {
+            return None;
         }
         if value > 99_999_999 {
-            return Number::Nothing;
+            return None;
         }
         value = value * 10 + decimal(c);
-        i += 1;
     }
-    Number::Is(value)
+    Some(value)
 }

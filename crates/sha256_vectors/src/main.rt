@@ -7,10 +7,10 @@
 mod hex;
 mod lines;
 
-ghost use Rattle.std.specs.Prelude.{IfOk, ◌≡◌, true, ◌+◌, ◌*◌, ◌≤◌, ◌<◌, length, replicate};
+ghost use Rattle.std.specs.Prelude.{IfOk, IfSome, ◌≡◌, true, ◌+◌, ◌*◌, ◌≤◌, ◌<◌, length, replicate};
 ghost use Rattle.sha256.specs.Sha256.{sha256};
 
-use lines::{Line, Number};
+use lines::{Line, Span};
 use std::fs::File;
 use std::io;
 use std::io::{Print, Read, Stdout};
@@ -29,20 +29,6 @@ struct Tally {
 enum Verdict {
     Agrees,
     Differs(usize),
-    Malformed,
-}
-
-// How many bytes a message has. Where `good` is false it has no place among the vectors.
-#[derive(Drop)]
-struct Size {
-    good: bool,
-    bytes: usize,
-}
-
-#[derive(Drop)]
-struct Digest {
-    good: bool,
-    bytes: [u8; 32],
 }
 
 fn say(out: Stdout, text: &[u8]) -> io::Result<()> {
@@ -68,78 +54,46 @@ fn agrees(message: &[u8], digest: &[u8]) -> bool
 }
 
 // How many bytes a message has whose length line says `bits` and whose message line has `digits` digits. The message of no bits is
-// written 00. Bad where the two lines don't fit each other, or the message is more than `room`.
-fn size_of(bits: usize, digits: usize, room: usize) -> Size
-    ensures { (2 * result.bytes ≤ digits) × (result.bytes ≤ room) }
+// written 00. None where the two lines don't fit each other, or the message is more than `room`.
+fn size_of(bits: usize, digits: usize, room: usize) -> Option<usize>
+    ensures { IfSome result (λ n. (2 * n ≤ digits) × (n ≤ room)) }
 {
     if bits == 0 {
-        return Size {
-            good: digits == 2,
-            bytes: 0,
-        };
+        return (digits == 2).then_some(0);
     }
     let n = bits / 8;
-    if n * 8 == bits {
-        if digits / 2 == n {
-            if digits % 2 == 0 {
-                if n <= room {
-                    return Size {
-                        good: true,
-                        bytes: n,
-                    };
-                }
-            }
-        }
+    if n * 8 == bits && digits / 2 == n && digits % 2 == 0 && n <= room {
+        return Some(n);
     }
-    Size {
-        good: false,
-        bytes: 0,
-    }
+    None
 }
 
-// The message that two lines give, put at the start of `room`.
-fn message_of(text: &[u8], bits: Line, digits: Line, room: &mut [u8]) -> Size
+// How many bytes the message has that two lines give. It is put at the start of `room`. None where it has no place among the vectors.
+fn message_of(text: &[u8], bits: Span, digits: Span, room: &mut [u8]) -> Option<usize>
     requires from_le_to { (bits.from ≤ bits.to) × (bits.to ≤ length text.now) }
     requires from_le_to_2 { (digits.from ≤ digits.to) × (digits.to ≤ length text.now) }
-    ensures { result.bytes ≤ length room.new }
+    ensures { IfSome result (λ n. n ≤ length room.new) }
 {
-    let from = bits.from;
-    let to = bits.to;
-    let Number::Is(said) = lines::value_of(&text[from..to]) else {
-        return Size {
-            good: false,
-            bytes: 0,
-        };
-    };
-    let start = digits.from;
-    let end = digits.to;
-    let size = size_of(said, end - start, room.len());
-    let n = size.bytes;
-    let spelled = hex::decode(&text[start..end], n, room);
-    Size {
-        good: size.good && spelled,
-        bytes: n,
+    let said = lines::value_of(&text[bits.from..bits.to])?;
+    let n = size_of(said, digits.to - digits.from, room.len())?;
+    if !hex::decode(&text[digits.from..digits.to], n, room) {
+        return None;
     }
+    Some(n)
 }
 
 // The digest that a line gives: 64 digits.
-fn digest_of(text: &[u8], line: Line) -> Digest
+fn digest_of(text: &[u8], line: Span) -> Option<[u8; 32]>
     requires { (line.from ≤ line.to) × (line.to ≤ length text.now) }
 {
-    let from = line.from;
-    let to = line.to;
+    if line.to - line.from != 64 {
+        return None;
+    }
     let mut bytes = [0u8; 32];
-    if to - from != 64 {
-        return Digest {
-            good: false,
-            bytes: bytes,
-        };
+    if !hex::decode(&text[line.from..line.to], 32, &mut bytes) {
+        return None;
     }
-    let spelled = hex::decode(&text[from..to], 32, &mut bytes);
-    Digest {
-        good: spelled,
-        bytes: bytes,
-    }
+    Some(bytes)
 }
 
 // Gives the rest of a text of `size` bytes up, where it isn't what a vector file holds.
@@ -168,34 +122,18 @@ fn accuse(out: Stdout, name: &[u8], at: usize, bytes: usize) -> io::Result<()> {
     say(out, b" bytes, DISAGREES\n")
 }
 
-// Whether each of a vector's three lines is there.
-fn are_found(bits: Line, digits: Line, digest: Line) -> bool {
-    bits.found && digits.found && digest.found
-}
-
-// Whether the vector of three lines agrees. Its message goes into `room`.
-fn verdict_on(text: &[u8], bits: Line, digits: Line, line: Line, room: &mut [u8]) -> Verdict
-    requires from_le_to { (bits.from ≤ bits.to) × (bits.to ≤ length text.now) }
-    requires from_le_to_2 { (digits.from ≤ digits.to) × (digits.to ≤ length text.now) }
-    requires from_le_to_3 { (line.from ≤ line.to) × (line.to ≤ length text.now) }
+// What comes of the vector of three lines. Its message goes into `room`. None where they are no vector.
+fn verdict_on(text: &[u8], bits: Line, digits: Line, line: Line, room: &mut [u8]) -> Option<Verdict>
+    requires from_le_to { IfSome bits.value (λ v. (v.from ≤ v.to) × (v.to ≤ length text.now)) }
+    requires from_le_to_2 { IfSome digits.value (λ v. (v.from ≤ v.to) × (v.to ≤ length text.now)) }
+    requires from_le_to_3 { IfSome line.value (λ v. (v.from ≤ v.to) × (v.to ≤ length text.now)) }
 {
-    if !are_found(bits, digits, line) {
-        return Verdict::Malformed;
-    }
-    let digest = digest_of(text, line);
-    if !digest.good {
-        return Verdict::Malformed;
-    }
-    let want = digest.bytes;
-    let size = message_of(text, bits, digits, room);
-    let n = size.bytes;
-    if !size.good {
-        return Verdict::Malformed;
-    }
+    let want = digest_of(text, line.value?)?;
+    let n = message_of(text, bits.value?, digits.value?, room)?;
     if agrees(&room[..n], &want) {
-        return Verdict::Agrees;
+        return Some(Verdict::Agrees);
     }
-    Verdict::Differs(n)
+    Some(Verdict::Differs(n))
 }
 
 // One more vector, after which the text goes on at `next`; `more` is 1 where it agreed and 0 where it didn't.
@@ -221,16 +159,12 @@ fn judge(out: Stdout, name: &[u8], text: &[u8], t: Tally, room: &mut [u8]) -> io
     let digits = lines::line_at(text, bits.next, b"Msg = ");
     let line = lines::line_at(text, digits.next, b"MD = ");
     match verdict_on(text, bits, digits, line, room) {
-        Verdict::Agrees => {
-            return Ok(counted(t, line.next, 1));
-        }
-        Verdict::Differs(bytes) => {
+        Some(Verdict::Agrees) => Ok(counted(t, line.next, 1)),
+        Some(Verdict::Differs(bytes)) => {
             accuse(out, name, at, bytes)?;
-            return Ok(counted(t, line.next, 0));
+            Ok(counted(t, line.next, 0))
         }
-        Verdict::Malformed => {
-            return give_up(out, name, t, text.len());
-        }
+        None => give_up(out, name, t, text.len()),
     }
 }
 

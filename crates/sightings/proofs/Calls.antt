@@ -17,15 +17,13 @@ use Rattle.sightings.specs.declared.Sighting.{Sighting}
 use Rattle.sightings.specs.declared.Sighting.TheVariants as seen
 use Rattle.sightings.specs.declared.Settled.{Settled}
 use Rattle.sightings.specs.declared.Settled.TheVariants as settle
-use Rattle.sightings.specs.declared.Removed.{Removed}
-use Rattle.sightings.specs.declared.Removed.TheVariants as remove
-use Rattle.sightings.specs.declared.Doubted.{Doubted}
-use Rattle.sightings.specs.declared.Doubted.TheVariants as doubt
 use Rattle.contact_order.specs.Order.{held_at, free_at, head_at, tail_of, held}
 use Rattle.sightings.specs.Order.{contact_bytes, move_to_tail, move_and_renew, dropped, join, doubt_at}
 use Rattle.sightings.specs.Sightings.{newcomer, sighting_of, after_sighting, seen_table, fits, settlement_of, after_settling, settled_table, removal_of, after_removal, removed_table, marking_of, after_marking, marked_table}
 use Rattle.sightings.proofs.Moves.{join-at-done}
 use Rattle.sightings.proofs.Dropping.{drop-free, drop-tail}
+use Rattle.std.specs.Prelude.{Ok, Err, Result, ⊤}
+use Rattle.refusal.specs.declared.Refusal.{Refusal}
 
 -- ---- held
 module _ (t p : List ℕ) (n i : ℕ) (q : n ≡ slots_of t) (e : i ≡ held_at t p) where
@@ -48,59 +46,59 @@ module _ (t o : List ℕ) (p : Peer) (b k : ℕ) (e : b ≡ bucket_of p.place o)
   tail-is = sym (g ∙ ap (tail_of t o) e)
 
   -- an answer, and what it does
-  abbrev pub New : Sighting → List ℕ → Type 0
+  abbrev pub New : Result Sighting Refusal → List ℕ → Type 0
   New r u = (r ≡ newcomer t o p) × (u ≡ after_sighting t o p r)
 
-  pub new-full : (h : ℕ) → 20 ≤ k → h ≡ head_at t o b → New (seen.Probe h) t
+  pub new-full : (h : ℕ) → 20 ≤ k → h ≡ head_at t o b → New (Ok (seen.Probe h)) t
   unfolding newcomer after_sighting
   new-full h l f = (
     sym (cond_yes (leb 20 (tail_of t o (bucket_of p.place o))) _ _ (le-leb 20 (tail_of t o (bucket_of p.place o)) (omega (arith, tail-is)))
-        ∙ ap (λ (x : ℕ). seen.Probe x) (sym (f ∙ ap (head_at t o) e))),
+        ∙ ap (λ (x : ℕ). (Ok (seen.Probe x))) (sym (f ∙ ap (head_at t o) e))),
     refl,
   )
 
-  room : k < 20 → newcomer t o p ≡ cond (ltb (free_at t) (slots_of t)) (seen.Joined (free_at t)) (seen.Refused NoContactSlot)
+  room : k < 20 → newcomer t o p ≡ cond (ltb (free_at t) (slots_of t)) (Ok (seen.Joined (free_at t))) (Err NoContactSlot)
   unfolding newcomer
   room l = cond_no (leb 20 (tail_of t o (bucket_of p.place o))) _ _ (lt-leb 20 (tail_of t o (bucket_of p.place o)) (omega (arith, tail-is)))
 
   module _ (n i : ℕ) (l : k < 20) (q : n ≡ slots_of t) (f : i ≡ free_at t) where
-    pub new_none : n ≤ i → New (seen.Refused NoContactSlot) t
+    pub new_none : n ≤ i → New (Err NoContactSlot) t
     unfolding after_sighting
     new_none h = (sym (room l ∙ cond_no (ltb (free_at t) (slots_of t)) _ _ (le-ltb (free_at t) (slots_of t) (omega arith))), refl)
 
     pub new_in : i < n → i < slots_of t
     new_in h = omega arith
 
-    pub new-joined : (u : List ℕ) → i < n → u ≡ put_slot t i (contact_bytes (k + 1) p) → New (seen.Joined i) u
+    pub new-joined : (u : List ℕ) → i < n → u ≡ put_slot t i (contact_bytes (k + 1) p) → New (Ok (seen.Joined i)) u
     unfolding after_sighting
     new-joined u h w = (
-      sym (room l ∙ cond_yes (ltb (free_at t) (slots_of t)) _ _ (lt-ltb (free_at t) (slots_of t) (omega arith)) ∙ ap (λ (x : ℕ). seen.Joined x) (sym f)),
+      sym (room l ∙ cond_yes (ltb (free_at t) (slots_of t)) _ _ (lt-ltb (free_at t) (slots_of t) (omega arith)) ∙ ap (λ (x : ℕ). (Ok (seen.Joined x))) (sym f)),
       join-at-done t o p b k i u e g w,
     )
 
 -- ---- any peer is seen
 module _ (t o : List ℕ) (p : Peer) (n i : ℕ) (q : n ≡ slots_of t) (e : i ≡ held_at t p.place) where
-  abbrev pub Seen : Sighting → List ℕ → Type 0
+  abbrev pub Seen : Result Sighting Refusal → List ℕ → Type 0
   Seen r u = (r ≡ sighting_of t o p) × (u ≡ seen_table t o p)
 
-  done : (r : Sighting) (u : List ℕ) → r ≡ sighting_of t o p → u ≡ after_sighting t o p r → Seen r u
+  done : (r : Result Sighting Refusal) (u : List ℕ) → r ≡ sighting_of t o p → u ≡ after_sighting t o p r → Seen r u
   unfolding seen_table
   done r u f g = (f, g ∙ ap (after_sighting t o p) f)
 
   pub seen-in : i < n → i < slots_of t
   seen-in l = omega arith
 
-  pub seen-held : (u : List ℕ) → i < n → u ≡ move_and_renew t o i p → Seen (seen.Moved i) u
+  pub seen-held : (u : List ℕ) → i < n → u ≡ move_and_renew t o i p → Seen (Ok (seen.Moved i)) u
   unfolding sighting_of after_sighting
   seen-held u l h =
-      done (seen.Moved i) u (sym (cond_yes (held t p.place) _ _ (held-yes t p.place n i q e l) ∙ ap (λ (x : ℕ). seen.Moved x) (sym e))) h
+      done (Ok (seen.Moved i)) u (sym (cond_yes (held t p.place) _ _ (held-yes t p.place n i q e l) ∙ ap (λ (x : ℕ). (Ok (seen.Moved x))) (sym e))) h
 
-  pub seen-fresh : (r : Sighting) (u : List ℕ) → n ≤ i → (r ≡ newcomer t o p) × (u ≡ after_sighting t o p r) → Seen r u
+  pub seen-fresh : (r : Result Sighting Refusal) (u : List ℕ) → n ≤ i → (r ≡ newcomer t o p) × (u ≡ after_sighting t o p r) → Seen r u
   unfolding sighting_of
   seen-fresh r u l h = done r u (h.0 ∙ sym (cond_no (held t p.place) _ _ (held-no t p.place n i q e l))) h.1
 
 -- as the code does it: q is p tidied
-pub seen-tidied : (t o : List ℕ) (p q : Peer) (r : Sighting) (u : List ℕ) → q ≡ tidied p → (r ≡ sighting_of t o q) × (u ≡ seen_table t o q)
+pub seen-tidied : (t o : List ℕ) (p q : Peer) (r : Result Sighting Refusal) (u : List ℕ) → q ≡ tidied p → (r ≡ sighting_of t o q) × (u ≡ seen_table t o q)
     → (r ≡ sighting_of t o (tidied p)) × (u ≡ seen_table t o (tidied p))
 seen-tidied t o p q r u w e = (e.0 ∙ ap (sighting_of t o) w, e.1 ∙ ap (seen_table t o) w)
 
@@ -185,25 +183,25 @@ module _ (t o head p : List ℕ) (y : fits t o head p ≡ true) where
 
 -- ---- settle
 module _ (t o head : List ℕ) (p : Peer) (answered : Bool) where
-  abbrev pub Settles : Settled → List ℕ → Type 0
+  abbrev pub Settles : Result Settled Refusal → List ℕ → Type 0
   Settles r u = (r ≡ settlement_of t o head p answered) × (u ≡ settled_table t o head p answered)
 
-  settled : (r : Settled) (u : List ℕ) → r ≡ settlement_of t o head p answered → u ≡ after_settling t o head p r → Settles r u
+  settled : (r : Result Settled Refusal) (u : List ℕ) → r ≡ settlement_of t o head p answered → u ≡ after_settling t o head p r → Settles r u
   unfolding settled_table
   settled r u f g = (f, g ∙ ap (after_settling t o head p) f)
 
-  pub settle-stale : fits t o head p.place ≡ false → Settles (settle.Refused NoLongerFits) t
+  pub settle-stale : fits t o head p.place ≡ false → Settles (Err NoLongerFits) t
   unfolding settlement_of after_settling
-  settle-stale e = settled (settle.Refused NoLongerFits) t (sym (cond_no (fits t o head p.place) _ _ e)) refl
+  settle-stale e = settled (Err NoLongerFits) t (sym (cond_no (fits t o head p.place) _ _ e)) refl
 
   module _ (y : fits t o head p.place ≡ true) (i : ℕ) (e : i ≡ held_at t head) where
     pub settle-in : i < slots_of t
     settle-in = omega (arith, fits-held t o head p.place y)
 
-    pub settle-kept : (u : List ℕ) → answered ≡ true → u ≡ move_to_tail t o i → Settles settle.Kept u
+    pub settle-kept : (u : List ℕ) → answered ≡ true → u ≡ move_to_tail t o i → Settles (Ok settle.Kept) u
     unfolding settlement_of after_settling
     settle-kept u a g =
-        settled settle.Kept u (sym (cond_yes (fits t o head p.place) _ _ y ∙ cond_yes answered _ _ a)) (g ∙ ap (move_to_tail t o) e)
+        settled (Ok settle.Kept) u (sym (cond_yes (fits t o head p.place) _ _ y ∙ cond_yes answered _ _ a)) (g ∙ ap (move_to_tail t o) e)
 
     module _ (u : List ℕ) (g : u ≡ dropped t o i) where
       pub settle-free : free_at u < slots_of u
@@ -214,47 +212,47 @@ module _ (t o head : List ℕ) (p : Peer) (answered : Bool) where
           subst (λ (x : List ℕ). tail_of x o (bucket_of p.place o) < 255) (sym g)
           (omega (arith, drop-tail t o i settle-in (bucket_of p.place o), fits-full t o head p.place y))
 
-      pub settle-swapped : (v : List ℕ) → answered ≡ false → v ≡ join u o p → Settles settle.Swapped v
+      pub settle-swapped : (v : List ℕ) → answered ≡ false → v ≡ join u o p → Settles (Ok settle.Swapped) v
       unfolding settlement_of after_settling
       settle-swapped v a w =
-          settled settle.Swapped v (sym (cond_yes (fits t o head p.place) _ _ y ∙ cond_no answered _ _ a)) (w ∙ ap (λ (x : List ℕ). join x o p) (g ∙ ap (dropped t o) e))
+          settled (Ok settle.Swapped) v (sym (cond_yes (fits t o head p.place) _ _ y ∙ cond_no answered _ _ a)) (w ∙ ap (λ (x : List ℕ). join x o p) (g ∙ ap (dropped t o) e))
 
 -- ---- doubt
 module _ (t p : List ℕ) (n i : ℕ) (q : n ≡ slots_of t) (e : i ≡ held_at t p) where
-  abbrev pub Doubts : Doubted → List ℕ → Type 0
+  abbrev pub Doubts : Result ⊤ Refusal → List ℕ → Type 0
   Doubts r u = (r ≡ marking_of t p) × (u ≡ marked_table t p)
 
-  doubts : (r : Doubted) (u : List ℕ) → r ≡ marking_of t p → u ≡ after_marking t p r → Doubts r u
+  doubts : (r : Result ⊤ Refusal) (u : List ℕ) → r ≡ marking_of t p → u ≡ after_marking t p r → Doubts r u
   unfolding marked_table
   doubts r u f g = (f, g ∙ ap (after_marking t p) f)
 
   pub doubt-in : i < n → i < slots_of t
   doubt-in l = omega arith
 
-  pub doubt-held : (u : List ℕ) → i < n → u ≡ doubt_at t i → Doubts doubt.Marked u
+  pub doubt-held : (u : List ℕ) → i < n → u ≡ doubt_at t i → Doubts (Ok tt) u
   unfolding marking_of after_marking
-  doubt-held u l g = doubts doubt.Marked u (sym (cond_yes (held t p) _ _ (held-yes t p n i q e l))) (g ∙ ap (doubt_at t) e)
+  doubt-held u l g = doubts (Ok tt) u (sym (cond_yes (held t p) _ _ (held-yes t p n i q e l))) (g ∙ ap (doubt_at t) e)
 
-  pub doubt-none : n ≤ i → Doubts (doubt.Refused NoLongerFits) t
+  pub doubt-none : n ≤ i → Doubts (Err NoLongerFits) t
   unfolding marking_of after_marking
-  doubt-none l = doubts (doubt.Refused NoLongerFits) t (sym (cond_no (held t p) _ _ (held-no t p n i q e l))) refl
+  doubt-none l = doubts (Err NoLongerFits) t (sym (cond_no (held t p) _ _ (held-no t p n i q e l))) refl
 
 -- ---- remove
 module _ (t o p : List ℕ) (n i : ℕ) (q : n ≡ slots_of t) (e : i ≡ held_at t p) where
-  abbrev pub Removes : Removed → List ℕ → Type 0
+  abbrev pub Removes : Result ⊤ Refusal → List ℕ → Type 0
   Removes r u = (r ≡ removal_of t p) × (u ≡ removed_table t o p)
 
-  removes : (r : Removed) (u : List ℕ) → r ≡ removal_of t p → u ≡ after_removal t o p r → Removes r u
+  removes : (r : Result ⊤ Refusal) (u : List ℕ) → r ≡ removal_of t p → u ≡ after_removal t o p r → Removes r u
   unfolding removed_table
   removes r u f g = (f, g ∙ ap (after_removal t o p) f)
 
   pub remove-in : i < n → i < slots_of t
   remove-in l = omega arith
 
-  pub remove-held : (u : List ℕ) → i < n → u ≡ dropped t o i → Removes remove.Gone u
+  pub remove-held : (u : List ℕ) → i < n → u ≡ dropped t o i → Removes (Ok tt) u
   unfolding removal_of after_removal
-  remove-held u l g = removes remove.Gone u (sym (cond_yes (held t p) _ _ (held-yes t p n i q e l))) (g ∙ ap (dropped t o) e)
+  remove-held u l g = removes (Ok tt) u (sym (cond_yes (held t p) _ _ (held-yes t p n i q e l))) (g ∙ ap (dropped t o) e)
 
-  pub remove-none : n ≤ i → Removes (remove.Refused NoLongerFits) t
+  pub remove-none : n ≤ i → Removes (Err NoLongerFits) t
   unfolding removal_of after_removal
-  remove-none l = removes (remove.Refused NoLongerFits) t (sym (cond_no (held t p) _ _ (held-no t p n i q e l))) refl
+  remove-none l = removes (Err NoLongerFits) t (sym (cond_no (held t p) _ _ (held-no t p n i q e l))) refl

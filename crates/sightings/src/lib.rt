@@ -24,8 +24,6 @@ pub enum Sighting {
     Joined(usize),
     // refusal 13: the bucket is full; its head, in this slot, is to be probed
     Probe(usize),
-    // refusals 0, 12, 14 and 18
-    Refused(Refusal),
 }
 
 #[derive(Drop)]
@@ -34,22 +32,6 @@ pub enum Settled {
     Kept,
     // the head was silent, and the newcomer has come in for it
     Swapped,
-    // refusals 0, 12, 15 and 18
-    Refused(Refusal),
-}
-
-#[derive(Drop)]
-pub enum Removed {
-    Gone,
-    // refusals 0, 12 and 15
-    Refused(Refusal),
-}
-
-#[derive(Drop)]
-pub enum Doubted {
-    Marked,
-    // refusals 0, 12 and 15
-    Refused(Refusal),
 }
 
 // A contact is written as its whole slot.
@@ -127,25 +109,25 @@ fn drop_slot(table: &mut [u8], ours: &[u8], i: usize)
 }
 
 // A peer that isn't held is seen.
-fn seen_new(table: &mut [u8], ours: &[u8], p: Peer) -> Sighting
+fn seen_new(table: &mut [u8], ours: &[u8], p: Peer) -> Result<Sighting, Refusal>
     ensures { (result ≡ newcomer table.old ours.now p) × (table.new ≡ after_sighting table.old ours.now p result) }
 {
     let place = p.place;
     let b = place::bucket(&place, ours);
     let tail = contact_order::tail_of(table, ours, b);
     if BUCKET <= tail {
-        return Sighting::Probe(contact_order::head_at(table, ours, b));
+        return Ok(Sighting::Probe(contact_order::head_at(table, ours, b)));
     }
     let i = contact_order::free_at(table);
     if contacts::slots(table) <= i {
-        return Sighting::Refused(Refusal::NoContactSlot);
+        return Err(Refusal::NoContactSlot);
     }
     write_slot(table, i, tail + 1, p);
-    Sighting::Joined(i)
+    Ok(Sighting::Joined(i))
 }
 
 // A peer is seen, with its usable addresses.
-pub fn seen(table: &mut [u8], ours: &[u8], p: Peer) -> Sighting
+pub fn seen(table: &mut [u8], ours: &[u8], p: Peer) -> Result<Sighting, Refusal>
     ensures { (result ≡ sighting_of table.old ours.now (tidied p)) × (table.new ≡ seen_table table.old ours.now (tidied p)) }
 {
     let q = peer::tidied(p);
@@ -153,7 +135,7 @@ pub fn seen(table: &mut [u8], ours: &[u8], p: Peer) -> Sighting
     let i = contact_order::held_at(table, &place);
     if i < contacts::slots(table) {
         move_and_renew(table, ours, i, q);
-        return Sighting::Moved(i);
+        return Ok(Sighting::Moved(i));
     }
     seen_new(table, ours, q)
 }
@@ -193,43 +175,49 @@ fn join_tail(table: &mut [u8], ours: &[u8], p: Peer)
 }
 
 // The head of a full bucket has been probed: it stays if it answered, else the newcomer comes in for it.
-pub fn settle(table: &mut [u8], ours: &[u8], head: &[u8], p: Peer, answered: bool) -> Settled
+pub fn settle(
+    table: &mut [u8],
+    ours: &[u8],
+    head: &[u8],
+    p: Peer,
+    answered: bool,
+) -> Result<Settled, Refusal>
     ensures { (result ≡ settlement_of table.old ours.now head.now p answered) × (table.new ≡ settled_table table.old ours.now head.now p answered) }
 {
     let place = p.place;
     if !still_fits(table, ours, head, &place) {
-        return Settled::Refused(Refusal::NoLongerFits);
+        return Err(Refusal::NoLongerFits);
     }
     let i = contact_order::held_at(table, head);
     if answered {
         move_to_tail(table, ours, i);
-        return Settled::Kept;
+        return Ok(Settled::Kept);
     }
     drop_slot(table, ours, i);
     join_tail(table, ours, p);
-    Settled::Swapped
+    Ok(Settled::Swapped)
 }
 
 // The contact at a place goes.
-pub fn remove(table: &mut [u8], ours: &[u8], p: &[u8]) -> Removed
+pub fn remove(table: &mut [u8], ours: &[u8], p: &[u8]) -> Result<(), Refusal>
     ensures { (result ≡ removal_of table.old p.now) × (table.new ≡ removed_table table.old ours.now p.now) }
 {
-    let i = contact_order::held_at(table, p);
-    if contacts::slots(table) <= i {
-        return Removed::Refused(Refusal::NoLongerFits);
+    let leaving = contact_order::held_at(table, p);
+    if contacts::slots(table) <= leaving {
+        return Err(Refusal::NoLongerFits);
     }
-    drop_slot(table, ours, i);
-    Removed::Gone
+    drop_slot(table, ours, leaving);
+    Ok(())
 }
 
 // The contact at a place is marked as doubtful; it stays where it is.
-pub fn doubt(table: &mut [u8], p: &[u8]) -> Doubted
+pub fn doubt(table: &mut [u8], p: &[u8]) -> Result<(), Refusal>
     ensures { (result ≡ marking_of table.old p.now) × (table.new ≡ marked_table table.old p.now) }
 {
-    let i = contact_order::held_at(table, p);
-    if contacts::slots(table) <= i {
-        return Doubted::Refused(Refusal::NoLongerFits);
+    let doubtful = contact_order::held_at(table, p);
+    if contacts::slots(table) <= doubtful {
+        return Err(Refusal::NoLongerFits);
     }
-    table[i * SLOT + DOUBT_AT] = 1;
-    Doubted::Marked
+    table[doubtful * SLOT + DOUBT_AT] = 1;
+    Ok(())
 }

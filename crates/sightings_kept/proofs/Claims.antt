@@ -15,8 +15,6 @@ use Rattle.peer.specs.declared.Peer.{Peer}
 use Rattle.peer.specs.Peers.{id_in, addresses_in}
 use Rattle.sightings.specs.declared.Sighting.{Sighting}
 use Rattle.sightings.specs.declared.Sighting.TheVariants as seen
-use Rattle.sightings.specs.declared.Settled.TheVariants as settle
-use Rattle.sightings.specs.declared.Removed.TheVariants as remove
 use Rattle.sightings.specs.Order.{is_head, free_at, head_at, tail_of}
 use Rattle.sightings.specs.Sightings.{held, newcomer, sighting_of, seen_table, fits, settlement_of, removal_of, removed_table}
 use Rattle.contact_order.proofs.Tests.{free-there}
@@ -26,44 +24,46 @@ use Rattle.sightings_kept.proofs.Theorems.{held-never-refused, full-changes-noth
 use Rattle.sightings_kept.proofs.Holds.{tail-is-count, full-refused, none_left, head-there, still-fits, still-fails}
 use Rattle.sightings_kept.proofs.Hashed.{seen-hashed, settle-hashed, remove-hashed}
 use Rattle.sightings_kept.proofs.Doubts.{doubt-marks-one, doubt-not-held, doubt-ignored, doubt-settles, doubt-hashed, tail-given}
+use Rattle.std.specs.Prelude.{Ok, Err, Result}
+use Rattle.refusal.specs.declared.Refusal.{Refusal}
 
 -- ---- where a slot is free, nobody is refused for want of one
-for_want : Sighting → Bool
-for_want (seen.Moved i) = false
-for_want (seen.Joined i) = false
-for_want (seen.Probe h) = false
-for_want (seen.Refused r) = true
+for_want : Result Sighting Refusal → Bool
+for_want (Ok (seen.Moved i)) = false
+for_want (Ok (seen.Joined i)) = false
+for_want (Ok (seen.Probe h)) = false
+for_want (Err r) = true
 
-pub never-for-want : (t o : List ℕ) (q : Peer) → free_at t < slots_of t → sighting_of t o q ≡ seen.Refused NoContactSlot → ⊥
+pub never-for-want : (t o : List ℕ) (q : Peer) → free_at t < slots_of t → sighting_of t o q ≡ Err NoContactSlot → ⊥
 unfolding sighting_of newcomer for_want
 never-for-want t o q l e = not-both (for_want (sighting_of t o q)) (ap for_want e) wanted
   where
     wanted : for_want (sighting_of t o q) ≡ false
     wanted =
-        cond_ind (λ (r : Sighting). for_want r ≡ false) (held t q.place) _ _ (λ _. refl)
-        (λ _. cond_ind (λ (r : Sighting). for_want r ≡ false) (leb 20 (tail_of t o (bucket_of q.place o))) _ _ (λ _. refl)
-        (λ _. ap for_want (cond_yes (ltb (free_at t) (slots_of t)) (seen.Joined (free_at t)) (seen.Refused NoContactSlot) (lt-ltb (free_at t) (slots_of t) l))))
+        cond_ind (λ (r : Result Sighting Refusal). for_want r ≡ false) (held t q.place) _ _ (λ _. refl)
+        (λ _. cond_ind (λ (r : Result Sighting Refusal). for_want r ≡ false) (leb 20 (tail_of t o (bucket_of q.place o))) _ _ (λ _. refl)
+        (λ _. ap for_want (cond_yes (ltb (free_at t) (slots_of t)) (Ok (seen.Joined (free_at t))) (Err NoContactSlot) (lt-ltb (free_at t) (slots_of t) l))))
 
 module _ (t o : List ℕ) (y : in_form t o ≡ true) (p : Peer) (new : held t p.place ≡ false) where
   full-named : 20 ≤ holds t o (bucket_of p.place o)
-      → (h : ℕ) × (sighting_of t o p ≡ seen.Probe h) × (h < slots_of t) × (is_head o (bucket_of p.place o) (slot t h) ≡ true) × (seen_table t o p ≡ t)
+      → (h : ℕ) × (sighting_of t o p ≡ Ok (seen.Probe h)) × (h < slots_of t) × (is_head o (bucket_of p.place o) (slot t h) ≡ true) × (seen_table t o p ≡ t)
   full-named l =
       let e = full-refused t o p y new l in
       let h = head-there t o y (bucket_of p.place o) (omega arith) in
       (head_at t o (bucket_of p.place o), e, h.0, h.1, full-changes-nothing t o p _ e)
 
   module _ (room : holds t o (bucket_of p.place o) < 20) where
-    joins-in : Fair o p → (j : ℕ) → j < slots_of t → used (slot t j) ≡ false → (sighting_of t o p ≡ seen.Joined (free_at t)) × NewSeen t o p.place (id_in p) (addresses_in p) (free_at t) (seen_table t o p)
+    joins-in : Fair o p → (j : ℕ) → j < slots_of t → used (slot t j) ≡ false → (sighting_of t o p ≡ Ok (seen.Joined (free_at t))) × NewSeen t o p.place (id_in p) (addresses_in p) (free_at t) (seen_table t o p)
     joins-in G j l free = seen-new t o p G new (omega (arith, tail-is-count t o y (bucket_of p.place o))) (free-there t j l free)
 
-    left_out : ((j : ℕ) → j < slots_of t → used (slot t j) ≡ true) → (sighting_of t o p ≡ seen.Refused NoContactSlot) × (seen_table t o p ≡ t)
+    left_out : ((j : ℕ) → j < slots_of t → used (slot t j) ≡ true) → (sighting_of t o p ≡ Err NoContactSlot) × (seen_table t o p ≡ t)
     left_out every = let e = none_left t o p y new room every in (e, no-slot-changes-nothing t o p e)
 
-stale-answer : (t o head : List ℕ) (p : Peer) (answered : Bool) → fits t o head p.place ≡ false → settlement_of t o head p answered ≡ settle.Refused NoLongerFits
+stale-answer : (t o head : List ℕ) (p : Peer) (answered : Bool) → fits t o head p.place ≡ false → settlement_of t o head p answered ≡ Err NoLongerFits
 unfolding settlement_of
 stale-answer t o head p answered f = cond_no (fits t o head p.place) _ _ f
 
-not-held-answer : (t p : List ℕ) → held t p ≡ false → removal_of t p ≡ remove.Refused NoLongerFits
+not-held-answer : (t p : List ℕ) → held t p ≡ false → removal_of t p ≡ Err NoLongerFits
 unfolding removal_of
 not-held-answer t p h = cond_no (held t p) _ _ h
 

@@ -21,8 +21,6 @@ use Rattle.contacts.specs.Claims.{GivesFirst}
 use Rattle.contacts.proofs.Claims as contacts
 use Rattle.refusal.specs.declared.Refusal.TheVariants.{NoContactSlot, NoLongerFits}
 use Rattle.peer.specs.declared.Peer.{Peer}
-use Rattle.sightings.specs.declared.Doubted.{Doubted}
-use Rattle.sightings.specs.declared.Doubted.TheVariants as doubt
 use Rattle.sightings.specs.declared.Settled.TheVariants as settle
 use Rattle.sightings.specs.declared.Sighting.{Sighting}
 use Rattle.sightings.specs.declared.Sighting.TheVariants as seen
@@ -34,6 +32,8 @@ use Rattle.sightings.proofs.Doubting.{doubt-long, doubt-doubt}
 use Rattle.sightings_kept.specs.Promises.{AtTail, Hashed, OnlyMarked}
 use Rattle.sightings_kept.proofs.Forms.{doubt-slots, doubt-self, doubt-other, doubt-places, doubt-marks, doubt-used, doubt-of}
 use Rattle.sightings_kept.proofs.Said.{rest-same, doubt-rest}
+use Rattle.std.specs.Prelude.{Ok, Err, Result, ⊤}
+use Rattle.refusal.specs.declared.Refusal.{Refusal}
 
 module _ (t : List ℕ) (i : ℕ) (l : i < slots_of t) where
   only-marked : OnlyMarked t i (doubt_at t i)
@@ -88,15 +88,15 @@ module _ (t : List ℕ) (i : ℕ) (l : i < slots_of t) where
     same-newcomer : (p : Peer) → newcomer (doubt_at t i) o p ≡ newcomer t o p
     unfolding newcomer
     same-newcomer p =
-        ap₂ (λ (k h : ℕ). cond (leb 20 k) (seen.Probe h) (cond (ltb (free_at (doubt_at t i)) (slots_of (doubt_at t i))) (seen.Joined (free_at (doubt_at t i))) (seen.Refused NoContactSlot)))
+        ap₂ (λ (k h : ℕ). cond (leb 20 k) (Ok (seen.Probe h)) (cond (ltb (free_at (doubt_at t i)) (slots_of (doubt_at t i))) ((Ok (seen.Joined (free_at (doubt_at t i))))) (Err NoContactSlot)))
         (same-tail (bucket_of p.place o)) (same-head-at (bucket_of p.place o))
-        ∙ ap₂ (λ (f n : ℕ). cond (leb 20 (tail_of t o (bucket_of p.place o))) (seen.Probe (head_at t o (bucket_of p.place o))) (cond (ltb f n) (seen.Joined f) (seen.Refused NoContactSlot))) same-free-at (doubt-slots t i l)
+        ∙ ap₂ (λ (f n : ℕ). cond (leb 20 (tail_of t o (bucket_of p.place o))) ((Ok (seen.Probe (head_at t o (bucket_of p.place o))))) (cond (ltb f n) (Ok (seen.Joined f)) (Err NoContactSlot))) same-free-at (doubt-slots t i l)
 
     same-sighting : (p : Peer) → sighting_of (doubt_at t i) o p ≡ sighting_of t o p
     unfolding sighting_of
     same-sighting p =
-        ap₂ (λ (h : Bool) (k : ℕ). cond h (seen.Moved k) (newcomer (doubt_at t i) o p)) (same-held p.place) (same-held-at p.place)
-        ∙ ap (λ (s : Sighting). cond (held t p.place) (seen.Moved (held_at t p.place)) s) (same-newcomer p)
+        ap₂ (λ (h : Bool) (k : ℕ). cond h (Ok (seen.Moved k)) (newcomer (doubt_at t i) o p)) (same-held p.place) (same-held-at p.place)
+        ∙ ap (λ (s : Result Sighting Refusal). cond (held t p.place) (Ok (seen.Moved (held_at t p.place))) s) (same-newcomer p)
 
     same-fits : (head p : List ℕ) → fits (doubt_at t i) o head p ≡ fits t o head p
     unfolding fits
@@ -107,22 +107,22 @@ module _ (t : List ℕ) (i : ℕ) (l : i < slots_of t) where
 
 -- ---- the theorems
 module _ (t p : List ℕ) where
-  pub doubt-marks-one : held t p ≡ true → (marking_of t p ≡ doubt.Marked) × OnlyMarked t (held_at t p) (marked_table t p)
+  pub doubt-marks-one : held t p ≡ true → (marking_of t p ≡ Ok tt) × OnlyMarked t (held_at t p) (marked_table t p)
   unfolding marked_table marking_of after_marking
   doubt-marks-one h =
-      let e : marking_of t p ≡ doubt.Marked = cond_yes (held t p) _ _ h in
-      (e, subst (λ (r : Doubted). OnlyMarked t (held_at t p) (after_marking t p r)) (sym e) (only-marked t (held_at t p) (held-lt t p h)))
+      let e : marking_of t p ≡ (Ok tt) = cond_yes (held t p) _ _ h in
+      (e, subst (λ (r : Result ⊤ Refusal). OnlyMarked t (held_at t p) (after_marking t p r)) (sym e) (only-marked t (held_at t p) (held-lt t p h)))
 
-  pub doubt-not-held : held t p ≡ false → (marking_of t p ≡ doubt.Refused NoLongerFits) × (marked_table t p ≡ t)
+  pub doubt-not-held : held t p ≡ false → (marking_of t p ≡ Err NoLongerFits) × (marked_table t p ≡ t)
   unfolding marked_table marking_of after_marking
-  doubt-not-held h = let e : marking_of t p ≡ doubt.Refused NoLongerFits = cond_no (held t p) _ _ h in (e, ap (after_marking t p) e)
+  doubt-not-held h = let e : marking_of t p ≡ Err NoLongerFits = cond_no (held t p) _ _ h in (e, ap (after_marking t p) e)
 
   -- what holds of the table and of any marked one holds after doubt
   either_way : (P : List ℕ → Type 0) → P t → ((i : ℕ) → i < slots_of t → P (doubt_at t i)) → P (marked_table t p)
   unfolding marked_table marking_of after_marking
   either_way P f g =
-      ⊎_elim (λ h. subst (λ (r : Doubted). P (after_marking t p r)) (sym (cond_yes (held t p) _ _ h)) (g (held_at t p) (held-lt t p h)))
-      (λ h. subst (λ (r : Doubted). P (after_marking t p r)) (sym (cond_no (held t p) _ _ h)) f) (either (held t p))
+      ⊎_elim (λ h. subst (λ (r : Result ⊤ Refusal). P (after_marking t p r)) (sym (cond_yes (held t p) _ _ h)) (g (held_at t p) (held-lt t p h)))
+      (λ h. subst (λ (r : Result ⊤ Refusal). P (after_marking t p r)) (sym (cond_no (held t p) _ _ h)) f) (either (held t p))
 
   -- "Bucket order, probes and room ignore the mark": what a sighting comes to, whose head is named, and whether a settling fits
   pub doubt-ignored : (o : List ℕ) (q : Peer) → sighting_of (marked_table t p) o q ≡ sighting_of t o q
@@ -133,7 +133,7 @@ module _ (t p : List ℕ) where
 
   pub doubt-settles : (o head : List ℕ) (q : Peer) (answered : Bool) → settlement_of (marked_table t p) o head q answered ≡ settlement_of t o head q answered
   unfolding settlement_of
-  doubt-settles o head q answered = ap (λ (f : Bool). cond f (cond answered settle.Kept settle.Swapped) (settle.Refused NoLongerFits)) (doubt-fits o head q.place)
+  doubt-settles o head q answered = ap (λ (f : Bool). cond f (cond answered (Ok settle.Kept) (Ok settle.Swapped)) (Err NoLongerFits)) (doubt-fits o head q.place)
 
   pub doubt-hashed : Hashed t → Hashed (marked_table t p)
   doubt-hashed h = either_way Hashed h (λ i l. one i l)

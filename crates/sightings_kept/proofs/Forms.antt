@@ -26,8 +26,6 @@ use Rattle.peer.proofs.Lists.{size-most, size-least}
 use Rattle.peer.proofs.Meaning.{id-length, addrs-length, lens-length, place_is, size_is, count-few, lens-usable}
 use Rattle.sightings.specs.declared.Sighting.{Sighting}
 use Rattle.sightings.specs.declared.Settled.{Settled}
-use Rattle.sightings.specs.declared.Removed.{Removed}
-use Rattle.sightings.specs.declared.Doubted.{Doubted}
 use Rattle.sightings.specs.Order.{of_bucket, is_at, held_at, free_at, tail_of, with_mark, with_doubt, contact_bytes, free_bytes, with_addresses, renewed, leave, tailed, move_to_tail, move_and_renew, dropped, join_at, join, doubt_at}
 use Rattle.sightings.specs.Sightings.{held, newcomer, sighting_of, after_sighting, seen_table, fits, settlement_of, after_settling, settled_table, removal_of, after_removal, removed_table, marking_of, after_marking, marked_table}
 use Rattle.sightings_kept.specs.Promises.{Fair}
@@ -40,6 +38,8 @@ use Rattle.sightings.proofs.Doubting.{doubt-byte, doubt-long, place-doubt, mark-
 use Rattle.sightings.proofs.Calls.{fits-held, fits-bucket, fits-full, fits-new}
 use Rattle.sightings_kept.proofs.Ordered.{Ordered, from-form, to-form, fields-by, mark-byte}
 use Rattle.sightings_kept.proofs.Kept.{kept-place, kept-used, drop-form, drop-tail-down, enter-form}
+use Rattle.std.specs.Prelude.{Result, ⊤}
+use Rattle.refusal.specs.declared.Refusal.{Refusal}
 
 -- ---- the bytes of a run of stores
 pub get_d-sets-in : (l : List ℕ) (i : ℕ) (vs : List ℕ) (k : ℕ) → k < length vs → i + length vs ≤ length l → get_or (sets l i vs) (i + k) 0 ≡ get_or vs k 0
@@ -288,12 +288,12 @@ module _ (t : List ℕ) (i : ℕ) (l : i < slots_of t) where
 pub doubted-form : (t o p : List ℕ) → Ordered t o → Ordered (marked_table t p) o
 unfolding marked_table marking_of after_marking
 doubted-form t o p F =
-    cond_ind (λ (r : Doubted). Ordered (after_marking t p r) o) (held t p) _ _ (λ e. doubt-form t (held_at t p) (held-lt t p e) o F) (λ e. F)
+    cond_ind (λ (r : Result ⊤ Refusal). Ordered (after_marking t p r) o) (held t p) _ _ (λ e. doubt-form t (held_at t p) (held-lt t p e) o F) (λ e. F)
 
 pub remove-form : (t o p : List ℕ) → Ordered t o → Ordered (removed_table t o p) o
 unfolding removed_table removal_of after_removal
 remove-form t o p F =
-    cond_ind (λ (r : Removed). Ordered (after_removal t o p r) o) (held t p) _ _ (λ e. gone e) (λ e. still)
+    cond_ind (λ (r : Result ⊤ Refusal). Ordered (after_removal t o p r) o) (held t p) _ _ (λ e. gone e) (λ e. still)
   where
     gone : held t p ≡ true → Ordered (dropped t o (held_at t p)) o
     gone e = let l = held-lt t p e in drop-form t o (held_at t p) l F (at-used p _ (held-is t p l))
@@ -305,14 +305,14 @@ module _ (t o : List ℕ) (p : Peer) (G : Fair o p) (F : Ordered t o) where
   new-form : held t p.place ≡ false → Ordered (after_sighting t o p (newcomer t o p)) o
   unfolding newcomer after_sighting
   new-form h =
-      cond_ind (λ (r : Sighting). Ordered (after_sighting t o p r) o) (leb 20 (tail_of t o (bucket_of p.place o))) _ _ (λ e. F)
-      (λ e. cond_ind (λ (r : Sighting). Ordered (after_sighting t o p r) o) (ltb (free_at t) (slots_of t)) _ _
+      cond_ind (λ (r : Result Sighting Refusal). Ordered (after_sighting t o p r) o) (leb 20 (tail_of t o (bucket_of p.place o))) _ _ (λ e. F)
+      (λ e. cond_ind (λ (r : Result Sighting Refusal). Ordered (after_sighting t o p r) o) (ltb (free_at t) (slots_of t)) _ _
       (λ f. join-form t o p G F (free_at t) (ltb-true _ _ f) (free-is t (ltb-true _ _ f)) (leb-false 20 _ e) h) (λ f. F))
 
   pub seen-form : Ordered (seen_table t o p) o
   unfolding seen_table sighting_of after_sighting
   seen-form =
-      cond_ind (λ (r : Sighting). Ordered (after_sighting t o p r) o) (held t p.place) _ _
+      cond_ind (λ (r : Result Sighting Refusal). Ordered (after_sighting t o p r) o) (held t p.place) _ _
       (λ e. let l = held-lt t p.place e in renew-form t o (held_at t p.place) l F (at-used p.place _ (held-is t p.place l)) p G) (λ e. new-form e)
 
   module _ (head : List ℕ) (y : fits t o head p.place ≡ true) where
@@ -356,8 +356,8 @@ module _ (t o : List ℕ) (p : Peer) (G : Fair o p) (F : Ordered t o) where
   pub settle-form : (head : List ℕ) (answered : Bool) → Ordered (settled_table t o head p answered) o
   unfolding settled_table settlement_of after_settling
   settle-form head answered =
-      cond_ind (λ (r : Settled). Ordered (after_settling t o head p r) o) (fits t o head p.place) _ _
-      (λ y. cond_ind (λ (r : Settled). Ordered (after_settling t o head p r) o) answered _ _
+      cond_ind (λ (r : Result Settled Refusal). Ordered (after_settling t o head p r) o) (fits t o head p.place) _ _
+      (λ y. cond_ind (λ (r : Result Settled Refusal). Ordered (after_settling t o head p r) o) answered _ _
       (λ a. move-form t o (held_at t head) (fits-held t o head p.place y) F (at-used head _ (held-is t head (fits-held t o head p.place y)))) (λ a. swap-form head y)) (λ y. F)
 
 -- ---- the theorems: form is kept

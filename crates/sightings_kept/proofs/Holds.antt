@@ -25,6 +25,7 @@ use Rattle.sightings_kept.specs.Promises.{holds, StillFits}
 use Rattle.contact_order.proofs.Tests.{of-make, of-mark, at-used, at_place, held-is, free-is, free-there, tail-ge, tail_at}
 use Rattle.sightings.proofs.Calls.{fits-held, fits_head, fits-bucket, fits-full, fits-new}
 use Rattle.sightings_kept.proofs.Ordered.{Ordered, from-form}
+use Rattle.std.specs.Prelude.{Ok, Err}
 
 module _ (t o : List ℕ) (F : Ordered t o) (b : ℕ) where
   -- of the bucket, with a mark of at most x; with the mark x
@@ -85,24 +86,24 @@ tail-is-count t o y b = sym (held-count t o (from-form t o (form-elim t o y)) b)
 
 -- what a peer not held is answered: 13 where its bucket holds 20, naming the slot of the bucket's head; else it joins, or 14
 module _ (t o : List ℕ) (p : Peer) (y : in_form t o ≡ true) (new : held t p.place ≡ false) where
-  pub full-refused : 20 ≤ holds t o (bucket_of p.place o) → sighting_of t o p ≡ seen.Probe (head_at t o (bucket_of p.place o))
+  pub full-refused : 20 ≤ holds t o (bucket_of p.place o) → sighting_of t o p ≡ Ok (seen.Probe (head_at t o (bucket_of p.place o)))
   unfolding sighting_of newcomer
   full-refused h =
       cond_no (held t p.place) _ _ new
       ∙ cond_yes (leb 20 (tail_of t o (bucket_of p.place o))) _ _ (le-leb 20 (tail_of t o (bucket_of p.place o)) (omega (arith, tail-is-count t o y (bucket_of p.place o))))
 
   module _ (room : holds t o (bucket_of p.place o) < 20) where
-    not_full : sighting_of t o p ≡ cond (ltb (free_at t) (slots_of t)) (seen.Joined (free_at t)) (seen.Refused NoContactSlot)
+    not_full : sighting_of t o p ≡ cond (ltb (free_at t) (slots_of t)) (Ok (seen.Joined (free_at t))) (Err NoContactSlot)
     unfolding sighting_of newcomer
     not_full =
         cond_no (held t p.place) _ _ new
         ∙ cond_no (leb 20 (tail_of t o (bucket_of p.place o))) _ _ (lt-leb 20 (tail_of t o (bucket_of p.place o)) (omega (arith, tail-is-count t o y (bucket_of p.place o))))
 
     -- some slot is free, or every slot is used
-    pub one_left : (j : ℕ) → j < slots_of t → used (slot t j) ≡ false → sighting_of t o p ≡ seen.Joined (free_at t)
+    pub one_left : (j : ℕ) → j < slots_of t → used (slot t j) ≡ false → sighting_of t o p ≡ Ok (seen.Joined (free_at t))
     one_left j l free = not_full ∙ cond_yes (ltb (free_at t) (slots_of t)) _ _ (lt-ltb (free_at t) (slots_of t) (free-there t j l free))
 
-    pub none_left : ((j : ℕ) → j < slots_of t → used (slot t j) ≡ true) → sighting_of t o p ≡ seen.Refused NoContactSlot
+    pub none_left : ((j : ℕ) → j < slots_of t → used (slot t j) ≡ true) → sighting_of t o p ≡ Err NoContactSlot
     none_left every = not_full ∙ cond_no (ltb (free_at t) (slots_of t)) _ _ (to-false (ltb (free_at t) (slots_of t)) (λ f. taken (ltb-true (free_at t) (slots_of t) f)))
       where
         taken : free_at t < slots_of t → ⊥

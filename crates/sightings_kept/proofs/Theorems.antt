@@ -21,8 +21,6 @@ use Rattle.sightings.specs.declared.Sighting.{Sighting}
 use Rattle.sightings.specs.declared.Sighting.TheVariants as seen
 use Rattle.sightings.specs.declared.Settled.{Settled}
 use Rattle.sightings.specs.declared.Settled.TheVariants.{Kept, Swapped}
-use Rattle.sightings.specs.declared.Removed.{Removed}
-use Rattle.sightings.specs.declared.Removed.TheVariants.{Gone}
 use Rattle.sightings.specs.Order.{of_bucket, is_at, held_at, free_at, tail_of, contact_bytes, free_bytes, with_addresses, renewed, lowered, each, close_up, leave, tailed, move_to_tail, move_and_renew, dropped, join_at, join}
 use Rattle.sightings.specs.Sightings.{held, newcomer, sighting_of, after_sighting, seen_table, fits, settlement_of, after_settling, settled_table, removal_of, after_removal, removed_table}
 use Rattle.sightings_kept.specs.Promises.{Fair, SameContact, Others, AtTail, HeldSeen, NewSeen, Freed, HeadKept, HeadGone}
@@ -37,6 +35,8 @@ use Rattle.sightings_kept.proofs.Ordered.{Ordered, from-form}
 use Rattle.sightings_kept.proofs.Kept.{kept-used, view, drop-tail-down}
 use Rattle.sightings_kept.proofs.Forms.{bytes-long, bytes-mark, bytes-place, bytes-trusted, addr-mark, addr-doubt, addr-place, addr-long, tailed-place, tailed-mark, tailed-doubt, tailed-byte}
 use Rattle.sightings_kept.proofs.Said.{rest-same, lowered-rest, mark-rest, doubt-rest, bytes-id, bytes-addresses, renewed-addresses, renewed-id, says_none, none_said}
+use Rattle.std.specs.Prelude.{Ok, Err, Result, ⊤}
+use Rattle.refusal.specs.declared.Refusal.{Refusal}
 
 -- ---- others: one slot written, one slot dropped, and one step after another
 same_self : (s v : List ℕ) → s ≡ v → SameContact s v
@@ -186,16 +186,16 @@ pub one-contact : (t o : List ℕ) → in_form t o ≡ true → (i j : ℕ) → 
 one-contact t o y = (from-form t o (form-elim t o y)).twins
 
 -- "a peer already held is never 13 or 14", whatever the bytes
-pub held-never-refused : (t o : List ℕ) (p : Peer) → held t p.place ≡ true → sighting_of t o p ≡ seen.Moved (held_at t p.place)
+pub held-never-refused : (t o : List ℕ) (p : Peer) → held t p.place ≡ true → sighting_of t o p ≡ Ok (seen.Moved (held_at t p.place))
 unfolding sighting_of
 held-never-refused t o p h = cond_yes (held t p.place) _ _ h
 
 -- a refused sighting changes nothing
-pub full-changes-nothing : (t o : List ℕ) (p : Peer) (h : ℕ) → sighting_of t o p ≡ seen.Probe h → seen_table t o p ≡ t
+pub full-changes-nothing : (t o : List ℕ) (p : Peer) (h : ℕ) → sighting_of t o p ≡ Ok (seen.Probe h) → seen_table t o p ≡ t
 unfolding seen_table after_sighting
 full-changes-nothing t o p h e = ap (after_sighting t o p) e
 
-pub no-slot-changes-nothing : (t o : List ℕ) (p : Peer) → sighting_of t o p ≡ seen.Refused NoContactSlot → seen_table t o p ≡ t
+pub no-slot-changes-nothing : (t o : List ℕ) (p : Peer) → sighting_of t o p ≡ Err NoContactSlot → seen_table t o p ≡ t
 unfolding seen_table after_sighting
 no-slot-changes-nothing t o p e = ap (after_sighting t o p) e
 
@@ -287,20 +287,20 @@ module _ (t o : List ℕ) (p : Peer) (G : Fair o p) where
   seen-held y h =
       let l = held-lt t p.place h in
       let a = held-is t p.place l in
-      subst (λ (r : Sighting). HeldSeen t o p.place (addresses_in p) (held_at t p.place) (after_sighting t o p r)) (sym (held-never-refused t o p h))
+      subst (λ (r : Result Sighting Refusal). HeldSeen t o p.place (addresses_in p) (held_at t p.place) (after_sighting t o p r)) (sym (held-never-refused t o p h))
       (renew-seen t o (held_at t p.place) l (from-form t o (form-elim t o y)) (at-used p.place _ a) p G (at_place p.place _ a))
 
-  new-answer : held t p.place ≡ false → tail_of t o (bucket_of p.place o) < 20 → free_at t < slots_of t → sighting_of t o p ≡ seen.Joined (free_at t)
+  new-answer : held t p.place ≡ false → tail_of t o (bucket_of p.place o) < 20 → free_at t < slots_of t → sighting_of t o p ≡ Ok (seen.Joined (free_at t))
   unfolding sighting_of newcomer
   new-answer h k l =
       cond_no (held t p.place) _ _ h ∙ cond_no (leb 20 (tail_of t o (bucket_of p.place o))) _ _ (lt-leb 20 (tail_of t o (bucket_of p.place o)) k)
       ∙ cond_yes (ltb (free_at t) (slots_of t)) _ _ (lt-ltb (free_at t) (slots_of t) l)
 
   pub seen-new : held t p.place ≡ false → tail_of t o (bucket_of p.place o) < 20 → free_at t < slots_of t
-      → (sighting_of t o p ≡ seen.Joined (free_at t)) × NewSeen t o p.place (id_in p) (addresses_in p) (free_at t) (seen_table t o p)
+      → (sighting_of t o p ≡ Ok (seen.Joined (free_at t))) × NewSeen t o p.place (id_in p) (addresses_in p) (free_at t) (seen_table t o p)
   unfolding seen_table after_sighting join
   seen-new h k l =
-      (new-answer h k l, subst (λ (r : Sighting). NewSeen t o p.place (id_in p) (addresses_in p) (free_at t) (after_sighting t o p r)) (sym (new-answer h k l)) (joins t o p G l))
+      (new-answer h k l, subst (λ (r : Result Sighting Refusal). NewSeen t o p.place (id_in p) (addresses_in p) (free_at t) (after_sighting t o p r)) (sym (new-answer h k l)) (joins t o p G l))
 
 -- ---- remove
 module _ (t o : List ℕ) (F : Ordered t o) (p : List ℕ) (l : held_at t p < slots_of t) where
@@ -331,11 +331,11 @@ module _ (t o : List ℕ) (F : Ordered t o) (p : List ℕ) (l : held_at t p < sl
     room = drop-free t o (held_at t p) l;
   }
 
-pub remove-frees : (t o p : List ℕ) → in_form t o ≡ true → held t p ≡ true → (removal_of t p ≡ Gone) × Freed t o p (held_at t p) (removed_table t o p)
+pub remove-frees : (t o p : List ℕ) → in_form t o ≡ true → held t p ≡ true → (removal_of t p ≡ Ok tt) × Freed t o p (held_at t p) (removed_table t o p)
 unfolding removed_table removal_of after_removal
 remove-frees t o p y h =
-    let e : removal_of t p ≡ Gone = cond_yes (held t p) _ _ h in
-    (e, subst (λ (r : Removed). Freed t o p (held_at t p) (after_removal t o p r)) (sym e) (frees t o (from-form t o (form-elim t o y)) p (held-lt t p h)))
+    let e : removal_of t p ≡ (Ok tt) = cond_yes (held t p) _ _ h in
+    (e, subst (λ (r : Result ⊤ Refusal). Freed t o p (held_at t p) (after_removal t o p r)) (sym e) (frees t o (from-form t o (form-elim t o y)) p (held-lt t p h)))
 
 -- ---- settle
 module _ (t o head : List ℕ) (p : Peer) (y : in_form t o ≡ true) (f : fits t o head p.place ≡ true) where
@@ -366,11 +366,11 @@ module _ (t o head : List ℕ) (p : Peer) (y : in_form t o ≡ true) (f : fits t
         same_head = subst (λ (x : List ℕ). SameContact x (slot t (held_at t head))) (sym is) (tailed-same t o (held_at t head) lh G uh);
       }
 
-  pub settle-answered : (settlement_of t o head p true ≡ Kept) × HeadKept t o head (settled_table t o head p true)
+  pub settle-answered : (settlement_of t o head p true ≡ Ok Kept) × HeadKept t o head (settled_table t o head p true)
   unfolding settled_table settlement_of after_settling
   settle-answered =
-      let e : settlement_of t o head p true ≡ Kept = cond_yes (fits t o head p.place) _ _ f in
-      (e, subst (λ (r : Settled). HeadKept t o head (after_settling t o head p r)) (sym e) head-kept)
+      let e : settlement_of t o head p true ≡ (Ok Kept) = cond_yes (fits t o head p.place) _ _ f in
+      (e, subst (λ (r : Result Settled Refusal). HeadKept t o head (after_settling t o head p r)) (sym e) head-kept)
 
   module _ (H : Fair o p) where
     joined : NewSeen (dropped t o (held_at t head)) o p.place (id_in p) (addresses_in p) (free_at (dropped t o (held_at t head))) (join (dropped t o (held_at t head)) o p)
@@ -401,11 +401,11 @@ module _ (t o head : List ℕ) (p : Peer) (y : in_form t o ≡ true) (f : fits t
             (at-make head _ (sym c.same_use ∙ at-used head _ q) (sym c.same_place ∙ at_place head _ q)))
             (eq-or-ne (held_at (join (dropped t o (held_at t head)) o p) head) (free_at (dropped t o (held_at t head))))
 
-    pub settle-silent : (settlement_of t o head p false ≡ Swapped) × HeadGone t o head p.place (id_in p) (addresses_in p) (settled_table t o head p false)
+    pub settle-silent : (settlement_of t o head p false ≡ Ok Swapped) × HeadGone t o head p.place (id_in p) (addresses_in p) (settled_table t o head p false)
     unfolding settled_table settlement_of after_settling
     settle-silent =
-        let e : settlement_of t o head p false ≡ Swapped = cond_yes (fits t o head p.place) _ _ f in
-        (e, subst (λ (r : Settled). HeadGone t o head p.place (id_in p) (addresses_in p) (after_settling t o head p r)) (sym e) head-gone)
+        let e : settlement_of t o head p false ≡ (Ok Swapped) = cond_yes (fits t o head p.place) _ _ f in
+        (e, subst (λ (r : Result Settled Refusal). HeadGone t o head p.place (id_in p) (addresses_in p) (after_settling t o head p r)) (sym e) head-gone)
 
 -- "Evicting a head that answered" can't be: where it answered, every contact of the table is still there
 pub answered-never-evicted : (t o head : List ℕ) (p : Peer) → in_form t o ≡ true → (j : ℕ) → j < slots_of t → SameContact (slot (settled_table t o head p true) j) (slot t j)

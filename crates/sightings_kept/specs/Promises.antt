@@ -12,10 +12,9 @@ use Rattle.peer.specs.declared.Peer.{Peer}
 use Rattle.peer.specs.Peers.{id_in, addresses_in}
 use Rattle.sightings.specs.declared.Sighting.TheVariants as seen
 use Rattle.sightings.specs.declared.Settled.TheVariants as settle
-use Rattle.sightings.specs.declared.Removed.TheVariants as remove
-use Rattle.sightings.specs.declared.Doubted.TheVariants as doubt
 use Rattle.sightings.specs.Order.{of_bucket, is_at, is_head, held_at, free_at, tail_of, free_bytes, dropped}
 use Rattle.sightings.specs.Sightings.{held, sighting_of, seen_table, settlement_of, settled_table, removal_of, removed_table, marking_of, marked_table}
+use Rattle.std.specs.Prelude.{Ok, Err}
 
 -- a peer that may come in: an id of 1 to 64 bytes, up to four addresses of 1 to 128, a place that isn't ours
 pub record Fair (ours : List ℕ) (p : Peer) : Type 0 where
@@ -134,32 +133,32 @@ pub record Promised (t ours : List ℕ) : Type 0 where
   pub counted : (b : ℕ) → tail_of t ours b ≡ holds t ours b
   -- seen of a contact that is held
   pub moved : (p : Peer) → Fair ours p → held t p.place ≡ true
-      → (sighting_of t ours p ≡ seen.Moved (held_at t p.place)) × HeldSeen t ours p.place (addresses_in p) (held_at t p.place) (seen_table t ours p)
+      → (sighting_of t ours p ≡ Ok (seen.Moved (held_at t p.place))) × HeldSeen t ours p.place (addresses_in p) (held_at t p.place) (seen_table t ours p)
   -- seen of one that isn't. Its bucket holds 20: nothing changes, and the head is named
   pub full : (p : Peer) → held t p.place ≡ false → 20 ≤ holds t ours (bucket_of p.place ours)
-      → (h : ℕ) × (sighting_of t ours p ≡ seen.Probe h) × (h < slots_of t) × (is_head ours (bucket_of p.place ours) (slot t h) ≡ true) × (seen_table t ours p ≡ t)
+      → (h : ℕ) × (sighting_of t ours p ≡ Ok (seen.Probe h)) × (h < slots_of t) × (is_head ours (bucket_of p.place ours) (slot t h) ≡ true) × (seen_table t ours p ≡ t)
   -- the bucket has room: it joins where some slot is free, and else nothing changes
   pub joined : (p : Peer) → Fair ours p → held t p.place ≡ false → holds t ours (bucket_of p.place ours) < 20
-      → (j : ℕ) → j < slots_of t → used (slot t j) ≡ false → (sighting_of t ours p ≡ seen.Joined (free_at t)) × NewSeen t ours p.place (id_in p) (addresses_in p) (free_at t) (seen_table t ours p)
+      → (j : ℕ) → j < slots_of t → used (slot t j) ≡ false → (sighting_of t ours p ≡ Ok (seen.Joined (free_at t))) × NewSeen t ours p.place (id_in p) (addresses_in p) (free_at t) (seen_table t ours p)
   pub no_slot : (p : Peer) → held t p.place ≡ false → holds t ours (bucket_of p.place ours) < 20
-      → ((j : ℕ) → j < slots_of t → used (slot t j) ≡ true) → (sighting_of t ours p ≡ seen.Refused NoContactSlot) × (seen_table t ours p ≡ t)
+      → ((j : ℕ) → j < slots_of t → used (slot t j) ≡ true) → (sighting_of t ours p ≡ Err NoContactSlot) × (seen_table t ours p ≡ t)
   -- settle, where it fits: the head answered, the head was silent; and where it doesn't
   pub kept : (head : List ℕ) (p : Peer) → StillFits t ours head p.place
-      → (settlement_of t ours head p true ≡ settle.Kept) × HeadKept t ours head (settled_table t ours head p true)
+      → (settlement_of t ours head p true ≡ Ok settle.Kept) × HeadKept t ours head (settled_table t ours head p true)
   pub swapped : (head : List ℕ) (p : Peer) → Fair ours p → StillFits t ours head p.place
-      → (settlement_of t ours head p false ≡ settle.Swapped) × HeadGone t ours head p.place (id_in p) (addresses_in p) (settled_table t ours head p false)
+      → (settlement_of t ours head p false ≡ Ok settle.Swapped) × HeadGone t ours head p.place (id_in p) (addresses_in p) (settled_table t ours head p false)
   pub stale : (head : List ℕ) (p : Peer) (answered : Bool) → (StillFits t ours head p.place → ⊥)
-      → (settlement_of t ours head p answered ≡ settle.Refused NoLongerFits) × (settled_table t ours head p answered ≡ t)
+      → (settlement_of t ours head p answered ≡ Err NoLongerFits) × (settled_table t ours head p answered ≡ t)
   -- "Evicting a head that answered" can't be: where it answered, every contact is still there
   pub unevicted : (head : List ℕ) (p : Peer) (j : ℕ) → j < slots_of t → SameContact (slot (settled_table t ours head p true) j) (slot t j)
   -- remove of a contact that is held, and of one that isn't
-  pub gone : (p : List ℕ) → held t p ≡ true → (removal_of t p ≡ remove.Gone) × Freed t ours p (held_at t p) (removed_table t ours p)
-  pub not_held : (p : List ℕ) → held t p ≡ false → (removal_of t p ≡ remove.Refused NoLongerFits) × (removed_table t ours p ≡ t)
+  pub gone : (p : List ℕ) → held t p ≡ true → (removal_of t p ≡ Ok tt) × Freed t ours p (held_at t p) (removed_table t ours p)
+  pub not_held : (p : List ℕ) → held t p ≡ false → (removal_of t p ≡ Err NoLongerFits) × (removed_table t ours p ≡ t)
   -- "Freed slots are used again": after a remove nobody is refused for want of a slot
-  pub reused : (p : List ℕ) (q : Peer) → held t p ≡ true → sighting_of (removed_table t ours p) ours q ≡ seen.Refused NoContactSlot → ⊥
+  pub reused : (p : List ℕ) (q : Peer) → held t p ≡ true → sighting_of (removed_table t ours p) ours q ≡ Err NoContactSlot → ⊥
   -- doubt of a contact that is held, and of one that isn't
-  pub marked : (p : List ℕ) → held t p ≡ true → (marking_of t p ≡ doubt.Marked) × OnlyMarked t (held_at t p) (marked_table t p)
-  pub doubt_not_held : (p : List ℕ) → held t p ≡ false → (marking_of t p ≡ doubt.Refused NoLongerFits) × (marked_table t p ≡ t)
+  pub marked : (p : List ℕ) → held t p ≡ true → (marking_of t p ≡ Ok tt) × OnlyMarked t (held_at t p) (marked_table t p)
+  pub doubt_not_held : (p : List ℕ) → held t p ≡ false → (marking_of t p ≡ Err NoLongerFits) × (marked_table t p ≡ t)
   -- "Bucket order, probes and room ignore the mark": a sighting and a settle then come to what they would have come to
   pub sighting_ignores : (p : List ℕ) (q : Peer) → sighting_of (marked_table t p) ours q ≡ sighting_of t ours q
   pub settle_ignores : (p head : List ℕ) (q : Peer) (answered : Bool) → settlement_of (marked_table t p) ours head q answered ≡ settlement_of t ours head q answered

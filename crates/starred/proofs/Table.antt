@@ -14,7 +14,6 @@ use Rattle.refusal.specs.declared.Refusal.TheVariants.{PrefixNotMinimal, TooLong
 use Rattle.place.specs.Place.{is_place, bits, common}
 use Rattle.place.proofs.Buckets.{bucket-places}
 use Rattle.stream.specs.declared.Framing.TheVariants.{Body}
-use Rattle.stream.specs.declared.Answer.TheVariants.{More}
 use Rattle.stream.specs.Stream.{Out, out, fresh, shift, limited, minimal, prefix_step, run_of, receive_of}
 use Rattle.stream.proofs.Runs.{body-part, body-whole}
 use Rattle.stream.proofs.Steps.{call-runs}
@@ -27,6 +26,7 @@ use Rattle.message.specs.View.{reading_of, fields_of}
 use Rattle.replies.specs.Verdicts.{put_verdict}
 use Rattle.answer.specs.Answers.{deal_of, verdict_of}
 use Rattle.starred.specs.Starred.{Row, Holds, Each, prefix, bad_prefix, bad_request, bucket, Starred}
+use Rattle.std.specs.Prelude.{Ok, None}
 
 -- ---- prefixes
 empty : Holds (prefix (0 ∷ []) 0)
@@ -40,7 +40,7 @@ largest : Holds (prefix (128 ∷ 128 ∷ 1 ∷ []) 16384)
 unfolding run_of prefix_step minimal limited
 largest m s w = (
   (λ l. begun ∙ ap after-three (body-whole 16384 0 16383 m s refl (omega arith))),
-  (λ l. begun ∙ ap after-three (body-part 16384 0 m s (omega arith)) ∙ (λ i. out (Body 16384 (have i)) (taken i) More (sets m 0 s))),
+  (λ l. begun ∙ ap after-three (body-part 16384 0 m s (omega arith)) ∙ (λ i. out (Body 16384 (have i)) (taken i) (Ok None) (sets m 0 s))),
 )
   where
     after-three : Out → Out

@@ -1,6 +1,6 @@
 -- RULES, Examples: "Those with * are proved, gathered into a single table under one claim". The table's rows have the bytes, bits and numbers that stand there, in
 -- their order; `Holds` says what a row means, and the claim is that each row holds.
-use Rattle.std.specs.Prelude.{ℕ, ◌+◌, ◌≤◌, ◌<◌, ◌≡◌, true, List, [], ◌∷◌, ◌++◌, length, take, ℤ, pos, neg_ℤ}
+use Rattle.std.specs.Prelude.{ℕ, ◌+◌, ◌≤◌, ◌<◌, ◌≡◌, true, List, [], ◌∷◌, ◌++◌, length, take, ℤ, pos, neg_ℤ, Some}
 use Rattle.std.proofs.lemmas.List.Edits.{sets}
 use Rattle.octets.specs.Octets.{starts_with}
 use Rattle.limits.specs.Limits.{most_body}
@@ -8,16 +8,14 @@ use Rattle.refusal.specs.declared.Refusal.{Refusal}
 use Rattle.refusal.specs.Refusal.{number_of}
 use Rattle.place.specs.Place.{is_place, bits, bucket_of}
 use Rattle.stream.specs.declared.Framing.TheVariants.{Shut, Body}
-use Rattle.stream.specs.declared.Answer.TheVariants as stream
 use Rattle.stream.specs.Stream.{fresh, out, receive_of}
-use Rattle.recipe.specs.declared.Varint.TheVariants.{Is}
 use Rattle.recipe.specs.Recipe.{trim_of, zigzag_of, varint, These, setpoints, count_of, wrap_room, sequence_of, is_recipe}
-use Rattle.records.specs.declared.Answer.TheVariants as store
 use Rattle.records.specs.Store.{is_key, in_form, put_answer}
 use Rattle.peer.specs.declared.Peer.{Peer}
 use Rattle.replies.specs.Lent.{Lent}
 use Rattle.replies.specs.Verdicts.{refused}
 use Rattle.answer.specs.Answers.{deal_of}
+use Rattle.std.specs.Prelude.{Ok, Err, None}
 
 -- ---- the kinds of rows, each with the bytes and numbers of RULES, Examples
 pub data Row : Type 0 where
@@ -51,20 +49,20 @@ abbrev pub Holds : Row → Type 0
 -- fewer are all taken, and more are asked for
 Holds (prefix bs n) =
     (m s : List ℕ) → most_body ≤ length m
-    → (n ≤ length s → receive_of fresh m (bs ++ s) ≡ out fresh (length bs + n) (stream.Message n) (sets m 0 (take n s)))
-    × (length s < n → receive_of fresh m (bs ++ s) ≡ out (Body n (length s)) (length bs + length s) stream.More (sets m 0 s))
+    → (n ≤ length s → receive_of fresh m (bs ++ s) ≡ out fresh (length bs + n) (Ok (Some n)) (sets m 0 (take n s)))
+    × (length s < n → receive_of fresh m (bs ++ s) ≡ out (Body n (length s)) (length bs + length s) (Ok None) (sets m 0 s))
 -- the same, whatever follows the prefix: the connection is shut, and the buffer stays
-Holds (bad_prefix bs taken n) = ByNumber n (λ r. (m s : List ℕ) → most_body ≤ length m → receive_of fresh m (bs ++ s) ≡ out Shut taken (stream.Refused r) m)
+Holds (bad_prefix bs taken n) = ByNumber n (λ r. (m s : List ℕ) → most_body ≤ length m → receive_of fresh m (bs ++ s) ≡ out Shut taken (Err r) m)
 -- whoever we and the requester are, and whatever is lent: all of it stays
 Holds (bad_request body n) = ByNumber n (λ r. (me who : Peer) (l : Lent) → deal_of me who body l ≡ refused r l)
 -- there and back
 Holds (zigzag trim z) = (zigzag_of trim ≡ z) × (trim_of z ≡ trim)
 -- whatever follows
-Holds (written z bs) = (s : List ℕ) → varint (bs ++ s) ≡ Is z (length bs)
+Holds (written z bs) = (s : List ℕ) → varint (bs ++ s) ≡ Some (z, length bs)
 -- taken as a recipe, with this one setpoint and this sequence
 Holds (recipe v turn trim sequence) = (is_recipe v ≡ true) × (setpoints (count_of v) (wrap_room v) ≡ These (record { turn = turn; trim = trim } ∷ [])) × (sequence_of v ≡ sequence)
 -- put into any store in form, under any record key
-Holds (bad_recipe v n) = ByNumber n (λ r. (t k : List ℕ) → in_form t ≡ true → is_key k ≡ true → put_answer t k v ≡ store.Refused r)
+Holds (bad_recipe v n) = ByNumber n (λ r. (t k : List ℕ) → in_form t ≡ true → is_key k ≡ true → put_answer t k v ≡ Err r)
 -- all places that start so
 Holds (bucket us them n) = (ours p : List ℕ) → is_place ours ≡ true → is_place p ≡ true → starts_with (bits ours) us ≡ true → starts_with (bits p) them ≡ true → bucket_of p ours ≡ n
 

@@ -15,13 +15,14 @@ use Rattle.octets.proofs.Bools.{cond_yes, cond_no, cond-ap}
 use Rattle.stream.specs.declared.Held.{Held}
 use Rattle.stream.specs.declared.Framing.{Framing}
 use Rattle.stream.specs.declared.Framing.TheVariants.{Shut, Prefix, Body}
-use Rattle.stream.specs.declared.Answer.TheVariants.{Message, Refused, More}
 use Rattle.stream.specs.declared.Lead.{Lead}
-use Rattle.stream.specs.declared.Lead.TheVariants.{On, Length, Bad}
+use Rattle.stream.specs.declared.Lead.TheVariants.{On, Length}
 use Rattle.stream.specs.declared.Prefixed.{Prefixed}
 use Rattle.stream.specs.declared.Received.{Received}
 use Rattle.stream.specs.Stream.{Stepped, Out, out, shift, after, fresh, stepped, led, step_of, store_of, run_of, Gives, prefix_step, prefixed, later, onward, prefix_of}
 use Rattle.stream.specs.Inner.{goes_on, held_of, begun_of}
+use Rattle.std.specs.Prelude.{Ok, Err, Some, None, Result}
+use Rattle.refusal.specs.declared.Refusal.{Refusal}
 
 -- ---- bytes later
 pub shift-shift : (i j : ℕ) (o : Out) → shift i (shift j o) ≡ shift (i + j) o
@@ -45,21 +46,21 @@ prefix-cons : (h : Held) (z : ℕ) (zs : List ℕ) → prefix_of h (z ∷ zs) �
 unfolding prefix_of
 prefix-cons h z zs = refl
 
-prefix-nil : (h : Held) → prefix_of h [] ≡ prefixed 0 (On h)
+prefix-nil : (h : Held) → prefix_of h [] ≡ prefixed 0 (Ok (On h))
 unfolding prefix_of
 prefix-nil h = refl
 
-onward-on : (l : Lead) (next : Held → Prefixed) → goes_on l ≡ true → onward l next ≡ later (next (held_of l))
-onward-on (On h) next e = refl
-onward-on (Length n) next e = absurd (false≢true e)
-onward-on (Bad r) next e = absurd (false≢true e)
+onward-on : (l : Result Lead Refusal) (next : Held → Prefixed) → goes_on l ≡ true → onward l next ≡ later (next (held_of l))
+onward-on (Ok (On h)) next e = refl
+onward-on (Ok (Length n)) next e = absurd (false≢true e)
+onward-on (Err r) next e = absurd (false≢true e)
 
-onward-off : (l : Lead) (next : Held → Prefixed) → goes_on l ≡ false → onward l next ≡ prefixed 1 l
-onward-off (On h) next e = absurd (true≢false e)
-onward-off (Length n) next e = refl
-onward-off (Bad r) next e = refl
+onward-off : (l : Result Lead Refusal) (next : Held → Prefixed) → goes_on l ≡ false → onward l next ≡ prefixed 1 l
+onward-off (Ok (On h)) next e = absurd (true≢false e)
+onward-off (Ok (Length n)) next e = refl
+onward-off (Err r) next e = refl
 
-module _ (h₀ : Held) (piece : List ℕ) (h : Held) (i : ℕ) (g : Reading h₀ piece h i) (l : i < length piece) (x : Lead) (e : x ≡ prefix_step h (get_or piece i 0)) where
+module _ (h₀ : Held) (piece : List ℕ) (h : Held) (i : ℕ) (g : Reading h₀ piece h i) (l : i < length piece) (x : Result Lead Refusal) (e : x ≡ prefix_step h (get_or piece i 0)) where
   turn : prefix_of h₀ piece ≡ later_by i (onward x (λ k. prefix_of k (drop (i + 1) piece)))
   turn =
       g.same
@@ -77,15 +78,15 @@ module _ (h₀ : Held) (piece : List ℕ) (h : Held) (i : ℕ) (g : Reading h₀
   pub read_off : goes_on x ≡ false → prefixed (i + 1) x ≡ prefix_of h₀ piece
   read_off t = sym (turn ∙ ap (later_by i) (onward-off x _ t))
 
-pub read_out : (h₀ : Held) (piece : List ℕ) (h : Held) (i : ℕ) → Reading h₀ piece h i → length piece ≤ i → prefixed i (On h) ≡ prefix_of h₀ piece
+pub read_out : (h₀ : Held) (piece : List ℕ) (h : Held) (i : ℕ) → Reading h₀ piece h i → length piece ≤ i → prefixed i (Ok (On h)) ≡ prefix_of h₀ piece
 read_out h₀ piece h i g l =
-    sym (g.same ∙ ap (λ (s : List ℕ). later_by i (prefix_of h s)) (drop_of_length-le piece l) ∙ ap (later_by i) (prefix-nil h) ∙ (λ j. prefixed (add-zero i j) (On h)))
+    sym (g.same ∙ ap (λ (s : List ℕ). later_by i (prefix_of h s)) (drop_of_length-le piece l) ∙ ap (later_by i) (prefix-nil h) ∙ (λ j. prefixed (add-zero i j) (Ok (On h))))
 
 -- a prefix has no more bytes than are there
-onward-within : (l : Lead) (next : Held → Prefixed) (n : ℕ) → ((h : Held) → (next h).taken ≤ n) → (onward l next).taken ≤ suc n
-onward-within (On h) next n f = let q : (next h).taken ≤ n = f h in omega arith
-onward-within (Length k) next n f = omega arith
-onward-within (Bad r) next n f = omega arith
+onward-within : (l : Result Lead Refusal) (next : Held → Prefixed) (n : ℕ) → ((h : Held) → (next h).taken ≤ n) → (onward l next).taken ≤ suc n
+onward-within (Ok (On h)) next n f = let q : (next h).taken ≤ n = f h in omega arith
+onward-within (Ok (Length k)) next n f = omega arith
+onward-within (Err r) next n f = omega arith
 
 pub prefix-within : (bs : List ℕ) (h : Held) → (prefix_of h bs).taken ≤ length bs
 unfolding prefix_of
@@ -93,12 +94,12 @@ prefix-within [] h = omega arith
 prefix-within (z ∷ zs) h = onward-within (prefix_step h z) (λ k. prefix_of k zs) (length zs) (λ k. prefix-within zs k)
 
 -- ---- the fold over a prefix's bytes goes by what the prefix leads to
-abbrev pub leads : Lead → ℕ → List ℕ → List ℕ → Out
-leads (On h) k m bs = out (Prefix h) k More m
-leads (Length n) k m bs = begun_of n k m bs
-leads (Bad r) k m bs = out Shut k (Refused r) m
+abbrev pub leads : Result Lead Refusal → ℕ → List ℕ → List ℕ → Out
+leads (Ok (On h)) k m bs = out (Prefix h) k (Ok None) m
+leads (Ok (Length n)) k m bs = begun_of n k m bs
+leads (Err r) k m bs = out Shut k (Err r) m
 
-pub run-nil : (f : Framing) (m : List ℕ) → run_of f m [] ≡ out f 0 More m
+pub run-nil : (f : Framing) (m : List ℕ) → run_of f m [] ≡ out f 0 (Ok None) m
 unfolding run_of
 run-nil f m = refl
 
@@ -109,50 +110,50 @@ run-cons f m b bs = refl
 abbrev goes : Stepped → List ℕ → List ℕ → Out
 goes s m bs = after s.answer s.framing m (run_of s.framing m bs)
 
-leads-later : (l : Lead) (k : ℕ) (m : List ℕ) (b : ℕ) (bs : List ℕ) → shift 1 (leads l k m bs) ≡ leads l (1 + k) m (b ∷ bs)
-leads-later (On h) k m b bs = refl
-leads-later (Bad r) k m b bs = refl
-leads-later (Length n) k m b bs =
-    cond-ap (shift 1) (eqb n 0) (out fresh k (Message 0) m) (shift k (run_of (Body n 0) m (drop k bs)))
-    ∙ ap (cond (eqb n 0) (out fresh (1 + k) (Message 0) m)) (shift-shift 1 k (run_of (Body n 0) m (drop k bs)) ∙ ap (λ (j : ℕ). shift (1 + k) (run_of (Body n 0) m (drop j (b ∷ bs)))) (sym (one-add k)))
+leads-later : (l : Result Lead Refusal) (k : ℕ) (m : List ℕ) (b : ℕ) (bs : List ℕ) → shift 1 (leads l k m bs) ≡ leads l (1 + k) m (b ∷ bs)
+leads-later (Ok (On h)) k m b bs = refl
+leads-later (Err r) k m b bs = refl
+leads-later (Ok (Length n)) k m b bs =
+    cond-ap (shift 1) (eqb n 0) (out fresh k (Ok (Some 0)) m) (shift k (run_of (Body n 0) m (drop k bs)))
+    ∙ ap (cond (eqb n 0) (out fresh (1 + k) (Ok (Some 0)) m)) (shift-shift 1 k (run_of (Body n 0) m (drop k bs)) ∙ ap (λ (j : ℕ). shift (1 + k) (run_of (Body n 0) m (drop j (b ∷ bs)))) (sym (one-add k)))
 
 pub run-prefix : (bs : List ℕ) (h : Held) (m : List ℕ) → run_of (Prefix h) m bs ≡ leads (prefix_of h bs).lead (prefix_of h bs).taken m bs
 run-prefix [] h m = run-nil (Prefix h) m ∙ ap (λ (p : Prefixed). leads p.lead p.taken m []) (sym (prefix-nil h))
 run-prefix (z ∷ zs) h m =
     run-cons (Prefix h) m z zs ∙ go (prefix_step h z) (run-prefix zs) ∙ ap (λ (p : Prefixed). leads p.lead p.taken m (z ∷ zs)) (sym (prefix-cons h z zs))
   where
-    go : (l : Lead) → ((k : Held) (m : List ℕ) → run_of (Prefix k) m zs ≡ leads (prefix_of k zs).lead (prefix_of k zs).taken m zs)
+    go : (l : Result Lead Refusal) → ((k : Held) (m : List ℕ) → run_of (Prefix k) m zs ≡ leads (prefix_of k zs).lead (prefix_of k zs).taken m zs)
         → goes (led l) m zs ≡ leads (onward l (λ k. prefix_of k zs)).lead (onward l (λ k. prefix_of k zs)).taken m (z ∷ zs)
-    go (On k) ih = ap (shift 1) (ih k m) ∙ leads-later (prefix_of k zs).lead (prefix_of k zs).taken m z zs
-    go (Bad r) ih = refl
-    go (Length n) ih = cond-ap (λ (s : Stepped). goes s m zs) (eqb n 0) (stepped fresh (Message 0)) (stepped (Body n 0) More)
+    go (Ok (On k)) ih = ap (shift 1) (ih k m) ∙ leads-later (prefix_of k zs).lead (prefix_of k zs).taken m z zs
+    go (Err r) ih = refl
+    go (Ok (Length n)) ih = cond-ap (λ (s : Stepped). goes s m zs) (eqb n 0) (stepped fresh (Ok (Some 0))) (stepped (Body n 0) (Ok None))
 
 -- ---- the fold over a body's bytes
 body_more : (want k : ℕ) (m : List ℕ) (b : ℕ) (bs : List ℕ) → (suc k ≡ want → ⊥) → run_of (Body want k) m (b ∷ bs) ≡ shift 1 (run_of (Body want (suc k)) (set m k b) bs)
 body_more want k m b bs h =
-    run-cons (Body want k) m b bs ∙ ap (λ (s : Stepped). goes s (set m k b) bs) (cond_no (eqb (suc k) want) (stepped fresh (Message want)) (stepped (Body want (suc k)) More) (ne_eqb _ _ h))
+    run-cons (Body want k) m b bs ∙ ap (λ (s : Stepped). goes s (set m k b) bs) (cond_no (eqb (suc k) want) (stepped fresh (Ok (Some want))) (stepped (Body want (suc k)) (Ok None)) (ne_eqb _ _ h))
 
-body-last : (want k : ℕ) (m : List ℕ) (b : ℕ) (bs : List ℕ) → suc k ≡ want → run_of (Body want k) m (b ∷ bs) ≡ out fresh 1 (Message want) (set m k b)
+body-last : (want k : ℕ) (m : List ℕ) (b : ℕ) (bs : List ℕ) → suc k ≡ want → run_of (Body want k) m (b ∷ bs) ≡ out fresh 1 (Ok (Some want)) (set m k b)
 body-last want k m b bs h =
-    run-cons (Body want k) m b bs ∙ ap (λ (s : Stepped). goes s (set m k b) bs) (cond_yes (eqb (suc k) want) (stepped fresh (Message want)) (stepped (Body want (suc k)) More) (eq-eqb _ _ h))
+    run-cons (Body want k) m b bs ∙ ap (λ (s : Stepped). goes s (set m k b) bs) (cond_yes (eqb (suc k) want) (stepped fresh (Ok (Some want))) (stepped (Body want (suc k)) (Ok None)) (eq-eqb _ _ h))
 
 -- a part of a body
-pub body-part : (want k : ℕ) (m bs : List ℕ) → k + length bs < want → run_of (Body want k) m bs ≡ out (Body want (k + length bs)) (length bs) More (sets m k bs)
-body-part want k m [] h = run-nil (Body want k) m ∙ (λ i. out (Body want (sym (add-zero k) i)) 0 More m)
+pub body-part : (want k : ℕ) (m bs : List ℕ) → k + length bs < want → run_of (Body want k) m bs ≡ out (Body want (k + length bs)) (length bs) (Ok None) (sets m k bs)
+body-part want k m [] h = run-nil (Body want k) m ∙ (λ i. out (Body want (sym (add-zero k) i)) 0 (Ok None) m)
 body-part want k m (b ∷ bs) h =
     let e : k + suc (length bs) ≡ suc k + length bs = omega arith in
     body_more want k m b bs (λ q. omega arith)
     ∙ ap (shift 1) (body-part want (suc k) (set m k b) bs (omega arith))
-    ∙ (λ i. out (Body want (sym e i)) (one-add (length bs) i) More (sets (set m k b) (suc k) bs))
+    ∙ (λ i. out (Body want (sym e i)) (one-add (length bs) i) (Ok None) (sets (set m k b) (suc k) bs))
 
 -- the end of a body: suc n bytes of it are still to come, and are there
-pub body-whole : (want k n : ℕ) (m bs : List ℕ) → want ≡ k + suc n → n < length bs → run_of (Body want k) m bs ≡ out fresh (suc n) (Message want) (sets m k (take (suc n) bs))
+pub body-whole : (want k n : ℕ) (m bs : List ℕ) → want ≡ k + suc n → n < length bs → run_of (Body want k) m bs ≡ out fresh (suc n) (Ok (Some want)) (sets m k (take (suc n) bs))
 body-whole want k n m [] h l = absurd (not-suc-le-zero l)
 body-whole want k zero m (b ∷ bs) h l = body-last want k m b bs (omega arith)
 body-whole want k (suc n) m (b ∷ bs) h l =
     body_more want k m b bs (λ q. omega arith)
     ∙ ap (shift 1) (body-whole want (suc k) n (set m k b) bs (omega arith) (omega arith))
-    ∙ (λ i. out fresh (one-add (suc n) i) (Message want) (sets (set m k b) (suc k) (take (suc n) bs)))
+    ∙ (λ i. out fresh (one-add (suc n) i) (Ok (Some want)) (sets (set m k b) (suc k) (take (suc n) bs)))
 
 -- ---- what `read_body` does: the bytes of a piece from a place on
 module _ (want have from : ℕ) (m piece : List ℕ) (h : have < want) (w : from ≤ length piece) where
@@ -166,45 +167,45 @@ module _ (want have from : ℕ) (m piece : List ℕ) (h : have < want) (w : from
   through = shift from (run_of (Body want have) m rest)
 
   pub gives_part : (m' : List ℕ) → length piece - from < want - have → m' ≡ sets m have (part piece from (length piece))
-      → Gives through (record { framing = Body want (have + (length piece - from)); taken = length piece; answer = More }) m'
+      → Gives through (record { framing = Body want (have + (length piece - from)); taken = length piece; answer = (Ok None) }) m'
   gives_part m' l e =
       let d = rest-length in
       let t : part piece from (length piece) ≡ rest = take_all (length piece - from) rest (omega arith) in
       let n : from + length rest ≡ length piece = omega arith in
-      let q : through ≡ out (Body want (have + (length piece - from))) (length piece) More (sets m have rest) =
-      ap (shift from) (body-part want have m rest (omega arith)) ∙ (λ i. out (Body want (have + d i)) (n i) More (sets m have rest)) in
+      let q : through ≡ out (Body want (have + (length piece - from))) (length piece) (Ok None) (sets m have rest) =
+      ap (shift from) (body-part want have m rest (omega arith)) ∙ (λ i. out (Body want (have + d i)) (n i) (Ok None) (sets m have rest)) in
       record { got = ap (λ (o : Out). o.got) (sym q); buffer = e ∙ ap (sets m have) t ∙ ap (λ (o : Out). o.buffer) (sym q) }
 
   pub gives_whole : (f : Framing) (m' : List ℕ) → want - have ≤ length piece - from → f ≡ fresh → m' ≡ sets m have (part piece from (from + (want - have)))
-      → Gives through (record { framing = f; taken = from + (want - have); answer = Message want }) m'
+      → Gives through (record { framing = f; taken = from + (want - have); answer = (Ok (Some want)) }) m'
   gives_whole f m' l g e =
       let d = rest-length in
       let n : ℕ = want - suc have in
       let s : want - have ≡ suc n = omega arith in
       let u : from + (want - have) - from ≡ suc n = omega arith in
-      let q : through ≡ out fresh (from + suc n) (Message want) (sets m have (take (suc n) rest)) =
+      let q : through ≡ out fresh (from + suc n) (Ok (Some want)) (sets m have (take (suc n) rest)) =
       ap (shift from) (body-whole want have n m rest (omega arith) (omega arith)) in
       record {
-        got = (λ i. record { framing = g i; taken = from + s i; answer = Message want }) ∙ ap (λ (o : Out). o.got) (sym q);
+        got = (λ i. record { framing = g i; taken = from + s i; answer = (Ok (Some want)) }) ∙ ap (λ (o : Out). o.got) (sym q);
         buffer = e ∙ ap (λ (k : ℕ). sets m have (take k rest)) u ∙ ap (λ (o : Out). o.buffer) (sym q);
       }
 
 -- ---- what `start_body` and `read_message` give
-pub gives-empty : (n k : ℕ) (m bs : List ℕ) (f : Framing) → n ≡ 0 → f ≡ fresh → Gives (begun_of n k m bs) (record { framing = f; taken = k; answer = Message 0 }) m
+pub gives-empty : (n k : ℕ) (m bs : List ℕ) (f : Framing) → n ≡ 0 → f ≡ fresh → Gives (begun_of n k m bs) (record { framing = f; taken = k; answer = (Ok (Some 0)) }) m
 gives-empty n k m bs f e g =
-    rw (cond_yes (eqb n 0) (out fresh k (Message 0) m) (shift k (run_of (Body n 0) m (drop k bs))) (eq-eqb n 0 e))
-    (record { got = λ i. record { framing = g i; taken = k; answer = Message 0 }; buffer = refl })
+    rw (cond_yes (eqb n 0) (out fresh k (Ok (Some 0)) m) (shift k (run_of (Body n 0) m (drop k bs))) (eq-eqb n 0 e))
+    (record { got = λ i. record { framing = g i; taken = k; answer = (Ok (Some 0)) }; buffer = refl })
 
 pub begun-some : (n k : ℕ) (m bs : List ℕ) → (n ≡ 0 → ⊥) → begun_of n k m bs ≡ shift k (run_of (Body n 0) m (drop k bs))
-begun-some n k m bs e = cond_no (eqb n 0) (out fresh k (Message 0) m) (shift k (run_of (Body n 0) m (drop k bs))) (ne_eqb n 0 e)
+begun-some n k m bs e = cond_no (eqb n 0) (out fresh k (Ok (Some 0)) m) (shift k (run_of (Body n 0) m (drop k bs))) (ne_eqb n 0 e)
 
 pub gives-begun : (n k : ℕ) (m bs : List ℕ) (r : Received) (m' : List ℕ) → (n ≡ 0 → ⊥) → Gives (shift k (run_of (Body n 0) m (drop k bs))) r m' → Gives (begun_of n k m bs) r m'
 gives-begun n k m bs r m' e g = rw (begun-some n k m bs e) g
 
-pub gives-lead : (h : Held) (m bs : List ℕ) (p : Prefixed) (l : Lead) (r : Received) (m' : List ℕ) → p ≡ prefix_of h bs → p.lead ≡ l
+pub gives-lead : (h : Held) (m bs : List ℕ) (p : Prefixed) (l : Result Lead Refusal) (r : Received) (m' : List ℕ) → p ≡ prefix_of h bs → p.lead ≡ l
     → Gives (leads l p.taken m bs) r m' → Gives (run_of (Prefix h) m bs) r m'
 gives-lead h m bs p l r m' e q g =
-    rw (run-prefix bs h m ∙ ap (λ (x : Prefixed). leads x.lead x.taken m bs) (sym e) ∙ ap (λ (x : Lead). leads x p.taken m bs) q) g
+    rw (run-prefix bs h m ∙ ap (λ (x : Prefixed). leads x.lead x.taken m bs) (sym e) ∙ ap (λ (x : Result Lead Refusal). leads x p.taken m bs) q) g
 
 pub taken-within : (h : Held) (bs : List ℕ) (p : Prefixed) → p ≡ prefix_of h bs → p.taken ≤ length bs
 taken-within h bs p e = rw e (prefix-within bs h)

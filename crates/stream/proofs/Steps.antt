@@ -14,11 +14,12 @@ use Rattle.stream.specs.declared.Held.TheVariants.{Nothing, One, Two}
 use Rattle.stream.specs.declared.Framing.{Framing}
 use Rattle.stream.specs.declared.Framing.TheVariants.{Shut, Body}
 use Rattle.stream.specs.declared.Received.{Received}
-use Rattle.stream.specs.declared.Ending.TheVariants as ends
 use Rattle.stream.specs.declared.Ended.{Ended}
 use Rattle.stream.specs.declared.Lead.{Lead}
-use Rattle.stream.specs.declared.Lead.TheVariants.{On, Length, Bad}
+use Rattle.stream.specs.declared.Lead.TheVariants.{On, Length}
 use Rattle.stream.specs.Stream.{held_form, in_form, is_shut, limited, minimal, prefix_step, Out, stays, stayed, run_of, Gives, receive_of, ended, end_in, end_of}
+use Rattle.std.specs.Prelude.{Ok, Err, Result}
+use Rattle.refusal.specs.declared.Refusal.{Refusal}
 
 -- ---- form
 pub two-low : (h : Held) (a b : ℕ) → h ≡ Two a b → a < 128 → false ≡ held_form h
@@ -41,62 +42,62 @@ pub body-small : (want have : ℕ) → in_form (Body want have) ≡ true → wan
 body-small want have h = leb-true want most_body (and_l (leb want most_body) (ltb have want) h)
 
 -- ---- a length
-pub over-limit : (n : ℕ) → 16384 < n → Bad no.TooLong ≡ limited n
+pub over-limit : (n : ℕ) → 16384 < n → Err no.TooLong ≡ limited n
 unfolding limited
-over-limit n l = sym (cond_yes (ltb most_body n) (Bad no.TooLong) (Length n) (lt-ltb _ _ l))
+over-limit n l = sym (cond_yes (ltb most_body n) (Err no.TooLong) (Ok (Length n)) (lt-ltb _ _ l))
 
-pub in-limit : (n : ℕ) → n ≤ 16384 → Length n ≡ limited n
+pub in-limit : (n : ℕ) → n ≤ 16384 → (Ok (Length n)) ≡ limited n
 unfolding limited
-in-limit n l = sym (cond_no (ltb most_body n) (Bad no.TooLong) (Length n) (le-ltb _ _ l))
+in-limit n l = sym (cond_no (ltb most_body n) (Err no.TooLong) (Ok (Length n)) (le-ltb _ _ l))
 
-pub zero-last : (z n : ℕ) → z ≡ 0 → Bad no.PrefixNotMinimal ≡ minimal z n
+pub zero-last : (z n : ℕ) → z ≡ 0 → Err no.PrefixNotMinimal ≡ minimal z n
 unfolding minimal
-zero-last z n e = sym (cond_yes (eqb z 0) (Bad no.PrefixNotMinimal) (limited n) (eq-eqb _ _ e))
+zero-last z n e = sym (cond_yes (eqb z 0) (Err no.PrefixNotMinimal) (limited n) (eq-eqb _ _ e))
 
-pub some-last : (z n : ℕ) (r : Lead) → (z ≡ 0 → ⊥) → r ≡ limited n → r ≡ minimal z n
+pub some-last : (z n : ℕ) (r : Result Lead Refusal) → (z ≡ 0 → ⊥) → r ≡ limited n → r ≡ minimal z n
 unfolding minimal
-some-last z n r e q = q ∙ sym (cond_no (eqb z 0) (Bad no.PrefixNotMinimal) (limited n) (ne_eqb _ _ e))
+some-last z n r e q = q ∙ sym (cond_no (eqb z 0) (Err no.PrefixNotMinimal) (limited n) (ne_eqb _ _ e))
 
 -- ---- a prefix byte
 module _ (h : Held) (z : ℕ) where
-  by-held : (k : Held) (x : Lead) → h ≡ k → prefix_step k z ≡ x → x ≡ prefix_step h z
+  by-held : (k : Held) (x : Result Lead Refusal) → h ≡ k → prefix_step k z ≡ x → x ≡ prefix_step h z
   by-held k x e q = sym (ap (λ (l : Held). prefix_step l z) e ∙ q)
 
-  pub closes-first : (w : ℕ) (r : Lead) → h ≡ Nothing → z < 128 → w ≡ z → r ≡ limited w → r ≡ prefix_step h z
+  pub closes-first : (w : ℕ) (r : Result Lead Refusal) → h ≡ Nothing → z < 128 → w ≡ z → r ≡ limited w → r ≡ prefix_step h z
   unfolding prefix_step
   closes-first w r e l p q = q ∙ ap limited p ∙ by-held Nothing (limited z) e (cond_yes (ltb z 128) _ _ (lt-ltb z 128 l))
 
-  pub closes-second : (a x w : ℕ) (r : Lead) → h ≡ One a → z < 128 → x ≡ a → w ≡ z → r ≡ minimal z (x % 128 + w * 128) → r ≡ prefix_step h z
+  pub closes-second : (a x w : ℕ) (r : Result Lead Refusal) → h ≡ One a → z < 128 → x ≡ a → w ≡ z → r ≡ minimal z (x % 128 + w * 128) → r ≡ prefix_step h z
   unfolding prefix_step
   closes-second a x w r e l p s q =
       q ∙ (λ i. minimal z (p i % 128 + s i * 128)) ∙ by-held (One a) (minimal z (a % 128 + z * 128)) e (cond_yes (ltb z 128) _ _ (lt-ltb z 128 l))
 
-  pub closes-third : (a b x y w : ℕ) (r : Lead) → h ≡ Two a b → z < 128 → x ≡ a → y ≡ b → w ≡ z → r ≡ minimal z (x % 128 + y % 128 * 128 + w * 16384) → r ≡ prefix_step h z
+  pub closes-third : (a b x y w : ℕ) (r : Result Lead Refusal) → h ≡ Two a b → z < 128 → x ≡ a → y ≡ b → w ≡ z → r ≡ minimal z (x % 128 + y % 128 * 128 + w * 16384) → r ≡ prefix_step h z
   unfolding prefix_step
   closes-third a b x y w r e l p t s q =
       q ∙ (λ i. minimal z (p i % 128 + t i % 128 * 128 + s i * 16384))
       ∙ by-held (Two a b) (minimal z (a % 128 + b % 128 * 128 + z * 16384)) e (cond_yes (ltb z 128) _ _ (lt-ltb z 128 l))
 
-  pub holds-first : h ≡ Nothing → 128 ≤ z → On (One z) ≡ prefix_step h z
+  pub holds-first : h ≡ Nothing → 128 ≤ z → (Ok (On (One z))) ≡ prefix_step h z
   unfolding prefix_step
-  holds-first e l = by-held Nothing (On (One z)) e (cond_no (ltb z 128) _ _ (le-ltb z 128 l))
+  holds-first e l = by-held Nothing (Ok (On (One z))) e (cond_no (ltb z 128) _ _ (le-ltb z 128 l))
 
-  pub holds-second : (a : ℕ) → h ≡ One a → 128 ≤ z → On (Two a z) ≡ prefix_step h z
+  pub holds-second : (a : ℕ) → h ≡ One a → 128 ≤ z → (Ok (On (Two a z))) ≡ prefix_step h z
   unfolding prefix_step
-  holds-second a e l = by-held (One a) (On (Two a z)) e (cond_no (ltb z 128) _ _ (le-ltb z 128 l))
+  holds-second a e l = by-held (One a) (Ok (On (Two a z))) e (cond_no (ltb z 128) _ _ (le-ltb z 128 l))
 
-  pub holds-third : (a b : ℕ) → h ≡ Two a b → 128 ≤ z → Bad no.TooLong ≡ prefix_step h z
+  pub holds-third : (a b : ℕ) → h ≡ Two a b → 128 ≤ z → Err no.TooLong ≡ prefix_step h z
   unfolding prefix_step
-  holds-third a b e l = by-held (Two a b) (Bad no.TooLong) e (cond_no (ltb z 128) _ _ (le-ltb z 128 l))
+  holds-third a b e l = by-held (Two a b) (Err no.TooLong) e (cond_no (ltb z 128) _ _ (le-ltb z 128 l))
 
 -- ---- an end
-pub end-bad : (f : Framing) → in_form f ≡ false → ended f (ends.Refused no.OutOfForm) ≡ end_of f
+pub end-bad : (f : Framing) → in_form f ≡ false → ended f (Err no.OutOfForm) ≡ end_of f
 unfolding end_of
-end-bad f h = sym (cond_yes (not (in_form f)) (ended f (ends.Refused no.OutOfForm)) (end_in f) (ap not h))
+end-bad f h = sym (cond_yes (not (in_form f)) (ended f (Err no.OutOfForm)) (end_in f) (ap not h))
 
 pub end-good : (f g : Framing) (r : Ended) → in_form f ≡ true → f ≡ g → r ≡ end_in g → r ≡ end_of f
 unfolding end_of
-end-good f g r h e q = q ∙ ap end_in (sym e) ∙ sym (cond_no (not (in_form f)) (ended f (ends.Refused no.OutOfForm)) (end_in f) (ap not h))
+end-good f g r h e q = q ∙ ap end_in (sym e) ∙ sym (cond_no (not (in_form f)) (ended f (Err no.OutOfForm)) (end_in f) (ap not h))
 
 -- ---- a call
 pub gives-by : (o o' : Out) (r : Received) (m : List ℕ) → o ≡ o' → Gives o' r m → Gives o r m

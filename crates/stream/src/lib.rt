@@ -23,30 +23,17 @@ pub enum Framing {
 }
 
 #[derive(Drop)]
-pub enum Answer {
-    // A message of so many bytes is whole. They stand at the receive buffer's start.
-    Message(usize),
-    Refused(Refusal),
-    More,
-}
-
-#[derive(Drop)]
 pub struct Received {
     pub framing: Framing,
     pub taken: usize,
-    pub answer: Answer,
-}
-
-#[derive(Drop)]
-pub enum Ending {
-    Clean,
-    Refused(Refusal),
+    // a message of so many bytes is whole, and they stand at the receive buffer's start; or more bytes are wanted
+    pub answer: Result<Option<usize>, Refusal>,
 }
 
 #[derive(Drop)]
 pub struct Ended {
     pub framing: Framing,
-    pub answer: Ending,
+    pub answer: Result<(), Refusal>,
 }
 
 // What the bytes of a prefix lead to.
@@ -54,13 +41,12 @@ pub struct Ended {
 pub enum Lead {
     On(Held),
     Length(usize),
-    Bad(Refusal),
 }
 
 #[derive(Drop)]
 pub struct Prefixed {
     pub taken: usize,
-    pub lead: Lead,
+    pub lead: Result<Lead, Refusal>,
 }
 
 // The framing of a connection that opens.
@@ -126,28 +112,28 @@ fn wide(b: u8) -> usize
 }
 
 // A length that is whole.
-fn limit(n: usize) -> Lead
+fn limit(n: usize) -> Result<Lead, Refusal>
     ensures { result ≡ limited n }
 {
     if limits::MOST_BODY < n {
-        return Lead::Bad(Refusal::TooLong);
+        return Err(Refusal::TooLong);
     }
-    Lead::Length(n)
+    Ok(Lead::Length(n))
 }
 
 // A length n that is whole with its closing byte z, which isn't the first of the prefix.
-fn close(z: u8, n: usize) -> Lead
+fn close(z: u8, n: usize) -> Result<Lead, Refusal>
     ensures { result ≡ minimal z n }
 {
     if z == 0 {
-        return Lead::Bad(Refusal::PrefixNotMinimal);
+        return Err(Refusal::PrefixNotMinimal);
     }
     limit(n)
 }
 
 // The next byte of a prefix. The top bit says that another follows; the others are seven bits of the length, the lowest first,
 // so that the second byte counts 128-fold and the third 16,384-fold.
-fn prefix_step(held: Held, z: u8) -> Lead
+fn prefix_step(held: Held, z: u8) -> Result<Lead, Refusal>
     ensures { result ≡ prefix_step held z }
 {
     match held {
@@ -156,43 +142,43 @@ fn prefix_step(held: Held, z: u8) -> Lead
                 return limit(wide(z));
             }
             let more = Held::One(z);
-            Lead::On(more)
+            Ok(Lead::On(more))
         }
         Held::One(a) => {
             if z < 128 {
                 return close(z, wide(a) % 128 + wide(z) * 128);
             }
             let more = Held::Two(a, z);
-            Lead::On(more)
+            Ok(Lead::On(more))
         }
         Held::Two(a, b) => {
             if z < 128 {
                 return close(z, wide(a) % 128 + wide(b) % 128 * 128 + wide(z) * 16384);
             }
-            Lead::Bad(Refusal::TooLong)
+            Err(Refusal::TooLong)
         }
     }
 }
 
 // Whether the prefix goes on.
-fn goes_on(lead: Lead) -> bool
+fn goes_on(lead: Result<Lead, Refusal>) -> bool
     ensures { result ≡ goes_on lead }
 {
     match lead {
-        Lead::On(_) => true,
-        Lead::Length(_) => false,
-        Lead::Bad(_) => false,
+        Ok(Lead::On(_)) => true,
+        Ok(Lead::Length(_)) => false,
+        Err(_) => false,
     }
 }
 
 // The bytes of a prefix that goes on.
-fn held_of(lead: Lead) -> Held
+fn held_of(lead: Result<Lead, Refusal>) -> Held
     ensures { result ≡ held_of lead }
 {
     match lead {
-        Lead::On(held) => held,
-        Lead::Length(_) => Held::Nothing,
-        Lead::Bad(_) => Held::Nothing,
+        Ok(Lead::On(held)) => held,
+        Ok(Lead::Length(_)) => Held::Nothing,
+        Err(_) => Held::Nothing,
     }
 }
 
@@ -201,21 +187,19 @@ fn read_prefix(held: Held, piece: &[u8]) -> Prefixed
     ensures { result ≡ prefix_of held piece.now }
 {
     let mut h = held;
-    let mut i: usize = 0;
-    while i < piece.len() {
-        let lead = prefix_step(h, piece[i]);
-        i += 1;
+    for (i, b) in piece.iter().enumerate() {
+        let lead = prefix_step(h, *b);
         if !goes_on(lead) {
             return Prefixed {
-                taken: i,
+                taken: i + 1,
                 lead: lead,
             };
         }
         h = held_of(lead);
     }
-    let lead = Lead::On(h);
+    let lead = Ok(Lead::On(h));
     Prefixed {
-        taken: i,
+        taken: piece.len(),
         lead: lead,
     }
 }
@@ -224,7 +208,7 @@ fn read_prefix(held: Held, piece: &[u8]) -> Prefixed
 fn stay(framing: Framing, r: Refusal) -> Received
     ensures { result ≡ stayed framing r }
 {
-    let a = Answer::Refused(r);
+    let a = Err(r);
     Received {
         framing: framing,
         taken: 0,
@@ -245,7 +229,7 @@ fn read_body(want: usize, have: usize, buffer: &mut [u8], piece: &[u8], from: us
             want: want,
             have: have + there,
         };
-        let a = Answer::More;
+        let a = Ok(None);
         return Received {
             framing: f,
             taken: piece.len(),
@@ -255,7 +239,7 @@ fn read_body(want: usize, have: usize, buffer: &mut [u8], piece: &[u8], from: us
     let end = from + left;
     octets::copy(buffer, have, &piece[from..end]);
     let f = open();
-    let a = Answer::Message(want);
+    let a = Ok(Some(want));
     Received {
         framing: f,
         taken: end,
@@ -270,7 +254,7 @@ fn start_body(n: usize, buffer: &mut [u8], piece: &[u8], from: usize) -> Receive
 {
     if n == 0 {
         let f = open();
-        let a = Answer::Message(0);
+        let a = Ok(Some(0));
         return Received {
             framing: f,
             taken: from,
@@ -288,19 +272,19 @@ fn read_message(held: Held, buffer: &mut [u8], piece: &[u8]) -> Received
     let from = p.taken;
     let lead = p.lead;
     match lead {
-        Lead::On(h) => {
+        Ok(Lead::On(h)) => {
             let f = Framing::Prefix(h);
-            let more = Answer::More;
+            let more = Ok(None);
             Received {
                 framing: f,
                 taken: from,
                 answer: more,
             }
         }
-        Lead::Length(n) => start_body(n, buffer, piece, from),
-        Lead::Bad(r) => {
+        Ok(Lead::Length(n)) => start_body(n, buffer, piece, from),
+        Err(r) => {
             let f = Framing::Shut;
-            let a = Answer::Refused(r);
+            let a = Err(r);
             Received {
                 framing: f,
                 taken: from,
@@ -328,7 +312,7 @@ pub fn receive(framing: Framing, buffer: &mut [u8], piece: &[u8]) -> Received
 }
 
 // A connection that is over.
-fn over(end: Ending) -> Ended
+fn over(end: Result<(), Refusal>) -> Ended
     ensures { result ≡ ended Framing.Shut end }
 {
     let f = Framing::Shut;
@@ -343,9 +327,9 @@ fn end_prefix(held: Held) -> Ended
     ensures { result ≡ end_in (Framing.Prefix held) }
 {
     match held {
-        Held::Nothing => over(Ending::Clean),
-        Held::One(_) => over(Ending::Refused(Refusal::EndedInside)),
-        Held::Two(_, _) => over(Ending::Refused(Refusal::EndedInside)),
+        Held::Nothing => over(Ok(())),
+        Held::One(_) => over(Err(Refusal::EndedInside)),
+        Held::Two(_, _) => over(Err(Refusal::EndedInside)),
     }
 }
 
@@ -354,15 +338,15 @@ pub fn end(framing: Framing) -> Ended
     ensures { result ≡ end_of framing }
 {
     if !in_form(framing) {
-        let e = Ending::Refused(Refusal::OutOfForm);
+        let e = Err(Refusal::OutOfForm);
         return Ended {
             framing: framing,
             answer: e,
         };
     }
     match framing {
-        Framing::Shut => over(Ending::Refused(Refusal::Shut)),
+        Framing::Shut => over(Err(Refusal::Shut)),
         Framing::Prefix(held) => end_prefix(held),
-        Framing::Body { want: _, have: _ } => over(Ending::Refused(Refusal::EndedInside)),
+        Framing::Body { want: _, have: _ } => over(Err(Refusal::EndedInside)),
     }
 }

@@ -15,8 +15,6 @@ use Rattle.octets.proofs.Bools.{cond_ind}
 use Rattle.limits.specs.Limits.{most_body}
 use Rattle.refusal.specs.declared.Refusal.TheVariants as no
 use Rattle.stream.specs.declared.Framing.{Framing}
-use Rattle.stream.specs.declared.Answer.{Answer}
-use Rattle.stream.specs.declared.Answer.TheVariants.{Message, Refused, More}
 use Rattle.stream.specs.declared.Received.{Received}
 use Rattle.stream.specs.Stream.{fresh, is_shut, in_form, Out, out, run_of, stays, Gives, receive_of}
 use Rattle.cutting.specs.World.{Did, Mark, Line, Shared, is_more, feed, Sound}
@@ -27,6 +25,8 @@ use Rattle.cutting.proofs.Kept.{run-form, run_length, run-within, run-some, run-
 use Rattle.cutting.proofs.World.{lands, play, play-nil, play-append, play-shut, play-run, handed-play}
 use Rattle.cutting.proofs.Claims.{own-receive}
 use Rattle.stream_c.specs.Count.{tally, host_of, Counts, messages_in}
+use Rattle.std.specs.Prelude.{Ok, Err, Some, None, Result, Option}
+use Rattle.refusal.specs.declared.Refusal.{Refusal}
 
 abbrev Host : Type 0
 Host = Did (Line (Unit {0})) (Shared ℕ ⊥)
@@ -69,18 +69,18 @@ going m bs f e =
 
 -- the messages so far are counted
 module _ (f : Framing) (m : List ℕ) (at k : ℕ) (ms : List (Mark ⊥)) (g : Framing) (n : ℕ) (m' : List ℕ) where
-  abbrev next-order : Answer → List (Mark ⊥)
+  abbrev next-order : Result (Option ℕ) Refusal → List (Mark ⊥)
   next-order a = (lands (alone tally) 0 (standing f m at k ms) (out g n a m')).shared.order
 
-  stands : (a : Answer) → lands (alone tally) 0 (standing f m at k ms) (out g n a m') ≡ standing g m' (at + n) (k + messages_in a) (next-order a)
-  stands (Message v) = refl
-  stands (Refused r) = λ i. standing g m' (at + n) (sym (add-zero k) i) (next-order (Refused r))
-  stands More = λ i. standing g m' (at + n) (sym (add-zero k) i) (next-order More)
+  stands : (a : Result (Option ℕ) Refusal) → lands (alone tally) 0 (standing f m at k ms) (out g n a m') ≡ standing g m' (at + n) (k + messages_in a) (next-order a)
+  stands (Ok (Some v)) = refl
+  stands (Err r) = λ i. standing g m' (at + n) (sym (add-zero k) i) (next-order (Err r))
+  stands (Ok None) = λ i. standing g m' (at + n) (sym (add-zero k) i) (next-order (Ok None))
 
-pub at_most_one : (a : Answer) → messages_in a ≤ 1
-at_most_one (Message n) = omega arith
-at_most_one (Refused r) = omega arith
-at_most_one More = omega arith
+pub at_most_one : (a : Result (Option ℕ) Refusal) → messages_in a ≤ 1
+at_most_one (Ok (Some n)) = omega arith
+at_most_one (Err r) = omega arith
+at_most_one (Ok None) = omega arith
 
 module _ (m₀ bs m : List ℕ) (f : Framing) (at k e : ℕ) (r : Received) (m' : List ℕ) (v : Going m₀ bs m f at k) (l : at < e) (w : e ≤ length bs)
     (g : Gives (receive_of f m (part bs at e)) r m') where

@@ -3,7 +3,7 @@
 ghost use Rattle.std.specs.Prelude.{◌≡◌, ◌<◌, ◌≤◌};
 ghost use Rattle.stream_c.specs.Count.{Counts, messages_in};
 
-use stream::Answer;
+use refusal::Refusal;
 
 // Where a piece ends that starts at a place and has `cut` bytes, or what is left.
 fn piece_end(at: usize, cut: usize, len: usize) -> usize
@@ -19,13 +19,13 @@ fn piece_end(at: usize, cut: usize, len: usize) -> usize
     at + cut
 }
 
-fn messages(a: Answer) -> usize
+fn messages(a: Result<Option<usize>, Refusal>) -> usize
     ensures { result ≡ messages_in a }
 {
     match a {
-        Answer::Message(_) => 1,
-        Answer::Refused(_) => 0,
-        Answer::More => 0,
+        Ok(Some(_)) => 1,
+        Err(_) => 0,
+        Ok(None) => 0,
     }
 }
 

@@ -1,8 +1,9 @@
 #![tactic(auto)]
 // Runs the prefixes of RULES, Examples, and others, in one piece and cut, and writes what each call answers.
+use refusal::Refusal;
 use std::io;
 use std::io::{Print, Stdout};
-use stream::{Answer, Ending, Framing, Held};
+use stream::{Framing, Held};
 
 fn say(out: Stdout, text: &[u8]) -> io::Result<()> {
     out.write_all(text)
@@ -17,14 +18,14 @@ fn refused(out: Stdout, r: refusal::Refusal) -> io::Result<()> {
     count(out, refusal::number(r) as usize)
 }
 
-fn tell_answer(out: Stdout, a: Answer) -> io::Result<()> {
+fn tell_answer(out: Stdout, a: Result<Option<usize>, Refusal>) -> io::Result<()> {
     match a {
-        Answer::Message(n) => {
+        Ok(Some(n)) => {
             say(out, b"message of ")?;
             count(out, n)
         }
-        Answer::Refused(r) => refused(out, r),
-        Answer::More => say(out, b"more"),
+        Err(r) => refused(out, r),
+        Ok(None) => say(out, b"more"),
     }
 }
 
@@ -63,8 +64,8 @@ fn end(out: Stdout, framing: Framing) -> io::Result<()> {
     let e = stream::end(framing);
     let a = e.answer;
     match a {
-        Ending::Clean => say(out, b"  end: clean")?,
-        Ending::Refused(r) => {
+        Ok(()) => say(out, b"  end: clean")?,
+        Err(r) => {
             say(out, b"  end: ")?;
             refused(out, r)?;
         }

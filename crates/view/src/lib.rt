@@ -5,7 +5,7 @@ ghost use Rattle.std.specs.Prelude.{◌≡◌};
 ghost use Rattle.parts.specs.Parts.{positions_of, kind_of, key_of, record_key_of, record_value_of, closer_of, provider_of, peer_id_of, peer_connection_of, peer_address_of, key_bytes, record_key_bytes, record_value_bytes};
 
 use message::Fields;
-use parts::{Entry, Number, Part};
+use refusal::Refusal;
 use wire::Span;
 
 // The body, and where the parts of the message are in it.
@@ -26,59 +26,59 @@ pub fn view_of<'a>(body: &'a [u8]) -> View<'a>
 }
 
 // The message's type.
-pub fn kind<'a>(v: View<'a>) -> Number
+pub fn kind<'a>(v: View<'a>) -> Result<u64, Refusal>
     ensures { result ≡ kind_of v.entry.body.now v.entry.at }
 {
     parts::kind(v.body, v.at)
 }
 
 // Where its key is.
-pub fn key<'a>(v: View<'a>) -> Part
+pub fn key<'a>(v: View<'a>) -> Result<Span, Refusal>
     ensures { result ≡ key_of v.entry.body.now v.entry.at }
 {
     parts::key(v.body, v.at)
 }
 
 // Where its record's key is, and its value.
-pub fn record_key<'a>(v: View<'a>) -> Entry
+pub fn record_key<'a>(v: View<'a>) -> Result<Option<Span>, Refusal>
     ensures { result ≡ record_key_of v.entry.body.now v.entry.at }
 {
     parts::record_key(v.body, v.at)
 }
 
-pub fn record_value<'a>(v: View<'a>) -> Entry
+pub fn record_value<'a>(v: View<'a>) -> Result<Option<Span>, Refusal>
     ensures { result ≡ record_value_of v.entry.body.now v.entry.at }
 {
     parts::record_value(v.body, v.at)
 }
 
 // The first entry of closerPeers from a position on, and of providerPeers.
-pub fn closer_peer<'a>(v: View<'a>, from: usize) -> Entry
+pub fn closer_peer<'a>(v: View<'a>, from: usize) -> Result<Option<Span>, Refusal>
     ensures { result ≡ closer_of v.entry.body.now v.entry.at from }
 {
     parts::closer_peer(v.body, v.at, from)
 }
 
-pub fn provider_peer<'a>(v: View<'a>, from: usize) -> Entry
+pub fn provider_peer<'a>(v: View<'a>, from: usize) -> Result<Option<Span>, Refusal>
     ensures { result ≡ provider_of v.entry.body.now v.entry.at from }
 {
     parts::provider_peer(v.body, v.at, from)
 }
 
 // Of the peer at a span: where its id is, its connection, and its first address from a position on.
-pub fn peer_id<'a>(v: View<'a>, peer: Span) -> Part
+pub fn peer_id<'a>(v: View<'a>, peer: Span) -> Result<Span, Refusal>
     ensures { result ≡ peer_id_of v.entry.body.now v.entry.at peer }
 {
     parts::peer_id(v.body, v.at, peer)
 }
 
-pub fn peer_connection<'a>(v: View<'a>, peer: Span) -> Number
+pub fn peer_connection<'a>(v: View<'a>, peer: Span) -> Result<u64, Refusal>
     ensures { result ≡ peer_connection_of v.entry.body.now v.entry.at peer }
 {
     parts::peer_connection(v.body, v.at, peer)
 }
 
-pub fn peer_address<'a>(v: View<'a>, peer: Span, from: usize) -> Entry
+pub fn peer_address<'a>(v: View<'a>, peer: Span, from: usize) -> Result<Option<Span>, Refusal>
     ensures { result ≡ peer_address_of v.entry.body.now v.entry.at peer from }
 {
     parts::peer_address(v.body, v.at, peer, from)
@@ -106,7 +106,7 @@ pub fn record_value_bytes<'a>(v: View<'a>) -> &'a [u8]
 // ---- on a plain body, for callers that hold no view
 
 // The type of the message that a body is.
-pub fn kind_of<'a>(body: &'a [u8]) -> Number
+pub fn kind_of<'a>(body: &'a [u8]) -> Result<u64, Refusal>
     ensures { result ≡ kind_of body.now (positions_of body.now) }
 {
     kind(view_of(body))

@@ -2,10 +2,10 @@
 // Reads messages that were worked out by RULES, Messages, through their views, and writes a line for each: type, key and record's value. Then a view with other
 // positions, and records in several fields.
 use message::Fields;
-use parts::{Entry, Number, Part};
 use refusal::Refusal;
 use std::io;
 use std::io::{Print, Stdout};
+use wire::Span;
 
 fn say(out: Stdout, text: &[u8]) -> io::Result<()> {
     out.write_all(text)
@@ -20,13 +20,13 @@ fn refused(out: Stdout, r: Refusal) -> io::Result<()> {
     count(out, refusal::number(r) as u64)
 }
 
-fn tell_kind(out: Stdout, k: Number) -> io::Result<()> {
+fn tell_kind(out: Stdout, k: Result<u64, Refusal>) -> io::Result<()> {
     match k {
-        Number::Is(n) => {
+        Ok(n) => {
             say(out, b"type ")?;
             count(out, n)
         }
-        Number::Refused(r) => refused(out, r),
+        Err(r) => refused(out, r),
     }
 }
 
@@ -41,28 +41,28 @@ fn tell(out: Stdout, name: &[u8], body: &[u8]) -> io::Result<()> {
     say(out, b"]\n")
 }
 
-fn tell_part(out: Stdout, p: Part) -> io::Result<()> {
+fn tell_part(out: Stdout, p: Result<Span, Refusal>) -> io::Result<()> {
     match p {
-        Part::At(s) => {
+        Ok(s) => {
             say(out, b"at ")?;
             count(out, s.at as u64)?;
             say(out, b" to ")?;
             count(out, s.end as u64)
         }
-        Part::Refused(r) => refused(out, r),
+        Err(r) => refused(out, r),
     }
 }
 
-fn tell_entry(out: Stdout, e: Entry) -> io::Result<()> {
+fn tell_entry(out: Stdout, e: Result<Option<Span>, Refusal>) -> io::Result<()> {
     match e {
-        Entry::At(s) => {
+        Ok(Some(s)) => {
             say(out, b"at ")?;
             count(out, s.at as u64)?;
             say(out, b" to ")?;
             count(out, s.end as u64)
         }
-        Entry::Nothing => say(out, b"nothing"),
-        Entry::Refused(r) => refused(out, r),
+        Ok(None) => say(out, b"nothing"),
+        Err(r) => refused(out, r),
     }
 }
 

@@ -15,28 +15,23 @@ use Rattle.octets.proofs.Searching.{every-tail}
 use Rattle.wire.specs.Wire.{before, varint, placed, varint_at, on_varint, end_at, on_ending, number_at, fixed_at, bytes_at, content_at, tagged_at, field_at, next_of, fields_at, fields, fields_in, fine, well, span_if, cons_found, spans}
 use Rattle.wire.specs.Items.{cut, items, is_field, parts}
 use Rattle.wire.specs.declared.Span.{Span}
-use Rattle.wire.specs.declared.Varint.{Varint}
-use Rattle.wire.specs.declared.Varint.TheVariants.{Value, Bad}
-use Rattle.wire.specs.declared.Ending.{Ending}
-use Rattle.wire.specs.declared.Ending.TheVariants.{Ends, Past}
 use Rattle.wire.specs.declared.Field.{Field}
 use Rattle.wire.specs.declared.Field.TheVariants.{End, Bad as Malformed, Number, Bytes, Other}
 use Rattle.wire.specs.declared.Next.{Next}
 use Rattle.wire.specs.declared.Next.TheVariants.{Done, Broken, On}
-use Rattle.wire.specs.declared.Found.{Found}
-use Rattle.wire.specs.declared.Found.TheVariants.{At, Nothing}
 use Rattle.wire.proofs.Reach.{varint-reach, field_next}
 use Rattle.wire.proofs.Scan.{at_done, at-broken, at_on}
 use Rattle.wire.proofs.Within.{items-well, items-parts, in_parts}
+use Rattle.std.specs.Prelude.{Some, None, Option}
 
 -- ---- what was read stays as it is when more bytes follow
-abbrev SameVar : Varint → Varint → Type 0
-SameVar (Value v n) r = Value v n ≡ r
-SameVar Bad r = Unit {0}
+abbrev SameVar : Option (ℕ × ℕ) → Option (ℕ × ℕ) → Type 0
+SameVar (Some (v, n)) r = (Some (v, n)) ≡ r
+SameVar None r = Unit {0}
 
-abbrev SameEnd : Ending → Ending → Type 0
-SameEnd (Ends e) r = Ends e ≡ r
-SameEnd Past r = Unit {0}
+abbrev SameEnd : Option ℕ → Option ℕ → Type 0
+SameEnd (Some e) r = Some e ≡ r
+SameEnd None r = Unit {0}
 
 -- and a field that has been begun isn't the end
 abbrev Same : Field → Field → Type 0
@@ -46,10 +41,10 @@ Same (Number f v n) g = Number f v n ≡ g
 Same (Bytes f p) g = Bytes f p ≡ g
 Same (Other n) g = Other n ≡ g
 
-before_same : (b : ℕ) (r q : Varint) → SameVar r q → SameVar (before b r) (before b q)
+before_same : (b : ℕ) (r q : Option (ℕ × ℕ)) → SameVar r q → SameVar (before b r) (before b q)
 unfolding before
-before_same b (Value v n) q e = ap (before b) e
-before_same b Bad q e = tt
+before_same b (Some (v, n)) q e = ap (before b) e
+before_same b None q e = tt
 
 varint-same : (k : ℕ) (s t : List ℕ) → SameVar (varint k s) (varint k (s ++ t))
 unfolding varint
@@ -57,26 +52,26 @@ varint-same zero s t = tt
 varint-same (suc k) [] t = tt
 varint-same (suc k) (b ∷ s) t = go (ltb b 128) (varint-same k s t)
   where
-    go : (c : Bool) → SameVar (varint k s) (varint k (s ++ t)) → SameVar (cond c (Value b 1) (before b (varint k s))) (cond c (Value b 1) (before b (varint k (s ++ t))))
+    go : (c : Bool) → SameVar (varint k s) (varint k (s ++ t)) → SameVar (cond c (Some (b, 1)) (before b (varint k s))) (cond c (Some (b, 1)) (before b (varint k (s ++ t))))
     go true ih = refl
     go false ih = before_same b (varint k s) (varint k (s ++ t)) ih
 
-placed_same : (at : ℕ) (r q : Varint) → SameVar r q → SameVar (placed at r) (placed at q)
+placed_same : (at : ℕ) (r q : Option (ℕ × ℕ)) → SameVar r q → SameVar (placed at r) (placed at q)
 unfolding placed
-placed_same at (Value v n) q e = subst (λ (x : Varint). SameVar (placed at (Value v n)) (placed at x)) e (go (ltb v (2 ^ 64)))
+placed_same at (Some (v, n)) q e = subst (λ (x : Option (ℕ × ℕ)). SameVar (placed at (Some (v, n))) (placed at x)) e (go (ltb v (2 ^ 64)))
   where
-    go : (c : Bool) → SameVar (cond c (Value v (at + n)) Bad) (cond c (Value v (at + n)) Bad)
+    go : (c : Bool) → SameVar (cond c (Some (v, (at + n))) None) (cond c (Some (v, (at + n))) None)
     go true = refl
     go false = tt
-placed_same at Bad q e = tt
+placed_same at None q e = tt
 
-on-var : (r q : Varint) (f g : ℕ → ℕ → Field) → SameVar r q → ((v n : ℕ) → r ≡ Value v n → Same (f v n) (g v n)) → Same (on_varint r f Malformed) (on_varint q g Malformed)
-on-var (Value v n) q f g e h = subst (λ (x : Varint). Same (f v n) (on_varint x g Malformed)) e (h v n refl)
-on-var Bad q f g e h = tt
+on-var : (r q : Option (ℕ × ℕ)) (f g : ℕ → ℕ → Field) → SameVar r q → ((v n : ℕ) → r ≡ Some (v, n) → Same (f v n) (g v n)) → Same (on_varint r f Malformed) (on_varint q g Malformed)
+on-var (Some (v, n)) q f g e h = subst (λ (x : Option (ℕ × ℕ)). Same (f v n) (on_varint x g Malformed)) e (h v n refl)
+on-var None q f g e h = tt
 
-on-end : (r q : Ending) (f : ℕ → Field) → SameEnd r q → ((e : ℕ) → Same (f e) (f e)) → Same (on_ending r f Malformed) (on_ending q f Malformed)
-on-end (Ends e) q f h k = subst (λ (x : Ending). Same (f e) (on_ending x f Malformed)) h (k e)
-on-end Past q f h k = tt
+on-end : (r q : Option ℕ) (f : ℕ → Field) → SameEnd r q → ((e : ℕ) → Same (f e) (f e)) → Same (on_ending r f Malformed) (on_ending q f Malformed)
+on-end (Some e) q f h k = subst (λ (x : Option ℕ). Same (f e) (on_ending x f Malformed)) h (k e)
+on-end None q f h k = tt
 
 module _ (a b : List ℕ) where
   long : length a ≤ length (a ++ b)
@@ -90,7 +85,7 @@ module _ (a b : List ℕ) where
   unfolding end_at
   end_same at size = go (leb (at + size) (length a)) refl
     where
-      go : (c : Bool) → leb (at + size) (length a) ≡ c → SameEnd (cond c (Ends (at + size)) Past) (cond (leb (at + size) (length (a ++ b))) (Ends (at + size)) Past)
+      go : (c : Bool) → leb (at + size) (length a) ≡ c → SameEnd (cond c (Some (at + size)) None) (cond (leb (at + size) (length (a ++ b))) (Some (at + size)) None)
       go true e = rw (le-leb (at + size) (length (a ++ b)) (omega (arith, leb-true (at + size) (length a) e, long)))
       go false e = tt
 
@@ -199,9 +194,9 @@ unfolding spans
 spans-append f [] y = refl
 spans-append f (g ∷ x) y = go (span_if f g) (spans-append f x y)
   where
-    go : (r : Found) → spans f (x ++ y) ≡ spans f x ++ spans f y → cons_found r (spans f (x ++ y)) ≡ cons_found r (spans f x) ++ spans f y
-    go (At p) ih = rw ih
-    go Nothing ih = ih
+    go : (r : Option Span) → spans f (x ++ y) ≡ spans f x ++ spans f y → cons_found r (spans f (x ++ y)) ≡ cons_found r (spans f x) ++ spans f y
+    go (Some p) ih = rw ih
+    go None ih = ih
 
 module _ (a b : List ℕ) where
   abbrev first : Span

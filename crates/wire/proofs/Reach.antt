@@ -9,67 +9,62 @@ use borrow.Author.Tests.{leb-true}
 use Rattle.octets.proofs.Bools.{cond_ind}
 use Rattle.wire.specs.Wire.{before, varint, placed, varint_at, on_varint, end_at, on_ending, number_at, fixed_at, bytes_at, content_at, tagged_at, field_at, next_of, more, fields_from, fields_at, span_if, cons_found, spans}
 use Rattle.wire.specs.declared.Span.{Span}
-use Rattle.wire.specs.declared.Varint.{Varint}
-use Rattle.wire.specs.declared.Varint.TheVariants.{Value, Bad}
-use Rattle.wire.specs.declared.Ending.{Ending}
-use Rattle.wire.specs.declared.Ending.TheVariants.{Ends, Past}
 use Rattle.wire.specs.declared.Field.{Field}
 use Rattle.wire.specs.declared.Field.TheVariants.{End, Bad as Malformed, Number, Bytes, Other}
 use Rattle.wire.specs.declared.Next.{Next}
 use Rattle.wire.specs.declared.Next.TheVariants.{Done, Broken, On}
-use Rattle.wire.specs.declared.Found.{Found}
-use Rattle.wire.specs.declared.Found.TheVariants.{At, Nothing}
+use Rattle.std.specs.Prelude.{Some, None, Option}
 
-varint-ind : {A : Type 0} (P : A → Type 0) (r : Varint) (f : ℕ → ℕ → A) (z : A) → ((v n : ℕ) → r ≡ Value v n → P (f v n)) → P z → P (on_varint r f z)
-varint-ind P (Value v n) f z g h = g v n refl
-varint-ind P Bad f z g h = h
+varint-ind : {A : Type 0} (P : A → Type 0) (r : Option (ℕ × ℕ)) (f : ℕ → ℕ → A) (z : A) → ((v n : ℕ) → r ≡ Some (v, n) → P (f v n)) → P z → P (on_varint r f z)
+varint-ind P (Some (v, n)) f z g h = g v n refl
+varint-ind P None f z g h = h
 
-ending-ind : {A : Type 0} (P : A → Type 0) (r : Ending) (f : ℕ → A) (z : A) → ((e : ℕ) → r ≡ Ends e → P (f e)) → P z → P (on_ending r f z)
-ending-ind P (Ends e) f z g h = g e refl
-ending-ind P Past f z g h = h
+ending-ind : {A : Type 0} (P : A → Type 0) (r : Option ℕ) (f : ℕ → A) (z : A) → ((e : ℕ) → r ≡ Some e → P (f e)) → P z → P (on_ending r f z)
+ending-ind P (Some e) f z g h = g e refl
+ending-ind P None f z g h = h
 
 -- ---- varints: past lo, and at most hi
-abbrev Var : ℕ → ℕ → Varint → Type 0
-Var lo hi (Value v n) = (lo < n) × (n ≤ hi)
-Var lo hi Bad = Unit {0}
+abbrev Var : ℕ → ℕ → Option (ℕ × ℕ) → Type 0
+Var lo hi (Some (v, n)) = (lo < n) × (n ≤ hi)
+Var lo hi None = Unit {0}
 
-before-reach : (b m : ℕ) (r : Varint) → Var 0 m r → Var 0 (suc m) (before b r)
+before-reach : (b m : ℕ) (r : Option (ℕ × ℕ)) → Var 0 m r → Var 0 (suc m) (before b r)
 unfolding before
-before-reach b m (Value v n) h = (omega arith, omega arith)
-before-reach b m Bad h = tt
+before-reach b m (Some (v, n)) h = (omega arith, omega arith)
+before-reach b m None h = tt
 
 varint-size : (k : ℕ) (s : List ℕ) → Var 0 (length s) (varint k s)
 unfolding varint
 varint-size zero s = tt
 varint-size (suc k) [] = tt
 varint-size (suc k) (b ∷ s) =
-    cond_ind (Var 0 (suc (length s))) (ltb b 128) (Value b 1) (before b (varint k s))
+    cond_ind (Var 0 (suc (length s))) (ltb b 128) (Some (b, 1)) (before b (varint k s))
     (λ e. (omega arith, omega arith))
     (λ e. before-reach b (length s) (varint k s) (varint-size k s))
 
-placed-reach : (at m hi : ℕ) (r : Varint) → m ≤ hi - at → Var 0 m r → Var at hi (placed at r)
+placed-reach : (at m hi : ℕ) (r : Option (ℕ × ℕ)) → m ≤ hi - at → Var 0 m r → Var at hi (placed at r)
 unfolding placed
-placed-reach at m hi (Value v n) l h =
-    cond_ind (Var at hi) (ltb v (2 ^ 64)) (Value v (at + n)) Bad (λ e. (omega arith, omega arith)) (λ e. tt)
-placed-reach at m hi Bad l h = tt
+placed-reach at m hi (Some (v, n)) l h =
+    cond_ind (Var at hi) (ltb v (2 ^ 64)) (Some (v, (at + n))) None (λ e. (omega arith, omega arith)) (λ e. tt)
+placed-reach at m hi None l h = tt
 
 varint-within : (s : List ℕ) (at : ℕ) → Var at (length s) (varint_at s at)
 unfolding varint_at
 varint-within s at = placed-reach at (length (drop at s)) (length s) (varint 10 (drop at s)) (omega (arith, length-drop at s)) (varint-size 10 (drop at s))
 
-pub varint-reach : (s : List ℕ) (at v n : ℕ) → varint_at s at ≡ Value v n → (at < n) × (n ≤ length s)
+pub varint-reach : (s : List ℕ) (at v n : ℕ) → varint_at s at ≡ Some (v, n) → (at < n) × (n ≤ length s)
 varint-reach s at v n e = subst (Var at (length s)) e (varint-within s at)
 
 -- ---- parts
-abbrev Ended : ℕ → ℕ → ℕ → Ending → Type 0
-Ended at size hi (Ends e) = (e ≡ at + size) × (e ≤ hi)
-Ended at size hi Past = Unit {0}
+abbrev Ended : ℕ → ℕ → ℕ → Option ℕ → Type 0
+Ended at size hi (Some e) = (e ≡ at + size) × (e ≤ hi)
+Ended at size hi None = Unit {0}
 
-end-reach : (s : List ℕ) (at size e : ℕ) → end_at s at size ≡ Ends e → (e ≡ at + size) × (e ≤ length s)
+end-reach : (s : List ℕ) (at size e : ℕ) → end_at s at size ≡ Some e → (e ≡ at + size) × (e ≤ length s)
 unfolding end_at
 end-reach s at size e q =
     subst (Ended at size (length s)) q
-    (cond_ind (Ended at size (length s)) (leb (at + size) (length s)) (Ends (at + size)) Past (λ t. (refl, leb-true _ _ t)) (λ t. tt))
+    (cond_ind (Ended at size (length s)) (leb (at + size) (length s)) (Some (at + size)) None (λ t. (refl, leb-true _ _ t)) (λ t. tt))
 
 -- ---- fields: what one that starts at lo within hi bytes can be
 abbrev pub Within : ℕ → ℕ → Field → Type 0
@@ -162,7 +157,7 @@ earlier lo lo' hi (p ∷ l) h a = (record { starts = omega (arith, a.0.starts); 
 span-inside : (lo hi f : ℕ) (g : Field) (l : List Span) → Within lo hi g → AllInside lo hi l → AllInside lo hi (cons_found (span_if f g) l)
 unfolding span_if
 span-inside lo hi f (Bytes g p) l w a =
-    cond_ind (λ (x : Found). AllInside lo hi (cons_found x l)) (eqb g f) (At p) Nothing
+    cond_ind (λ (x : Option Span). AllInside lo hi (cons_found x l)) (eqb g f) (Some p) None
     (λ e. (record { starts = w.0; ordered = w.1; ends = w.2 }, a)) (λ e. a)
 span-inside lo hi f (Number g v n) l w a = a
 span-inside lo hi f (Other n) l w a = a

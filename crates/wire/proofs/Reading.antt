@@ -5,15 +5,14 @@ use mathlib.Core.List.{List}
 use lib.ListN.{length}
 use borrow.Author.Tests.{lt-ltb, le-ltb, le-leb, lt-leb, eq-eqb, ne_eqb}
 use Rattle.wire.specs.Wire.{varint_at, end_at, number_at, fixed_at, bytes_at, content_at, tagged_at, field_at}
-use Rattle.wire.specs.declared.Varint.TheVariants.{Value, Bad}
-use Rattle.wire.specs.declared.Ending.TheVariants.{Ends, Past}
 use Rattle.wire.specs.declared.Field.TheVariants.{End, Bad as Malformed}
+use Rattle.std.specs.Prelude.{Some, None}
 
-pub end-in : (s : List ℕ) (at size : ℕ) → at + size ≤ length s → Ends (at + size) ≡ end_at s at size
+pub end-in : (s : List ℕ) (at size : ℕ) → at + size ≤ length s → Some (at + size) ≡ end_at s at size
 unfolding end_at
 end-in s at size h = rw (le-leb (at + size) (length s) h)
 
-pub end-past : (s : List ℕ) (at size : ℕ) → length s < at + size → Past ≡ end_at s at size
+pub end-past : (s : List ℕ) (at size : ℕ) → length s < at + size → None ≡ end_at s at size
 unfolding end_at
 end-past s at size h = rw (lt-leb (at + size) (length s) h)
 
@@ -47,11 +46,11 @@ pub field_end : (s : List ℕ) (at : ℕ) → length s ≤ at → End ≡ field_
 unfolding field_at
 field_end s at h = rw (le-leb (length s) at h)
 
-pub field-bad : (s : List ℕ) (at : ℕ) → at < length s → varint_at s at ≡ Bad → Malformed ≡ field_at s at
+pub field-bad : (s : List ℕ) (at : ℕ) → at < length s → varint_at s at ≡ None → Malformed ≡ field_at s at
 unfolding field_at
 field-bad s at h e = rw (lt-leb (length s) at h, e)
 
-module _ (s : List ℕ) (at t n : ℕ) (h : at < length s) (e : varint_at s at ≡ Value t n) where
+module _ (s : List ℕ) (at t n : ℕ) (h : at < length s) (e : varint_at s at ≡ Some (t, n)) where
   field-tag : tagged_at s at t n ≡ field_at s at
   unfolding field_at
   field-tag = rw (lt-leb (length s) at h, e)

@@ -13,9 +13,8 @@ use Rattle.wire.specs.declared.Field.{Field}
 use Rattle.wire.specs.declared.Field.TheVariants.{End, Bad as Malformed, Number, Bytes, Other}
 use Rattle.wire.specs.declared.Next.{Next}
 use Rattle.wire.specs.declared.Next.TheVariants.{Done, Broken, On}
-use Rattle.wire.specs.declared.Found.{Found}
-use Rattle.wire.specs.declared.Found.TheVariants.{At, Nothing}
 use Rattle.wire.proofs.Reach.{field_next, Inside, AllInside, spans-inside}
+use Rattle.std.specs.Prelude.{Some, None, Option}
 
 pub fields-done : (k : ℕ) (s : List ℕ) (at : ℕ) → next_of (field_at s at) ≡ Done → fields_from (suc k) s at ≡ []
 unfolding fields_from more
@@ -76,7 +75,7 @@ module _ (s : List ℕ) (at : ℕ) where
 pub next-is : {f g : Field} {q n : Next} → f ≡ g → q ≡ next_of f → q ≡ n → next_of g ≡ n
 next-is a b e = cc
 
-pub found-is : {f g : Field} {q n : Found} (m : ℕ) → f ≡ g → q ≡ span_if m f → q ≡ n → span_if m g ≡ n
+pub found-is : {f g : Field} {q n : (Option Span)} (m : ℕ) → f ≡ g → q ≡ span_if m f → q ≡ n → span_if m g ≡ n
 found-is m a b e = cc
 
 -- ---- well formed
@@ -103,31 +102,31 @@ module _ (s : List ℕ) (from at : ℕ) (g : well (fields_at s at) ≡ well (fie
 
 -- ---- the first bytes field of a number
 module _ (s : List ℕ) (f from at : ℕ) (g : first_of (spans f (fields_at s at)) ≡ first_of (spans f (fields_at s from))) where
-  pub none_done : next_of (field_at s at) ≡ Done → Nothing ≡ first_of (spans f (fields_at s from))
+  pub none_done : next_of (field_at s at) ≡ Done → None ≡ first_of (spans f (fields_at s from))
   unfolding first_of spans
   none_done e = rw (← g, at_done s at e)
 
-  pub none-broken : next_of (field_at s at) ≡ Broken → Nothing ≡ first_of (spans f (fields_at s from))
+  pub none-broken : next_of (field_at s at) ≡ Broken → None ≡ first_of (spans f (fields_at s from))
   unfolding first_of spans span_if
   none-broken e = rw (← g, at-broken s at e)
 
-  pub found : (n : ℕ) → next_of (field_at s at) ≡ On n → (p : Span) → span_if f (field_at s at) ≡ At p → At p ≡ first_of (spans f (fields_at s from))
+  pub found : (n : ℕ) → next_of (field_at s at) ≡ On n → (p : Span) → span_if f (field_at s at) ≡ Some p → Some p ≡ first_of (spans f (fields_at s from))
   unfolding first_of spans
   found n e p q = rw (← g, at_on s at n e, q)
 
-  pub further : (n : ℕ) → next_of (field_at s at) ≡ On n → span_if f (field_at s at) ≡ Nothing → first_of (spans f (fields_at s n)) ≡ first_of (spans f (fields_at s from))
+  pub further : (n : ℕ) → next_of (field_at s at) ≡ On n → span_if f (field_at s at) ≡ None → first_of (spans f (fields_at s n)) ≡ first_of (spans f (fields_at s from))
   unfolding first_of spans
   further n e q = sym (rw (at_on s at n e, q)) ∙ g
 
 -- ---- the walk: from 0, and then from each end, these are all bytes fields of the number
-never : {A : Type 0} (p : Span) → Nothing ≡ At p → A
+never : {A : Type 0} (p : Span) → None ≡ Some p → A
 never p q = absurd (let z : ◌≡◌ {A = ℕ} 0 1 = cc in omega arith)
 
-span-next : (g : Field) (f : ℕ) (p : Span) → span_if f g ≡ At p → next_of g ≡ On p.end
+span-next : (g : Field) (f : ℕ) (p : Span) → span_if f g ≡ Some p → next_of g ≡ On p.end
 unfolding span_if next_of
 span-next (Bytes g q) f p e = go (eqb g f) e
   where
-    go : (t : Bool) → cond t (At q) Nothing ≡ At p → On q.end ≡ On p.end
+    go : (t : Bool) → cond t (Some q) None ≡ Some p → On q.end ≡ On p.end
     go true e = let h : q ≡ p = cc in rw h
     go false e = never p e
 span-next (Number g v n) f p e = never p e
@@ -136,7 +135,7 @@ span-next End f p e = never p e
 span-next Malformed f p e = never p e
 
 module _ (s : List ℕ) (f : ℕ) where
-  first-at : (k at : ℕ) → length s ≤ at + k → (p : Span) → first_of (spans f (fields_at s at)) ≡ At p → spans f (fields_at s at) ≡ p ∷ spans f (fields_at s p.end)
+  first-at : (k at : ℕ) → length s ≤ at + k → (p : Span) → first_of (spans f (fields_at s at)) ≡ Some p → spans f (fields_at s at) ≡ p ∷ spans f (fields_at s p.end)
   unfolding first_of spans span_if
   first-at zero at l p q = base (next_of (field_at s at)) refl
     where
@@ -146,46 +145,46 @@ module _ (s : List ℕ) (f : ℕ) where
       base (On n) e = let b = field_next s at n e in absurd (omega arith)
   first-at (suc k) at l p q = go (next_of (field_at s at)) refl (span_if f (field_at s at)) refl (first-at k)
     where
-      go : (m : Next) → next_of (field_at s at) ≡ m → (x : Found) → span_if f (field_at s at) ≡ x
-          → ((at : ℕ) → length s ≤ at + k → (p : Span) → first_of (spans f (fields_at s at)) ≡ At p → spans f (fields_at s at) ≡ p ∷ spans f (fields_at s p.end))
+      go : (m : Next) → next_of (field_at s at) ≡ m → (x : Option Span) → span_if f (field_at s at) ≡ x
+          → ((at : ℕ) → length s ≤ at + k → (p : Span) → first_of (spans f (fields_at s at)) ≡ Some p → spans f (fields_at s at) ≡ p ∷ spans f (fields_at s p.end))
           → spans f (fields_at s at) ≡ p ∷ spans f (fields_at s p.end)
       go Done e x y ih = never p (rw (at_done s at e) at q)
       go Broken e x y ih = never p (rw (at-broken s at e) at q)
-      go (On n) e (At u) y ih =
-          let r : At u ≡ At p = rw (at_on s at n e, y) at q in
+      go (On n) e (Some u) y ih =
+          let r : Some u ≡ Some p = rw (at_on s at n e, y) at q in
           let z : On n ≡ On u.end = sym e ∙ span-next (field_at s at) f u y in
           let nu : n ≡ u.end = cc in
           let up : u ≡ p = cc in
           rw (at_on s at n e, y, nu, up)
-      go (On n) e Nothing y ih =
+      go (On n) e None y ih =
           let b = field_next s at n e in
           rw (at_on s at n e, y) (ih n (omega arith) p (rw (at_on s at n e, y) at q))
 
-  pub walk_at : (at : ℕ) (p : Span) → first_of (spans f (fields_at s at)) ≡ At p → spans f (fields_at s at) ≡ p ∷ spans f (fields_at s p.end)
+  pub walk_at : (at : ℕ) (p : Span) → first_of (spans f (fields_at s at)) ≡ Some p → spans f (fields_at s at) ≡ p ∷ spans f (fields_at s p.end)
   walk_at at p q = first-at (length s) at (omega arith) p q
 
-  pub walk_none : (at : ℕ) → first_of (spans f (fields_at s at)) ≡ Nothing → spans f (fields_at s at) ≡ []
+  pub walk_none : (at : ℕ) → first_of (spans f (fields_at s at)) ≡ None → spans f (fields_at s at) ≡ []
   unfolding first_of
   walk_none at q = go (spans f (fields_at s at)) q
     where
-      go : (l : List Span) → first_of l ≡ Nothing → l ≡ []
+      go : (l : List Span) → first_of l ≡ None → l ≡ []
       go [] e = refl
       go (p ∷ l) e = never p (sym e)
 
-  pub walk_inside : (at : ℕ) (p : Span) → first_of (spans f (fields_at s at)) ≡ At p → Inside at (length s) p
+  pub walk_inside : (at : ℕ) (p : Span) → first_of (spans f (fields_at s at)) ≡ Some p → Inside at (length s) p
   walk_inside at p q = (subst (AllInside at (length s)) (walk_at at p q) (spans-inside f s at)).0
 
   -- the last one, as a loop over the walk finds it
   module _ (from at : ℕ) (other last : Span) (g : last_of last (spans f (fields_at s at)) ≡ last_of other (spans f (fields_at s from))) where
-    pub last_on : (p : Span) → first_of (spans f (fields_at s at)) ≡ At p → last_of p (spans f (fields_at s p.end)) ≡ last_of other (spans f (fields_at s from))
+    pub last_on : (p : Span) → first_of (spans f (fields_at s at)) ≡ Some p → last_of p (spans f (fields_at s p.end)) ≡ last_of other (spans f (fields_at s from))
     unfolding last_of
     last_on p q = rw (walk_at at p q) at g
 
-    pub last_done : first_of (spans f (fields_at s at)) ≡ Nothing → last ≡ last_of other (spans f (fields_at s from))
+    pub last_done : first_of (spans f (fields_at s at)) ≡ None → last ≡ last_of other (spans f (fields_at s from))
     unfolding last_of
     last_done q = rw (walk_none at q) at g
 
-  pub last_less : (at : ℕ) (p : Span) → first_of (spans f (fields_at s at)) ≡ At p → length s - p.end < length s - at
+  pub last_less : (at : ℕ) (p : Span) → first_of (spans f (fields_at s at)) ≡ Some p → length s - p.end < length s - at
   last_less at p q = let i = walk_inside at p q in omega (arith, i.starts, i.ordered, i.ends)
 
 -- ---- the last number field of a number
@@ -216,24 +215,24 @@ module _ (s : List ℕ) (f from at last : ℕ) (g : last_of last (numbers f (fie
 
 -- ---- walking a number's bytes fields from 0 yields exactly those, in order
 module _ (s : List ℕ) (f : ℕ) where
-  cursor : ℕ → Found
+  cursor : ℕ → Option Span
   cursor at = first_of (spans f (fields_at s at))
 
   walk_from : (k at : ℕ) → length s ≤ at + k → walk (suc k) cursor at ≡ spans f (fields_at s at)
   unfolding walk cursor
   walk_from zero at l = go (first_of (spans f (fields_at s at))) refl
     where
-      go : (x : Found) → first_of (spans f (fields_at s at)) ≡ x → walk 1 cursor at ≡ spans f (fields_at s at)
-      go (At p) e = let i = walk_inside s f at p e in absurd (omega (arith, i.starts, i.ordered, i.ends))
-      go Nothing e = rw (e, walk_none s f at e)
+      go : (x : Option Span) → first_of (spans f (fields_at s at)) ≡ x → walk 1 cursor at ≡ spans f (fields_at s at)
+      go (Some p) e = let i = walk_inside s f at p e in absurd (omega (arith, i.starts, i.ordered, i.ends))
+      go None e = rw (e, walk_none s f at e)
   walk_from (suc k) at l = go (first_of (spans f (fields_at s at))) refl (walk_from k)
     where
-      go : (x : Found) → first_of (spans f (fields_at s at)) ≡ x → ((at : ℕ) → length s ≤ at + k → walk (suc k) cursor at ≡ spans f (fields_at s at))
+      go : (x : Option Span) → first_of (spans f (fields_at s at)) ≡ x → ((at : ℕ) → length s ≤ at + k → walk (suc k) cursor at ≡ spans f (fields_at s at))
           → walk (suc (suc k)) cursor at ≡ spans f (fields_at s at)
-      go (At p) e ih =
+      go (Some p) e ih =
           let i = walk_inside s f at p e in
           rw (e, ih p.end (omega (arith, i.starts, i.ordered)), walk_at s f at p e)
-      go Nothing e ih = rw (e, walk_none s f at e)
+      go None e ih = rw (e, walk_none s f at e)
 
   pub walked : (at : ℕ) → walk (suc (length s)) (λ from. first_of (spans f (fields_at s from))) at ≡ spans f (fields_at s at)
   unfolding cursor

@@ -13,20 +13,19 @@ use lib.Dec.{ltb, lit<}
 use borrow.Author.Tests.{lt-ltb, le-ltb, ltb-true, ltb-false}
 use Rattle.wire.specs.Wire.{before, varint, placed, varint_at}
 use Rattle.wire.specs.Inner.{resumed, tenth_at}
-use Rattle.wire.specs.declared.Varint.{Varint}
-use Rattle.wire.specs.declared.Varint.TheVariants.{Value, Bad}
+use Rattle.std.specs.Prelude.{Some, None, Option}
 
 -- ---- at the first byte
 
-varint-nil : (k : ℕ) → varint k [] ≡ Bad
+varint-nil : (k : ℕ) → varint k [] ≡ None
 unfolding varint
 varint-nil zero = refl
 varint-nil (suc k) = refl
 
-varint-past : (k : ℕ) (s : List ℕ) (at : ℕ) → length s ≤ at → varint k (drop at s) ≡ Bad
+varint-past : (k : ℕ) (s : List ℕ) (at : ℕ) → length s ≤ at → varint k (drop at s) ≡ None
 varint-past k s at h = rw (drop_of_length-le s h) (varint-nil k)
 
-varint-stop : (k : ℕ) (s : List ℕ) (at : ℕ) → at < length s → get_or s at 0 < 128 → varint (suc k) (drop at s) ≡ Value (get_or s at 0) 1
+varint-stop : (k : ℕ) (s : List ℕ) (at : ℕ) → at < length s → get_or s at 0 < 128 → varint (suc k) (drop at s) ≡ Some ((get_or s at 0), 1)
 unfolding varint
 varint-stop k s at h l = rw (drop-cons s at 0 h) (rw (lt-ltb (get_or s at 0) 128 l) refl)
 
@@ -36,18 +35,18 @@ varint-more k s at h l = rw (drop-cons s at 0 h) (rw (add-one at, le-ltb (get_or
 
 -- ---- half read
 
-resumed-start : (at : ℕ) (r : Varint) → resumed 0 1 at r ≡ placed at r
+resumed-start : (at : ℕ) (r : Option (ℕ × ℕ)) → resumed 0 1 at r ≡ placed at r
 unfolding resumed placed
-resumed-start at (Value v n) = let e : 0 + 1 * v ≡ v = omega arith in rw e
-resumed-start at Bad = refl
+resumed-start at (Some (v, n)) = let e : 0 + 1 * v ≡ v = omega arith in rw e
+resumed-start at None = refl
 
 shift : (acc place x v : ℕ) → acc + place * (x + 128 * v) ≡ acc + x * place + place * 128 * v
 shift acc place x v = omega (arith, mul-add place x (128 * v), mul_comm place x, mul_assoc place 128 v)
 
-resumed-before : (acc place i b : ℕ) (r : Varint) → resumed acc place i (before b r) ≡ resumed (acc + (b - 128) * place) (place * 128) (i + 1) r
+resumed-before : (acc place i b : ℕ) (r : Option (ℕ × ℕ)) → resumed acc place i (before b r) ≡ resumed (acc + (b - 128) * place) (place * 128) (i + 1) r
 unfolding resumed before
-resumed-before acc place i b (Value v n) = let e : i + suc n ≡ i + 1 + n = omega arith in rw (shift acc place (b - 128) v, e)
-resumed-before acc place i b Bad = refl
+resumed-before acc place i b (Some (v, n)) = let e : i + suc n ≡ i + 1 + n = omega arith in rw (shift acc place (b - 128) v, e)
+resumed-before acc place i b None = refl
 
 digit : (x acc place : ℕ) → x < 128 → acc < place → acc + x * place < place * 128
 digit x acc place h l = omega (arith, digits_lt {q = x} {m = 128} h l)
@@ -64,20 +63,20 @@ next_place left p l =
 
 -- ---- the tenth byte
 
-pub tenth-none : (s : List ℕ) (at acc : ℕ) → length s ≤ at → Bad ≡ tenth_at s at acc
+pub tenth-none : (s : List ℕ) (at acc : ℕ) → length s ≤ at → None ≡ tenth_at s at acc
 unfolding tenth_at resumed
 tenth-none s at acc h = rw (varint-past 1 s at h)
 
-pub tenth-one : (s : List ℕ) (at acc b : ℕ) → acc < 2 ^ 63 → at < length s → b ≡ get_or s at 0 → b < 2 → Value (acc + b * 2 ^ 63) (at + 1) ≡ tenth_at s at acc
+pub tenth-one : (s : List ℕ) (at acc b : ℕ) → acc < 2 ^ 63 → at < length s → b ≡ get_or s at 0 → b < 2 → (Some ((acc + b * 2 ^ 63), (at + 1))) ≡ tenth_at s at acc
 unfolding tenth_at resumed
 tenth-one s at acc b l h e lb =
     rw (varint-stop 0 s at h (omega arith), ← e, lt-ltb (acc + 2 ^ 63 * b) (2 ^ 64) (omega arith), mul_comm b (2 ^ 63))
 
-pub tenth-big : (s : List ℕ) (at acc b : ℕ) → at < length s → b ≡ get_or s at 0 → 2 ≤ b → Bad ≡ tenth_at s at acc
+pub tenth-big : (s : List ℕ) (at acc b : ℕ) → at < length s → b ≡ get_or s at 0 → 2 ≤ b → None ≡ tenth_at s at acc
 unfolding tenth_at resumed varint before
 tenth-big s at acc b h e lb = go (ltb (get_or s at 0) 128) refl
   where
-    go : (t : Bool) → ltb (get_or s at 0) 128 ≡ t → Bad ≡ tenth_at s at acc
+    go : (t : Bool) → ltb (get_or s at 0) 128 ≡ t → None ≡ tenth_at s at acc
     go true q = rw (varint-stop 0 s at h (ltb-true _ _ q), le-ltb (acc + 2 ^ 63 * get_or s at 0) (2 ^ 64) (omega arith))
     go false q = rw (varint-more 0 s at h (ltb-false _ _ q)) refl
 
@@ -100,11 +99,11 @@ module _ (s : List ℕ) (at acc place i left b : ℕ) (g : Going s at acc place 
   pub digit-fits : (x : ℕ) → 0 < left → x < 128 → acc + x * place < 2 ^ 63
   digit-fits x p l = omega (arith, digit x acc place l g.small, place-fits p)
 
-  pub going-past : length s ≤ i → Bad ≡ varint_at s at
+  pub going-past : length s ≤ i → None ≡ varint_at s at
   unfolding resumed
   going-past h = rw (← g.same, varint-past (suc left) s i h)
 
-  pub going-stop : 0 < left → i < length s → b ≡ get_or s i 0 → b < 128 → Value (acc + b * place) (i + 1) ≡ varint_at s at
+  pub going-stop : 0 < left → i < length s → b ≡ get_or s i 0 → b < 128 → (Some ((acc + b * place), (i + 1))) ≡ varint_at s at
   unfolding resumed
   going-stop p h e l =
       let m : place * b ≡ b * place = mul_comm place b in

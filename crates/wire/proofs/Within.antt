@@ -16,24 +16,20 @@ use Rattle.octets.proofs.Bools.{either, cond-ap}
 use Rattle.wire.specs.Wire.{varint, placed, varint_at, on_varint, end_at, on_ending, number_at, fixed_at, bytes_at, content_at, tagged_at, field_at, next_of, more, fields_from, fields_at, fields, fields_in, well, numbers, span_if, cons_found, spans}
 use Rattle.wire.specs.Items.{bytes, bad, cut, item, items, is_field, values, parts}
 use Rattle.wire.specs.declared.Span.{Span}
-use Rattle.wire.specs.declared.Varint.{Varint}
-use Rattle.wire.specs.declared.Varint.TheVariants.{Value, Bad}
-use Rattle.wire.specs.declared.Ending.{Ending}
-use Rattle.wire.specs.declared.Ending.TheVariants.{Ends, Past}
 use Rattle.wire.specs.declared.Field.{Field}
 use Rattle.wire.specs.declared.Field.TheVariants.{End, Bad as Malformed, Number, Bytes, Other}
-use Rattle.wire.specs.declared.Found.TheVariants.{At, Nothing}
 use Rattle.wire.proofs.Reach.{AllInside, spans-inside}
 use Rattle.wire.proofs.Scan.{fuel-free}
+use Rattle.std.specs.Prelude.{Some, None, Option}
 
 -- ---- moved by a
-abbrev moved_var : ℕ → Varint → Varint
-moved_var a (Value v n) = Value v (a + n)
-moved_var a Bad = Bad
+abbrev moved_var : ℕ → Option (ℕ × ℕ) → Option (ℕ × ℕ)
+moved_var a (Some (v, n)) = Some (v, (a + n))
+moved_var a None = None
 
-abbrev moved_end : ℕ → Ending → Ending
-moved_end a (Ends e) = Ends (a + e)
-moved_end a Past = Past
+abbrev moved_end : ℕ → Option ℕ → Option ℕ
+moved_end a (Some e) = Some (a + e)
+moved_end a None = None
 
 abbrev moved : ℕ → Field → Field
 moved a End = End
@@ -65,10 +61,10 @@ module _ (s : List ℕ) (a : ℕ) (h : a ≤ length s) where
   rest-is : length s ≡ a + length (drop a s)
   rest-is = omega (arith, length-drop a s)
 
-  placed-moved : (i : ℕ) (r : Varint) → placed (a + i) r ≡ moved_var a (placed i r)
+  placed-moved : (i : ℕ) (r : Option (ℕ × ℕ)) → placed (a + i) r ≡ moved_var a (placed i r)
   unfolding placed
-  placed-moved i (Value v n) = let e : a + i + n ≡ a + (i + n) = omega arith in rw e (sym (cond-ap (moved_var a) (ltb v (2 ^ 64)) (Value v (i + n)) Bad))
-  placed-moved i Bad = refl
+  placed-moved i (Some (v, n)) = let e : a + i + n ≡ a + (i + n) = omega arith in rw e (sym (cond-ap (moved_var a) (ltb v (2 ^ 64)) (Some (v, (i + n))) None))
+  placed-moved i None = refl
 
   varint-moved : (i : ℕ) → varint_at s (a + i) ≡ moved_var a (varint_at (drop a s) i)
   unfolding varint_at
@@ -79,37 +75,37 @@ module _ (s : List ℕ) (a : ℕ) (h : a ≤ length s) where
   end_moved i size =
       let e : a + i + size ≡ a + (i + size) = omega arith in
       let t : leb (a + i + size) (length s) ≡ leb (i + size) (length (drop a s)) = same-leb (a + i + size) (length s) (i + size) (length (drop a s)) (λ x. omega (arith, rest-is)) (λ x. omega (arith, rest-is)) in
-      rw (t, e) (sym (cond-ap (moved_end a) (leb (i + size) (length (drop a s))) (Ends (i + size)) Past))
+      rw (t, e) (sym (cond-ap (moved_end a) (leb (i + size) (length (drop a s))) (Some (i + size)) None))
 
   number-moved : (i f : ℕ) → number_at s (a + i) f ≡ moved a (number_at (drop a s) i f)
   unfolding number_at
   number-moved i f = rw (varint-moved i) (go (varint_at (drop a s) i))
     where
-      go : (r : Varint) → on_varint (moved_var a r) (λ v n. Number f v n) Malformed ≡ moved a (on_varint r (λ v n. Number f v n) Malformed)
-      go (Value v n) = refl
-      go Bad = refl
+      go : (r : Option (ℕ × ℕ)) → on_varint (moved_var a r) (λ v n. Number f v n) Malformed ≡ moved a (on_varint r (λ v n. Number f v n) Malformed)
+      go (Some (v, n)) = refl
+      go None = refl
 
   fixed_moved : (i size : ℕ) → fixed_at s (a + i) size ≡ moved a (fixed_at (drop a s) i size)
   unfolding fixed_at
   fixed_moved i size = rw (end_moved i size) (go (end_at (drop a s) i size))
     where
-      go : (r : Ending) → on_ending (moved_end a r) (λ e. Other e) Malformed ≡ moved a (on_ending r (λ e. Other e) Malformed)
-      go (Ends e) = refl
-      go Past = refl
+      go : (r : Option ℕ) → on_ending (moved_end a r) (λ e. Other e) Malformed ≡ moved a (on_ending r (λ e. Other e) Malformed)
+      go (Some e) = refl
+      go None = refl
 
   bytes-moved : (i f : ℕ) → bytes_at s (a + i) f ≡ moved a (bytes_at (drop a s) i f)
   unfolding bytes_at
   bytes-moved i f = rw (varint-moved i) (go (varint_at (drop a s) i))
     where
-      ends : (n : ℕ) (r : Ending) → on_ending (moved_end a r) (λ e. Bytes f (record { at = a + n; end = e })) Malformed ≡ moved a (on_ending r (λ e. Bytes f (record { at = n; end = e })) Malformed)
-      ends n (Ends e) = refl
-      ends n Past = refl
+      ends : (n : ℕ) (r : Option ℕ) → on_ending (moved_end a r) (λ e. Bytes f (record { at = a + n; end = e })) Malformed ≡ moved a (on_ending r (λ e. Bytes f (record { at = n; end = e })) Malformed)
+      ends n (Some e) = refl
+      ends n None = refl
 
-      go : (r : Varint)
+      go : (r : Option (ℕ × ℕ))
           → on_varint (moved_var a r) (λ v n. on_ending (end_at s n v) (λ e. Bytes f (record { at = n; end = e })) Malformed) Malformed
           ≡ moved a (on_varint r (λ v n. on_ending (end_at (drop a s) n v) (λ e. Bytes f (record { at = n; end = e })) Malformed) Malformed)
-      go (Value v n) = rw (end_moved n v) (ends n (end_at (drop a s) n v))
-      go Bad = refl
+      go (Some (v, n)) = rw (end_moved n v) (ends n (end_at (drop a s) n v))
+      go None = refl
 
   content-moved : (i f w : ℕ) → content_at s (a + i) f w ≡ moved a (content_at (drop a s) i f w)
   unfolding content_at
@@ -144,11 +140,11 @@ module _ (s : List ℕ) (a : ℕ) (h : a ≤ length s) where
       let t : leb (length s) (a + i) ≡ leb (length (drop a s)) i = same-leb (length s) (a + i) (length (drop a s)) i (λ x. omega (arith, rest-is)) (λ x. omega (arith, rest-is)) in
       rw (t, varint-moved i) (cases (leb (length (drop a s)) i) (varint_at (drop a s) i))
     where
-      tag : (r : Varint) → on_varint (moved_var a r) (tagged_at s (a + i)) Malformed ≡ moved a (on_varint r (tagged_at (drop a s) i) Malformed)
-      tag (Value t n) = tagged-moved i t n
-      tag Bad = refl
+      tag : (r : Option (ℕ × ℕ)) → on_varint (moved_var a r) (tagged_at s (a + i)) Malformed ≡ moved a (on_varint r (tagged_at (drop a s) i) Malformed)
+      tag (Some (t, n)) = tagged-moved i t n
+      tag None = refl
 
-      cases : (b : Bool) (r : Varint) → cond b End (on_varint (moved_var a r) (tagged_at s (a + i)) Malformed) ≡ moved a (cond b End (on_varint r (tagged_at (drop a s) i) Malformed))
+      cases : (b : Bool) (r : Option (ℕ × ℕ)) → cond b End (on_varint (moved_var a r) (tagged_at s (a + i)) Malformed) ≡ moved a (cond b End (on_varint r (tagged_at (drop a s) i) Malformed))
       cases true r = refl
       cases false r = tag r
 
@@ -203,7 +199,7 @@ module _ (a : ℕ) where
   spans-moved f (Bytes g p ∷ fs) = go (eqb g f) (spans-moved f fs)
     where
       go : (t : Bool) → spans f (map (moved a) fs) ≡ map (moved_span a) (spans f fs)
-          → cons_found (cond t (At (moved_span a p)) Nothing) (spans f (map (moved a) fs)) ≡ map (moved_span a) (cons_found (cond t (At p) Nothing) (spans f fs))
+          → cons_found (cond t (Some (moved_span a p)) None) (spans f (map (moved a) fs)) ≡ map (moved_span a) (cons_found (cond t (Some p) None) (spans f fs))
       go true e = rw e
       go false e = e
   spans-moved f (Other n ∷ fs) = spans-moved f fs
@@ -237,7 +233,7 @@ module _ (s : List ℕ) where
   parts-spans f (Bytes g p ∷ fs) = go (eqb g f) (parts-spans f fs)
     where
       go : (t : Bool) → parts f (map (item s) fs) ≡ map (cut s) (spans f fs)
-          → cond t (cut s p ∷ parts f (map (item s) fs)) (parts f (map (item s) fs)) ≡ map (cut s) (cons_found (cond t (At p) Nothing) (spans f fs))
+          → cond t (cut s p ∷ parts f (map (item s) fs)) (parts f (map (item s) fs)) ≡ map (cut s) (cons_found (cond t (Some p) None) (spans f fs))
       go true e = rw e
       go false e = e
   parts-spans f (Other n ∷ fs) = parts-spans f fs

@@ -2,51 +2,46 @@
 use Rattle.std.specs.Prelude.{ℕ, zero, suc, ◌+◌, ◌-◌, ◌*◌, ◌/◌, ◌%◌, ◌^◌, List, [], ◌∷◌, Bool, true, false, cond, length, take, drop, ltb, leb, eqb}
 use Rattle.octets.specs.Search.{every}
 use Rattle.wire.specs.declared.Span.{Span}
-use Rattle.wire.specs.declared.Varint.{Varint}
-use Rattle.wire.specs.declared.Varint.TheVariants.{Value, Bad}
-use Rattle.wire.specs.declared.Ending.{Ending}
-use Rattle.wire.specs.declared.Ending.TheVariants.{Ends, Past}
 use Rattle.wire.specs.declared.Field.{Field}
 use Rattle.wire.specs.declared.Field.TheVariants.{End, Bad as Malformed, Number, Bytes, Other}
 use Rattle.wire.specs.declared.Next.{Next}
 use Rattle.wire.specs.declared.Next.TheVariants.{Done, Broken, On}
-use Rattle.wire.specs.declared.Found.{Found}
-use Rattle.wire.specs.declared.Found.TheVariants.{At, Nothing}
+use Rattle.std.specs.Prelude.{Some, None, Option}
 
 -- ---- varints: "a varint over 10 bytes or 64 bits" is refused; "inner varints needn't be minimal"
 
 -- a byte with its top bit set, before a varint: its low seven bits are the lowest of the value
-unfoldable pub before : ℕ → Varint → Varint
-before b (Value v n) = Value (b - 128 + 128 * v) (suc n)
-before b Bad = Bad
+unfoldable pub before : ℕ → Option (ℕ × ℕ) → Option (ℕ × ℕ)
+before b (Some (v, n)) = Some ((b - 128 + 128 * v), (suc n))
+before b None = None
 
 -- the varint that begins a list, of at most k bytes: its value, and how many bytes it has
-unfoldable pub varint : ℕ → List ℕ → Varint
-varint zero s = Bad
-varint (suc k) [] = Bad
-varint (suc k) (b ∷ s) = cond (ltb b 128) (Value b 1) (before b (varint k s))
+unfoldable pub varint : ℕ → List ℕ → Option (ℕ × ℕ)
+varint zero s = None
+varint (suc k) [] = None
+varint (suc k) (b ∷ s) = cond (ltb b 128) (Some (b, 1)) (before b (varint k s))
 
 -- the value where it fits 64 bits, and the position after it
-unfoldable pub placed : ℕ → Varint → Varint
-placed at (Value v n) = cond (ltb v (2 ^ 64)) (Value v (at + n)) Bad
-placed at Bad = Bad
+unfoldable pub placed : ℕ → Option (ℕ × ℕ) → Option (ℕ × ℕ)
+placed at (Some (v, n)) = cond (ltb v (2 ^ 64)) (Some (v, (at + n))) None
+placed at None = None
 
-unfoldable pub varint_at : List ℕ → ℕ → Varint
+unfoldable pub varint_at : List ℕ → ℕ → Option (ℕ × ℕ)
 varint_at s at = placed at (varint 10 (drop at s))
 
-abbrev pub on_varint : {A : Type 0} → Varint → (ℕ → ℕ → A) → A → A
-on_varint (Value v n) f z = f v n
-on_varint Bad f z = z
+abbrev pub on_varint : {A : Type 0} → Option (ℕ × ℕ) → (ℕ → ℕ → A) → A → A
+on_varint (Some (v, n)) f z = f v n
+on_varint None f z = z
 
 -- ---- fields
 
 -- a part of size bytes: where it ends, or that it runs past its enclosing end
-unfoldable pub end_at : List ℕ → ℕ → ℕ → Ending
-end_at s at size = cond (leb (at + size) (length s)) (Ends (at + size)) Past
+unfoldable pub end_at : List ℕ → ℕ → ℕ → Option ℕ
+end_at s at size = cond (leb (at + size) (length s)) (Some (at + size)) None
 
-abbrev pub on_ending : {A : Type 0} → Ending → (ℕ → A) → A → A
-on_ending (Ends e) f z = f e
-on_ending Past f z = z
+abbrev pub on_ending : {A : Type 0} → Option ℕ → (ℕ → A) → A → A
+on_ending (Some e) f z = f e
+on_ending None f z = z
 
 -- wire type 0: a varint
 unfoldable pub number_at : List ℕ → ℕ → ℕ → Field
@@ -136,31 +131,31 @@ unfoldable pub numbers : ℕ → List Field → List ℕ
 numbers f [] = []
 numbers f (g ∷ fs) = cons_number f g (numbers f fs)
 
-unfoldable pub span_if : ℕ → Field → Found
-span_if f (Bytes g p) = cond (eqb g f) (At p) Nothing
-span_if f (Number g v n) = Nothing
-span_if f (Other n) = Nothing
-span_if f End = Nothing
-span_if f Malformed = Nothing
+unfoldable pub span_if : ℕ → Field → Option Span
+span_if f (Bytes g p) = cond (eqb g f) (Some p) None
+span_if f (Number g v n) = None
+span_if f (Other n) = None
+span_if f End = None
+span_if f Malformed = None
 
-abbrev pub cons_found : Found → List Span → List Span
-cons_found (At p) r = p ∷ r
-cons_found Nothing r = r
+abbrev pub cons_found : Option Span → List Span → List Span
+cons_found (Some p) r = p ∷ r
+cons_found None r = r
 
 -- where the bytes fields f are, in order
 unfoldable pub spans : ℕ → List Field → List Span
 spans f [] = []
 spans f (g ∷ fs) = cons_found (span_if f g) (spans f fs)
 
-unfoldable pub first_of : List Span → Found
-first_of [] = Nothing
-first_of (p ∷ l) = At p
+unfoldable pub first_of : List Span → Option Span
+first_of [] = None
+first_of (p ∷ l) = Some p
 
 -- a walk: what a cursor finds from a position, then from the end of what it found, and so on, k times at most
-abbrev pub on_found : {A : Type 0} → Found → (Span → A) → A → A
-on_found (At p) f z = f p
-on_found Nothing f z = z
+abbrev pub on_found : {A : Type 0} → Option Span → (Span → A) → A → A
+on_found (Some p) f z = f p
+on_found None f z = z
 
-unfoldable pub walk : ℕ → (ℕ → Found) → ℕ → List Span
+unfoldable pub walk : ℕ → (ℕ → Option Span) → ℕ → List Span
 walk zero next at = []
 walk (suc k) next at = on_found (next at) (λ p. p ∷ walk k next p.end) []

@@ -6,24 +6,10 @@ ghost use Rattle.wire.specs.Wire.{varint_at, end_at, fixed_at, number_at, bytes_
 ghost use Rattle.wire.specs.Inner.{tenth_at};
 
 // A part of a slice: where it starts, and where it ends.
-#[derive(Clone, Copy)]
+#[derive(Clone, Copy, PartialEq, Eq)]
 pub struct Span {
     pub at: usize,
     pub end: usize,
-}
-
-// A varint: its value, and the position after it.
-#[derive(Drop)]
-pub enum Varint {
-    Value(u64, usize),
-    Bad,
-}
-
-// Where a part ends, if it is within the slice.
-#[derive(Drop)]
-pub enum Ending {
-    Ends(usize),
-    Past,
 }
 
 // A field: a number with its value and the position after it; bytes; or one of a fixed width, which is only passed over.
@@ -36,19 +22,12 @@ pub enum Field {
     Other(usize),
 }
 
-// Where the next field starts.
+// Where the next field starts. Three outcomes, of which the broken one has nothing to tell: as Result<Option<usize>, ()> they would be no plainer.
 #[derive(Drop)]
 pub enum Next {
     Done,
     Broken,
     On(usize),
-}
-
-// A bytes field that was looked for.
-#[derive(Drop)]
-pub enum Found {
-    At(Span),
-    Nothing,
 }
 
 fn wide(x: u8) -> u64
@@ -58,22 +37,22 @@ fn wide(x: u8) -> u64
 }
 
 // The tenth byte of a varint, which has one bit left to give.
-fn tenth(s: &[u8], at: usize, acc: u64) -> Varint
+fn tenth(s: &[u8], at: usize, acc: u64) -> Option<(u64, usize)>
     requires { acc < 2 ^ 63 }
     ensures { result ≡ tenth_at s.now at acc }
 {
     if s.len() <= at {
-        return Varint::Bad;
+        return None;
     }
     let b = wide(s[at]);
     if b < 2 {
-        return Varint::Value(acc + b * 0x8000_0000_0000_0000, at + 1);
+        return Some((acc + b * 0x8000_0000_0000_0000, at + 1));
     }
-    Varint::Bad
+    None
 }
 
-// The varint at a position.
-pub fn read_varint(s: &[u8], at: usize) -> Varint
+// The varint at a position, and the position after it.
+pub fn read_varint(s: &[u8], at: usize) -> Option<(u64, usize)>
     ensures { result ≡ varint_at s.now at }
 {
     let mut acc: u64 = 0;
@@ -82,11 +61,11 @@ pub fn read_varint(s: &[u8], at: usize) -> Varint
     let mut left: u64 = 9;
     while left > 0 {
         if i >= s.len() {
-            return Varint::Bad;
+            return None;
         }
         let b = wide(s[i]);
         if b < 128 {
-            return Varint::Value(acc + b * place, i + 1);
+            return Some((acc + b * place, i + 1));
         }
         acc += (b - 128) * place;
         place *= 128;
@@ -97,17 +76,17 @@ pub fn read_varint(s: &[u8], at: usize) -> Varint
 }
 
 // Where a part of size bytes ends.
-fn part_end(s: &[u8], at: usize, size: u64) -> Ending
+fn part_end(s: &[u8], at: usize, size: u64) -> Option<usize>
     ensures { result ≡ end_at s.now at size }
 {
     if s.len() < at {
-        return Ending::Past;
+        return None;
     }
     let n = size as usize;
     if n <= s.len() - at {
-        return Ending::Ends(at + n);
+        return Some(at + n);
     }
-    Ending::Past
+    None
 }
 
 // Wire type 0: a varint.
@@ -115,8 +94,8 @@ fn number_field(s: &[u8], at: usize, number: u64) -> Field
     ensures { result ≡ number_at s.now at number }
 {
     match read_varint(s, at) {
-        Varint::Value(value, next) => Field::Number(number, value, next),
-        Varint::Bad => Field::Bad,
+        Some((value, next)) => Field::Number(number, value, next),
+        None => Field::Bad,
     }
 }
 
@@ -125,8 +104,8 @@ fn fixed_field(s: &[u8], at: usize, size: u64) -> Field
     ensures { result ≡ fixed_at s.now at size }
 {
     match part_end(s, at, size) {
-        Ending::Ends(next) => Field::Other(next),
-        Ending::Past => Field::Bad,
+        Some(next) => Field::Other(next),
+        None => Field::Bad,
     }
 }
 
@@ -135,11 +114,11 @@ fn bytes_field(s: &[u8], at: usize, number: u64) -> Field
     ensures { result ≡ bytes_at s.now at number }
 {
     match read_varint(s, at) {
-        Varint::Value(value, next) => match part_end(s, next, value) {
-            Ending::Ends(end) => Field::Bytes(number, Span { at: next, end }),
-            Ending::Past => Field::Bad,
+        Some((value, next)) => match part_end(s, next, value) {
+            Some(end) => Field::Bytes(number, Span { at: next, end }),
+            None => Field::Bad,
         },
-        Varint::Bad => Field::Bad,
+        None => Field::Bad,
     }
 }
 
@@ -167,7 +146,7 @@ pub fn read_field(s: &[u8], at: usize) -> Field
         return Field::End;
     }
     match read_varint(s, at) {
-        Varint::Value(tag, next) => {
+        Some((tag, next)) => {
             if at + 5 < next {
                 return Field::Bad;
             }
@@ -176,7 +155,7 @@ pub fn read_field(s: &[u8], at: usize) -> Field
             }
             content(s, next, tag / 8, tag % 8)
         }
-        Varint::Bad => Field::Bad,
+        None => Field::Bad,
     }
 }
 
@@ -210,36 +189,36 @@ pub fn well_formed(s: &[u8], from: usize) -> bool
 }
 
 // The place of f's bytes, if it is a bytes field of that number.
-fn span_if(number: u64, f: Field) -> Found
+fn span_if(number: u64, f: Field) -> Option<Span>
     ensures { result ≡ span_if number f }
 {
     match f {
         Field::Bytes(g, p) => {
             if g == number {
-                return Found::At(p);
+                return Some(p);
             }
-            Found::Nothing
+            None
         }
-        Field::Number(_, _, _) => Found::Nothing,
-        Field::Other(_) => Found::Nothing,
-        Field::End => Found::Nothing,
-        Field::Bad => Found::Nothing,
+        Field::Number(_, _, _) => None,
+        Field::Other(_) => None,
+        Field::End => None,
+        Field::Bad => None,
     }
 }
 
 // The first bytes field of a number from a position on: from 0, and then from each end, these are all of them.
-pub fn next_bytes(s: &[u8], from: usize, number: u64) -> Found
+pub fn next_bytes(s: &[u8], from: usize, number: u64) -> Option<Span>
     ensures { result ≡ first_of (spans number (fields_at s.now from)) }
 {
     let mut at = from;
     loop {
         let f = read_field(s, at);
         match after(f) {
-            Next::Done => return Found::Nothing,
-            Next::Broken => return Found::Nothing,
+            Next::Done => return None,
+            Next::Broken => return None,
             Next::On(next) => match span_if(number, f) {
-                Found::At(p) => return Found::At(p),
-                Found::Nothing => {
+                Some(p) => return Some(p),
+                None => {
                     at = next;
                 }
             },
@@ -255,11 +234,11 @@ pub fn last_bytes(s: &[u8], from: usize, number: u64, other: Span) -> Span
     let mut at = from;
     loop {
         match next_bytes(s, at, number) {
-            Found::At(p) => {
+            Some(p) => {
                 last = p;
                 at = p.end;
             }
-            Found::Nothing => return last,
+            None => return last,
         }
     }
 }

@@ -1,11 +1,12 @@
--- Laws of minimal varints, and of the loops that count and write one. Assumes nothing.
-use Prim.Native.Nat.{ℕ, zero, suc, ◌+◌, ◌/◌, ◌%◌, ◌^◌, ◌≤◌, ◌<◌}
-use mathlib.Core.Path.{◌≡◌, refl, sym, ap, ◌∙◌}
+-- Laws of minimal varints, how long one is, and of the loop that writes one. Assumes nothing.
+use Prim.Native.Nat.{ℕ, zero, suc, ◌+◌, ◌*◌, ◌/◌, ◌%◌, ◌^◌, ◌≤◌, ◌<◌, max}
+use mathlib.Core.Path.{◌≡◌, refl, sym, ap, ◌∙◌, subst}
 use mathlib.Core.Logic.{⊎_elim}
 use mathlib.Core.List.{List, [], ◌∷◌}
 use mathlib.Core.Bool.{Bool, true, false}
 use native.Mathlib.Omega.{arith}
-use native.Mathlib.Nat.{pow-suc, div-lt_iff_lt-mul}
+use native.Mathlib.Nat.{pow-suc, div-lt_iff_lt-mul, le-div_iff_mul-le, one-le-pow, le_trans, lt_of_lt_of_le}
+use lib.Pow.{pow-add, pow_mono}
 use native.Mathlib.Numerals.{add-one}
 use lib.ListN.{length, set, length-set}
 use lib.Seq.{sets}
@@ -74,30 +75,39 @@ pub minimal-bytes : (v : ℕ) → Bytes (minimal v)
 unfolding minimal
 minimal-bytes v = digits-bytes 10 v
 
--- ---- the loop that counts
-pub record Counting (v n rest : ℕ) : Type 0 where
-  pub k : ℕ
-  pub bound : rest < 128 ^ suc k
-  pub few : n + k ≤ 10
-  pub count : n + length (digits (suc k) rest) ≡ suc (length (minimal v))
+-- ---- how many digits: by the highest bit
+digits-many : (q k v : ℕ) → 128 ^ q ≤ v → v < 128 ^ suc q → q < k → length (digits k v) ≡ suc q
+digits-many q zero v g h l = absurd (omega arith)
+digits-many zero (suc k) v g h l = ap length (digits_last k v (omega arith))
+digits-many (suc q) (suc k) v g h l =
+    let m : 128 ^ q * 128 ≤ v = rw (pow-suc 128 q) at g in
+    let p : 128 ≤ v = omega (arith, m, one-le-pow q 128 (lit< tt)) in
+    ap length (digits_more k v p) ∙ ap suc (digits-many q k (v / 128) ((le-div_iff_mul-le (lit< tt)).1 m) (fewer (suc q) v h) (omega arith))
 
-pub counting : (v : ℕ) → v < 2 ^ 64 → Counting v 1 v
+power : (q : ℕ) → 128 ^ q ≡ 2 ^ (7 * q)
+power zero = refl
+power (suc q) =
+    let e : 7 * suc q ≡ 7 + 7 * q = omega arith in
+    pow-suc 128 q ∙ rw (e, pow-add 2 7 (7 * q)) (omega (arith, power q))
+
+-- where r is the place of the highest bit of v
+highest : (v r : ℕ) → 2 ^ r ≤ v → v < 2 * 2 ^ r → r < 64 → r / 7 + 1 ≡ length (minimal v)
 unfolding minimal
-counting v h = record { k = 9; bound = omega arith; few = omega arith; count = omega arith }
+highest v r g h l =
+    let q : ℕ = r / 7 in
+    let d : 2 * 2 ^ r ≡ 2 ^ suc r = omega (arith, pow-suc 2 r) in
+    let low : 128 ^ q ≤ v = le_trans (rw (power q) (pow_mono {i = 7 * q} {j = r} (omega arith))) g in
+    let high : v < 128 ^ suc q = lt_of_lt_of_le h (rw (d, power (suc q)) (pow_mono {i = suc r} {j = 7 * suc q} (omega arith))) in
+    omega (arith, digits-many q 10 v low high (omega arith))
 
-pub counted : (v n rest : ℕ) → Counting v n rest → rest < 128 → n ≡ length (minimal v)
-counted v n rest g h =
-    let e : length (digits (suc g.k) rest) ≡ 1 = ap length (digits_last g.k rest h) in
-    omega (arith, g.count)
-
-pub count-on : (v n rest : ℕ) → Counting v n rest → 128 ≤ rest → Counting v (n + 1) (rest / 128)
-count-on v n rest g h = go g.k g.bound g.few g.count
+pub counted : (v w r : ℕ) → w ≡ max v 1 → 2 ^ r ≤ w → w < 2 * 2 ^ r → r < 64 → r / 7 + 1 ≡ length (minimal v)
+counted v w r e g h l = ⊎_elim none some (either (ltb v 1))
   where
-    go : (k : ℕ) → rest < 128 ^ suc k → n + k ≤ 10 → n + length (digits (suc k) rest) ≡ suc (length (minimal v)) → Counting v (n + 1) (rest / 128)
-    go zero b f c = absurd (omega arith)
-    go (suc k) b f c =
-        let e : length (digits (suc (suc k)) rest) ≡ suc (length (digits (suc k) (rest / 128))) = ap length (digits_more (suc k) rest h) in
-        record { k = k; bound = fewer (suc k) rest b; few = omega arith; count = omega arith }
+    none : ltb v 1 ≡ true → r / 7 + 1 ≡ length (minimal v)
+    none t = omega (arith, highest w r g h l, minimal-one w (omega (arith, ltb-true v 1 t)), minimal-one v (omega (arith, ltb-true v 1 t)))
+
+    some : ltb v 1 ≡ false → r / 7 + 1 ≡ length (minimal v)
+    some t = let q : w ≡ v = omega (arith, ltb-false v 1 t) in highest w r g h l ∙ ap (λ (n : ℕ). length (minimal n)) q
 
 -- ---- the place after a run of bytes
 pub past_fits : (size at n : ℕ) → at + n ≤ size → at + n ≡ past size at n
@@ -144,6 +154,13 @@ module _ (buf₀ : List ℕ) (at v : ℕ) (buf : List ℕ) (i rest : ℕ) (g : W
       past-full' l =
           let e : i ≡ length buf₀ = omega (arith, g.kept) in
           e ∙ past-full (length buf₀) at (length (minimal v)) (omega (arith, g.start)) (omega (arith, g.end, digits-pos g.k rest))
+
+  -- at the end of the loop, the place is the buffer's end, or beyond it where there was no room at all
+  pub write-end : (r : ℕ) → r ≡ max at (length buf) → length buf ≤ i → Put buf₀ at (minimal v) buf r
+  write-end r e h = subst (λ (n : ℕ). Put buf₀ at (minimal v) buf n) (sym (⊎_elim past_it (λ t. omega (arith, g.start, g.kept, ltb-false (length buf₀) i t)) (either (ltb (length buf₀) i)))) (write-full h)
+    where
+      past_it : ltb (length buf₀) i ≡ true → r ≡ i
+      past_it t = omega (arith, g.kept, g.top (ltb-true (length buf₀) i t))
 
   pub write-on : (b : ℕ) → b ≡ rest % 128 + 128 → 128 ≤ rest → i < length buf → Writing buf₀ at v (set buf i b) (i + 1) (rest / 128)
   write-on b e h room = go g.k g.bound g.end g.same

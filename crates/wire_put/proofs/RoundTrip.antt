@@ -12,26 +12,26 @@ use Rattle.octets.specs.Octets.{part}
 use Rattle.octets.specs.Search.{every, last_of}
 use Rattle.wire.specs.Wire.{before, varint, placed, varint_at, number_at, bytes_at, content_at, field_at, next_of, fields_at, fields}
 use Rattle.wire.specs.Items.{Item, num, bytes, skipped, bad, item, items, is_field, values, parts, digits, minimal, tagged, written1, written, single, repeated}
-use Rattle.wire.specs.declared.Varint.TheVariants.{Value}
 use Rattle.wire.specs.declared.Field.TheVariants.{Number, Bytes}
 use Rattle.wire.proofs.Reading.{field_end, field-good, end-in}
 use Rattle.wire.proofs.Scan.{at_done, at_on}
 use Rattle.wire_put.specs.Claims.{AllGood, Claims}
 use Rattle.wire_put.proofs.Digits.{digits_last, digits_more, fewer, digits-short, minimal-pos}
 use Rattle.wire_put.proofs.Shortest.{shortest}
+use Rattle.std.specs.Prelude.{Some}
 
 -- ---- a varint is read back, whatever follows it
-varint-last : (k v : ℕ) (post : List ℕ) → v < 128 → varint (suc k) (digits (suc k) v ++ post) ≡ Value v (length (digits (suc k) v))
+varint-last : (k v : ℕ) (post : List ℕ) → v < 128 → varint (suc k) (digits (suc k) v ++ post) ≡ (Some (v, (length (digits (suc k) v))))
 unfolding varint
 varint-last k v post l = rw (digits_last k v l, lt-ltb v 128 l)
 
-varint-digits : (k v : ℕ) (post : List ℕ) → v < 128 ^ suc k → varint (suc k) (digits (suc k) v ++ post) ≡ Value v (length (digits (suc k) v))
+varint-digits : (k v : ℕ) (post : List ℕ) → v < 128 ^ suc k → varint (suc k) (digits (suc k) v ++ post) ≡ (Some (v, (length (digits (suc k) v))))
 unfolding varint before
 varint-digits zero v post h = varint-last 0 v post (omega arith)
 varint-digits (suc k) v post h = go (ltb v 128) refl (varint-digits k (v / 128) post)
   where
-    go : (t : Bool) → ltb v 128 ≡ t → (v / 128 < 128 ^ suc k → varint (suc k) (digits (suc k) (v / 128) ++ post) ≡ Value (v / 128) (length (digits (suc k) (v / 128))))
-        → varint (suc (suc k)) (digits (suc (suc k)) v ++ post) ≡ Value v (length (digits (suc (suc k)) v))
+    go : (t : Bool) → ltb v 128 ≡ t → (v / 128 < 128 ^ suc k → varint (suc k) (digits (suc k) (v / 128) ++ post) ≡ (Some ((v / 128), (length (digits (suc k) (v / 128))))))
+        → varint (suc (suc k)) (digits (suc (suc k)) v ++ post) ≡ (Some (v, (length (digits (suc (suc k)) v))))
     go true e ih = varint-last (suc k) v post (ltb-true _ _ e)
     go false e ih =
         let b : 128 ≤ v % 128 + 128 = omega arith in
@@ -61,7 +61,7 @@ at_drop s at a post h = rw h.whole (drop_at h.pre (a ++ post) at h.place)
 at-end : (s : List ℕ) (at : ℕ) (a post : List ℕ) → At s at a post → length s ≡ at + length a + length post
 at-end s at a post h = omega (arith, ap length h.whole, length-append h.pre (a ++ post), length-append a post, h.place)
 
-pub read-varint : (s : List ℕ) (at v : ℕ) (post : List ℕ) → v < 2 ^ 64 → At s at (minimal v) post → varint_at s at ≡ Value v (at + length (minimal v))
+pub read-varint : (s : List ℕ) (at v : ℕ) (post : List ℕ) → v < 2 ^ 64 → At s at (minimal v) post → varint_at s at ≡ Some (v, (at + length (minimal v)))
 unfolding varint_at minimal placed
 read-varint s at v post h a = rw (at_drop s at (minimal v) post a, varint-digits 9 v post (omega arith), lt-ltb v (2 ^ 64) h)
 

@@ -10,38 +10,27 @@ fn low(v: u64) -> u8
     v as u8
 }
 
-// How many bytes the minimal varint of a number has.
+// How many bytes the minimal varint of a number has: one for each seven bits.
 pub fn varint_len(v: u64) -> usize
     ensures { result ≡ length (minimal v) }
 {
-    let mut n: usize = 1;
-    let mut rest = v;
-    while rest >= 128 {
-        n += 1;
-        rest /= 128;
-    }
-    n
+    v.max(1).ilog2() as usize / 7 + 1
 }
 
 // Writes the minimal varint of a number. What would stand past the end of buf is left out; the answer is the place after it.
 pub fn put_varint(buf: &mut [u8], at: usize, v: u64) -> usize
     ensures { Put buf.old at (minimal v) buf.new result }
 {
-    let mut i = at;
     let mut rest = v;
-    while rest >= 128 {
-        if buf.len() <= i {
-            return i;
+    for i in at..buf.len() {
+        if rest < 128 {
+            buf[i] = low(rest);
+            return i + 1;
         }
         buf[i] = low(rest % 128 + 128);
-        i += 1;
         rest /= 128;
     }
-    if buf.len() <= i {
-        return i;
-    }
-    buf[i] = low(rest);
-    i + 1
+    at.max(buf.len())
 }
 
 // The place after n bytes from a place on in a buffer of size bytes.

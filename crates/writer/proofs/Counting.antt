@@ -23,8 +23,8 @@ use Rattle.pieces.proofs.Pieces.{peer-piece}
 use Rattle.peer.specs.Addresses.{two, addresses_of}
 use Rattle.writer.specs.Writer.{peer_size, peer_at, peers_of}
 use Rattle.writer.specs.Inner.{count_of, entry_bytes, sized, pieces}
-use Rattle.writer.specs.declared.Size.TheVariants.{Is, Over}
 use Rattle.writer.proofs.Entries.{peers-next, peers-last}
+use Rattle.std.specs.Prelude.{Some, None}
 
 -- ---- a list of at most four, element by element
 four-of : (l : List (List ℕ)) → length l ≤ 4 → take (length l) (get_or l 0 [] ∷ get_or l 1 [] ∷ get_or l 2 [] ∷ get_or l 3 [] ∷ []) ≡ l
@@ -99,11 +99,11 @@ unfolding entry_bytes repeated written
 entry-bytes f p l = refl
 
 module _ (f sum : ℕ) (p : Peer) (l : List Peer) where
-  unfit : peer_fits p ≡ false → Over ≡ sized f sum (p ∷ l)
+  unfit : peer_fits p ≡ false → None ≡ sized f sum (p ∷ l)
   unfolding sized all_of every
   unfit e = rw e
 
-  too_much : peer_fits p ≡ true → most_body < sum + length (peer_piece f p) → Over ≡ sized f sum (p ∷ l)
+  too_much : peer_fits p ≡ true → most_body < sum + length (peer_piece f p) → None ≡ sized f sum (p ∷ l)
   unfolding sized all_of
   too_much e h =
       let q = peer-piece f p e in
@@ -117,7 +117,7 @@ module _ (f sum : ℕ) (p : Peer) (l : List Peer) where
       let r : sum + length (entry_bytes f (p ∷ l)) ≡ sum + length (peer_piece f p) + length (entry_bytes f l) = rw (entry-bytes f p l, q) (omega (arith, length-append (written1 (bytes f (encode_peer p))) (entry_bytes f l))) in
       rw (r, e)
 
-sized-none : (f sum : ℕ) → sum ≤ most_body → Is sum ≡ sized f sum []
+sized-none : (f sum : ℕ) → sum ≤ most_body → Some sum ≡ sized f sum []
 unfolding sized all_of every entry_bytes repeated written
 sized-none f sum h = let z : sum + 0 ≡ sum = omega arith in rw (z, le-leb sum most_body h)
 
@@ -131,7 +131,7 @@ pub summing : (f : ℕ) (s : List ℕ) → Summing f s 0 0
 summing f s = record { within = omega arith; few = omega arith; same = refl }
 
 module _ (f : ℕ) (s : List ℕ) (sum at : ℕ) (g : Summing f s sum at) (size : ℕ) (e : size ≡ peer_size (part s at (length s))) where
-  pub sum-end : length s - at < size → Is sum ≡ sized f 0 (peers_of s)
+  pub sum-end : length s - at < size → Some sum ≡ sized f 0 (peers_of s)
   sum-end h = sized-none f sum g.few ∙ rw (← peers-last s at size e h) g.same
 
   module _ (h : size ≤ length s - at) (n : ℕ) (en : n ≡ length (peer_piece f (peer_at (part s at (length s))))) where
@@ -141,14 +141,14 @@ module _ (f : ℕ) (s : List ℕ) (sum at : ℕ) (g : Summing f s sum at) (size 
     next : peers_of (drop at s) ≡ here ∷ peers_of (drop (at + size) s)
     next = peers-next s at size e h
 
-    pub sum-unfit : n ≡ 0 → Over ≡ sized f 0 (peers_of s)
+    pub sum-unfit : n ≡ 0 → None ≡ sized f 0 (peers_of s)
     sum-unfit z = unfit f sum here (peers_of (drop (at + size) s)) (piece-none f here (sym en ∙ z)) ∙ rw (← next) g.same
 
     module _ (nz : n ≡ 0 → ⊥) where
       fit : peer_fits here ≡ true
       fit = piece_is f here (λ q. nz (en ∙ q))
 
-      pub sum_over : most_body - sum < n → Over ≡ sized f 0 (peers_of s)
+      pub sum_over : most_body - sum < n → None ≡ sized f 0 (peers_of s)
       sum_over l = too_much f sum here (peers_of (drop (at + size) s)) fit (omega (arith, g.few)) ∙ rw (← next) g.same
 
       pub sum-on : n ≤ most_body - sum → Summing f s (sum + n) (at + size)
@@ -193,23 +193,23 @@ pieces_are f [] e = unfold entry_bytes repeated written in refl
 pieces_are f (p ∷ l) e = rw (peer-piece f p (every-head peer_fits p l e), entry-bytes f p l) (ap (λ (x : List ℕ). written1 (bytes f (encode_peer p)) ++ x) (pieces_are f l (every-tail peer_fits p l e)))
 
 -- what a size says
-pub sized-is : (f : ℕ) (l : List Peer) (n : ℕ) → sized f 0 l ≡ Is n → (every peer_fits l ≡ true) × (n ≡ length (entry_bytes f l)) × (n ≤ most_body)
+pub sized-is : (f : ℕ) (l : List Peer) (n : ℕ) → sized f 0 l ≡ Some n → (every peer_fits l ≡ true) × (n ≡ length (entry_bytes f l)) × (n ≤ most_body)
 unfolding sized
 sized-is f l n e = go (all_of (every peer_fits l ∷ leb (0 + length (entry_bytes f l)) most_body ∷ [])) refl
   where
     go : (t : Bool) → all_of (every peer_fits l ∷ leb (0 + length (entry_bytes f l)) most_body ∷ []) ≡ t → (every peer_fits l ≡ true) × (n ≡ length (entry_bytes f l)) × (n ≤ most_body)
     go true q =
-        let w : Is (0 + length (entry_bytes f l)) ≡ Is n = rw q at e in
+        let w : Some (0 + length (entry_bytes f l)) ≡ Some n = rw q at e in
         let z : 0 + length (entry_bytes f l) ≡ n = cc in
         let m = leb-true (0 + length (entry_bytes f l)) most_body (all_head _ _ (all_rest _ _ q)) in
         (all_head _ _ q, omega arith, omega (arith, m))
-    go false q = absurd (let w : Over ≡ Is n = rw q at e in let z : ◌≡◌ {A = ℕ} 0 1 = cc in omega arith)
+    go false q = absurd (let w : None ≡ Some n = rw q at e in let z : ◌≡◌ {A = ℕ} 0 1 = cc in omega arith)
 
-pub sized-over : (f : ℕ) (l : List Peer) → sized f 0 l ≡ Over → (every peer_fits l ≡ false) ⊎ (most_body < length (entry_bytes f l))
+pub sized-over : (f : ℕ) (l : List Peer) → sized f 0 l ≡ None → (every peer_fits l ≡ false) ⊎ (most_body < length (entry_bytes f l))
 unfolding sized all_of
 sized-over f l e = go (every peer_fits l) refl (leb (0 + length (entry_bytes f l)) most_body) refl
   where
     go : (t : Bool) → every peer_fits l ≡ t → (u : Bool) → leb (0 + length (entry_bytes f l)) most_body ≡ u → (every peer_fits l ≡ false) ⊎ (most_body < length (entry_bytes f l))
     go false p u q = inl p
     go true p false q = inr (omega (arith, leb-false (0 + length (entry_bytes f l)) most_body q))
-    go true p true q = absurd (let w : Is (0 + length (entry_bytes f l)) ≡ Over = rw (p, q) at e in let z : ◌≡◌ {A = ℕ} 0 1 = cc in omega arith)
+    go true p true q = absurd (let w : Some (0 + length (entry_bytes f l)) ≡ None = rw (p, q) at e in let z : ◌≡◌ {A = ℕ} 0 1 = cc in omega arith)

@@ -4,7 +4,6 @@ use mathlib.Core.Path.{◌≡◌, refl, sym, ap, ◌∙◌}
 use mathlib.Core.Logic.{◌⊎◌, inl, inr, ⊎_elim}
 use mathlib.Core.List.{List, [], ◌++◌}
 use mathlib.Core.Bool.{Bool, true, false, cond}
-use mathlib.Core.Option.{Option, none, some}
 use native.Mathlib.Omega.{arith}
 use lib.ListN.{length, length-append}
 use lib.Dec.{leb}
@@ -22,11 +21,9 @@ use Rattle.pieces.proofs.Pieces.{record-piece}
 use Rattle.pieces.proofs.Sizes.{message-bytes, message-length, held-most}
 use Rattle.writer.specs.Writer.{peers_of, message_with, answer_of, out_after}
 use Rattle.writer.specs.Inner.{entry_bytes, sized, pieces, held_size, held_piece, message_pieces, size_of}
-use Rattle.writer.specs.declared.Size.{Size}
-use Rattle.writer.specs.declared.Size.TheVariants.{Is, Over}
-use Rattle.writer.specs.declared.Written.TheVariants.{Done, Refused}
 use Rattle.writer.proofs.Counting.{sized-is, sized-over, pieces_are}
 use Rattle.pieces.specs.Sizes.{most_record_field}
+use Rattle.std.specs.Prelude.{Ok, Err, Some, None, Option}
 
 -- ---- the key
 pub key-none : (key : List ℕ) → length key ≡ 0 → (0 ≡ length (written (single 2 key))) × (0 ≤ 131)
@@ -52,14 +49,14 @@ module _ (rkey value : List ℕ) where
   R = record_with rkey value
 
   abbrev held_of : Bool → Option Record
-  held_of t = cond t (some R) none
+  held_of t = cond t (Some R) None
 
-  pub held-no : (t : Bool) → t ≡ false → Is 0 ≡ held_size (held_of t)
+  pub held-no : (t : Bool) → t ≡ false → Some 0 ≡ held_size (held_of t)
   unfolding held_size held_fits held_items written
   held-no t e = rw e
 
   module _ (t : Bool) (e : t ≡ true) (n : ℕ) (en : n ≡ length (record_piece R)) where
-    pub held-unfit : n ≡ 0 → Over ≡ held_size (held_of t)
+    pub held-unfit : n ≡ 0 → None ≡ held_size (held_of t)
     unfolding held_size held_fits
     held-unfit z = rw (e, no)
       where
@@ -69,40 +66,40 @@ module _ (rkey value : List ℕ) where
             bad : 0 < length (record_piece R) → ⊥
             bad l = omega arith
 
-    pub held-fit : (n ≡ 0 → ⊥) → Is n ≡ held_size (held_of t)
+    pub held-fit : (n ≡ 0 → ⊥) → Some n ≡ held_size (held_of t)
     unfolding held_size held_fits
-    held-fit nz = rw (e, yes, en) (ap (λ (x : List ℕ). Is (length x)) (record-piece R yes))
+    held-fit nz = rw (e, yes, en) (ap (λ (x : List ℕ). Some (length x)) (record-piece R yes))
       where
         yes : record_fits R ≡ true
         yes = ⊎_elim (λ q. q) (λ q. absurd (nz (en ∙ ap length (record-bytes-none R q)))) (either (record_fits R))
 
-pub held-says : (o : Option Record) (n : ℕ) → held_size o ≡ Is n → (held_fits o ≡ true) × (n ≡ length (written (held_items o))) × (n ≤ most_record_field)
+pub held-says : (o : Option Record) (n : ℕ) → held_size o ≡ Some n → (held_fits o ≡ true) × (n ≡ length (written (held_items o))) × (n ≤ most_record_field)
 unfolding held_size
 held-says o n e = go (held_fits o) refl
   where
     go : (t : Bool) → held_fits o ≡ t → (held_fits o ≡ true) × (n ≡ length (written (held_items o))) × (n ≤ most_record_field)
     go true q =
-        let w : Is (length (written (held_items o))) ≡ Is n = rw q at e in
+        let w : Some (length (written (held_items o))) ≡ Some n = rw q at e in
         let z : length (written (held_items o)) ≡ n = cc in
         (q, sym z, omega (arith, held-most o q))
-    go false q = absurd (let w : Over ≡ Is n = rw q at e in let z : ◌≡◌ {A = ℕ} 0 1 = cc in omega arith)
+    go false q = absurd (let w : None ≡ Some n = rw q at e in let z : ◌≡◌ {A = ℕ} 0 1 = cc in omega arith)
 
-held-over : (o : Option Record) → held_size o ≡ Over → held_fits o ≡ false
+held-over : (o : Option Record) → held_size o ≡ None → held_fits o ≡ false
 unfolding held_size
 held-over o e = go (held_fits o) refl
   where
     go : (t : Bool) → held_fits o ≡ t → held_fits o ≡ false
-    go true q = absurd (let w : Is (length (written (held_items o))) ≡ Over = rw q at e in let z : ◌≡◌ {A = ℕ} 0 1 = cc in omega arith)
+    go true q = absurd (let w : Some (length (written (held_items o))) ≡ None = rw q at e in let z : ◌≡◌ {A = ℕ} 0 1 = cc in omega arith)
     go false q = q
 
 -- ---- the message
 module _ (m : Message) where
   -- what makes a message unwritable
-  no-writable : (writable m ≡ true → ⊥) → Over ≡ size_of m
+  no-writable : (writable m ≡ true → ⊥) → None ≡ size_of m
   unfolding size_of
   no-writable h = rw (to-false (writable m) h)
 
-  yes-writable : writable m ≡ true → Is (length (encode m)) ≡ size_of m
+  yes-writable : writable m ≡ true → Some (length (encode m)) ≡ size_of m
   unfolding size_of
   yes-writable w = rw w
 
@@ -129,31 +126,31 @@ module _ (m : Message) where
   pass t =
       all-one-more _ _ (le-leb _ _ t.kind) (all-one-more _ _ (le-leb _ _ t.key) (all-one-more _ _ t.held (all-one-more _ _ t.closer (all-one-more _ _ t.providers (all-one-more _ _ (le-leb _ _ t.body) all_none)))))
 
-  pub over-kind : most_kind < m.kind → Over ≡ size_of m
+  pub over-kind : most_kind < m.kind → None ≡ size_of m
   over-kind h = no-writable (λ e. omega (arith, (tests e).kind))
 
-  pub over-key : most_key < length m.key → Over ≡ size_of m
+  pub over-key : most_key < length m.key → None ≡ size_of m
   over-key h = no-writable (λ e. omega (arith, (tests e).key))
 
-  pub over-held : held_size m.held ≡ Over → Over ≡ size_of m
+  pub over-held : held_size m.held ≡ None → None ≡ size_of m
   over-held h = no-writable (λ e. not-both (held_fits m.held) (tests e).held (held-over m.held h))
 
-  pub over-closer : sized 8 0 m.closer ≡ Over → Over ≡ size_of m
+  pub over-closer : sized 8 0 m.closer ≡ None → None ≡ size_of m
   over-closer h = no-writable (λ e. go e (sized-over 8 m.closer h))
     where
       go : writable m ≡ true → (every peer_fits m.closer ≡ false) ⊎ (most_body < length (entry_bytes 8 m.closer)) → ⊥
       go e (inl q) = not-both (every peer_fits m.closer) (tests e).closer q
       go e (inr q) = unfold entry_bytes in omega (arith, (tests e).body, message-length m)
 
-  pub over-providers : sized 9 0 m.providers ≡ Over → Over ≡ size_of m
+  pub over-providers : sized 9 0 m.providers ≡ None → None ≡ size_of m
   over-providers h = no-writable (λ e. go e (sized-over 9 m.providers h))
     where
       go : writable m ≡ true → (every peer_fits m.providers ≡ false) ⊎ (most_body < length (entry_bytes 9 m.providers)) → ⊥
       go e (inl q) = not-both (every peer_fits m.providers) (tests e).providers q
       go e (inr q) = unfold entry_bytes in omega (arith, (tests e).body, message-length m)
 
-  module _ (hk : m.kind ≤ most_kind) (hl : length m.key ≤ most_key) (k h a b : ℕ) (ek : k ≡ length (written (single 2 m.key))) (eh : held_size m.held ≡ Is h) (ea : sized 8 0 m.closer ≡ Is a)
-      (eb : sized 9 0 m.providers ≡ Is b) where
+  module _ (hk : m.kind ≤ most_kind) (hl : length m.key ≤ most_key) (k h a b : ℕ) (ek : k ≡ length (written (single 2 m.key))) (eh : held_size m.held ≡ Some h) (ea : sized 8 0 m.closer ≡ Some a)
+      (eb : sized 9 0 m.providers ≡ Some b) where
     sum_is : 2 + k + h + a + b ≡ length (encode m)
     unfolding entry_bytes
     sum_is =
@@ -163,10 +160,10 @@ module _ (m : Message) where
         let two : length (written1 (num 1 m.kind)) ≡ 2 = omega (arith, number-length 1 m.kind (omega arith), minimal-one m.kind (omega arith)) in
         omega (arith, message-length m, p.1, q.1, r.1)
 
-    pub body_is : (z : Size) → z ≡ cond (leb (2 + k + h + a + b) most_body) (Is (2 + k + h + a + b)) Over → z ≡ size_of m
+    pub body_is : (z : Option ℕ) → z ≡ cond (leb (2 + k + h + a + b) most_body) (Some (2 + k + h + a + b)) None → z ≡ size_of m
     body_is z e = e ∙ go (leb (2 + k + h + a + b) most_body) refl
       where
-        go : (t : Bool) → leb (2 + k + h + a + b) most_body ≡ t → cond (leb (2 + k + h + a + b) most_body) (Is (2 + k + h + a + b)) Over ≡ size_of m
+        go : (t : Bool) → leb (2 + k + h + a + b) most_body ≡ t → cond (leb (2 + k + h + a + b) most_body) (Some (2 + k + h + a + b)) None ≡ size_of m
         go true q =
             let w : writable m ≡ true = pass (record { kind = hk; key = hl; held = (held-says m.held h eh).0; closer = (sized-is 8 m.closer a ea).0; providers = (sized-is 9 m.providers b eb).0; body = omega (arith, leb-true (2 + k + h + a + b) most_body q, sum_is) }) in
             rw (q, sum_is) (yes-writable w)
@@ -191,14 +188,14 @@ module _ (kind : ℕ) (key : List ℕ) (held : Bool) (rkey value closer provider
       let t = tests M e in
       rw (held_bytes t.held, pieces_are 8 (peers_of closer) t.closer, pieces_are 9 (peers_of providers) t.providers) (sym (message-bytes M))
 
-  module _ (n : ℕ) (e : size_of M ≡ Is n) where
+  module _ (n : ℕ) (e : size_of M ≡ Some n) where
     size-says : (writable M ≡ true) × (n ≡ length (encode M))
     unfolding size_of
     size-says = go (writable M) refl
       where
         go : (t : Bool) → writable M ≡ t → (writable M ≡ true) × (n ≡ length (encode M))
-        go true q = let w : Is (length (encode M)) ≡ Is n = rw q at e in let z : length (encode M) ≡ n = cc in (q, sym z)
-        go false q = absurd (let w : Over ≡ Is n = rw q at e in let z : ◌≡◌ {A = ℕ} 0 1 = cc in omega arith)
+        go true q = let w : Some (length (encode M)) ≡ Some n = rw q at e in let z : length (encode M) ≡ n = cc in (q, sym z)
+        go false q = absurd (let w : None ≡ Some n = rw q at e in let z : ◌≡◌ {A = ℕ} 0 1 = cc in omega arith)
 
     framed : minimal n ++ message_pieces kind key held rkey value closer providers ≡ frame (encode M)
     unfolding frame
@@ -211,7 +208,7 @@ module _ (kind : ℕ) (key : List ℕ) (held : Bool) (rkey value closer provider
         omega (arith, length-append (minimal (length (encode M))) (encode M), minimal-three (length (encode M)) (omega arith))
 
     pub write_done : (out out₁ : List ℕ) (r : ℕ) → least_reply ≤ length out → Put out 0 (minimal n ++ message_pieces kind key held rkey value closer providers) out₁ r
-        → (Done r ≡ answer_of out M) × (out₁ ≡ out_after out M)
+        → (Ok r ≡ answer_of out M) × (out₁ ≡ out_after out M)
     unfolding answer_of out_after
     write_done out out₁ r h p =
         let q : Put out 0 (frame (encode M)) out₁ r = put_is out 0 _ (frame (encode M)) out₁ r framed p in
@@ -219,7 +216,7 @@ module _ (kind : ℕ) (key : List ℕ) (held : Bool) (rkey value closer provider
         let y : r ≡ length (frame (encode M)) = omega arith in
         (rw (le-ltb (length out) least_reply h, size-says.0, y), q.same ∙ rw (le-ltb (length out) least_reply h, size-says.0))
 
-  pub write-over : (out : List ℕ) → least_reply ≤ length out → size_of M ≡ Over → (Refused Unwritable ≡ answer_of out M) × (out ≡ out_after out M)
+  pub write-over : (out : List ℕ) → least_reply ≤ length out → size_of M ≡ None → (Err Unwritable ≡ answer_of out M) × (out ≡ out_after out M)
   unfolding answer_of out_after
   write-over out h e = (rw (le-ltb (length out) least_reply h, no), rw (le-ltb (length out) least_reply h, no))
     where
@@ -227,9 +224,9 @@ module _ (kind : ℕ) (key : List ℕ) (held : Bool) (rkey value closer provider
       no = to-false (writable M) (λ q. bad q)
         where
           bad : writable M ≡ true → ⊥
-          bad q = unfold size_of in (let w : Is (length (encode M)) ≡ Over = rw q at e in let z : ◌≡◌ {A = ℕ} 0 1 = cc in omega arith)
+          bad q = unfold size_of in (let w : Some (length (encode M)) ≡ None = rw q at e in let z : ◌≡◌ {A = ℕ} 0 1 = cc in omega arith)
 
-  pub write-small : (out : List ℕ) → length out < least_reply → (Refused SmallBuffer ≡ answer_of out M) × (out ≡ out_after out M)
+  pub write-small : (out : List ℕ) → length out < least_reply → (Err SmallBuffer ≡ answer_of out M) × (out ≡ out_after out M)
   unfolding answer_of out_after
   write-small out h = (rw (lt-ltb (length out) least_reply h), rw (lt-ltb (length out) least_reply h))
 
@@ -254,23 +251,23 @@ module _ (kind : ℕ) (key : List ℕ) (held : Bool) (rkey value closer provider
   abbrev N : Message
   N = message_with kind key held rkey value closer providers
 
-  pub body-kind : most_kind < kind → Over ≡ size_of N
+  pub body-kind : most_kind < kind → None ≡ size_of N
   body-kind h = over-kind N (unfold message_with in h)
 
-  pub body-key : most_key < length key → Over ≡ size_of N
+  pub body-key : most_key < length key → None ≡ size_of N
   body-key h = over-key N (unfold message_with in h)
 
-  pub body-held : held_size (held_of rkey value held) ≡ Over → Over ≡ size_of N
+  pub body-held : held_size (held_of rkey value held) ≡ None → None ≡ size_of N
   body-held h = over-held N (unfold message_with in h)
 
-  pub body-closer : sized 8 0 (peers_of closer) ≡ Over → Over ≡ size_of N
+  pub body-closer : sized 8 0 (peers_of closer) ≡ None → None ≡ size_of N
   body-closer h = over-closer N (unfold message_with in h)
 
-  pub body-providers : sized 9 0 (peers_of providers) ≡ Over → Over ≡ size_of N
+  pub body-providers : sized 9 0 (peers_of providers) ≡ None → None ≡ size_of N
   body-providers h = over-providers N (unfold message_with in h)
 
-  pub body-whole : kind ≤ most_kind → length key ≤ most_key → (k h a b : ℕ) → k ≡ length (written (single 2 key)) → held_size (held_of rkey value held) ≡ Is h → sized 8 0 (peers_of closer) ≡ Is a → sized 9 0 (peers_of providers) ≡ Is b
-      → (z : Size) → z ≡ cond (leb (2 + k + h + a + b) most_body) (Is (2 + k + h + a + b)) Over → z ≡ size_of N
+  pub body-whole : kind ≤ most_kind → length key ≤ most_key → (k h a b : ℕ) → k ≡ length (written (single 2 key)) → held_size (held_of rkey value held) ≡ Some h → sized 8 0 (peers_of closer) ≡ Some a → sized 9 0 (peers_of providers) ≡ Some b
+      → (z : Option ℕ) → z ≡ cond (leb (2 + k + h + a + b) most_body) (Some (2 + k + h + a + b)) None → z ≡ size_of N
   body-whole hk hl k h a b ek eh ea eb z e =
       body_is N (unfold message_with in hk) (unfold message_with in hl) k h a b (unfold message_with in ek) (unfold message_with in eh) (unfold message_with in ea) (unfold message_with in eb) z e
 

@@ -1,6 +1,5 @@
 -- The writer as an entry point: RULES, Messages, refusals 1 and 21.
 use Rattle.std.specs.Prelude.{ℕ, zero, suc, ◌+◌, ◌*◌, List, [], ◌∷◌, Bool, cond, not, length, get_or, drop, leb, ltb}
-use Rattle.std.proofs.Math.Option.{Option, none, some}
 use Rattle.std.proofs.lemmas.List.Edits.{sets}
 use Rattle.octets.specs.Octets.{part}
 use Rattle.limits.specs.Limits.{least_reply}
@@ -8,8 +7,8 @@ use Rattle.refusal.specs.declared.Refusal.TheVariants.{SmallBuffer, Unwritable}
 use Rattle.message.specs.Message.{Peer, Message, encode, frame}
 use Rattle.peer.specs.Addresses.{two, entries, addresses_of}
 use Rattle.pieces.specs.Writable.{record_with, writable}
-use Rattle.writer.specs.declared.Written.{Written}
-use Rattle.writer.specs.declared.Written.TheVariants.{Done, Refused}
+use Rattle.std.specs.Prelude.{Ok, Err, Some, None, Result}
+use Rattle.refusal.specs.declared.Refusal.{Refusal}
 
 -- ---- peers and addresses as byte strings
 
@@ -36,17 +35,17 @@ message_with kind key held rkey value closer providers =
     record {
       kind = kind;
       key = key;
-      held = cond held (some (record_with rkey value)) none;
+      held = cond held (Some (record_with rkey value)) None;
       closer = peers_of closer;
       providers = peers_of providers;
     }
 
 -- the answer: 1, then 21, else how many bytes were written
-unfoldable pub answer_of : List ℕ → Message → Written
+unfoldable pub answer_of : List ℕ → Message → Result ℕ Refusal
 answer_of out m =
-    cond (ltb (length out) least_reply) (Refused SmallBuffer)
-    (cond (not (writable m)) (Refused Unwritable)
-    (Done (length (frame (encode m)))))
+    cond (ltb (length out) least_reply) (Err SmallBuffer)
+    (cond (not (writable m)) (Err Unwritable)
+    (Ok (length (frame (encode m)))))
 
 -- the buffer afterwards: the message with its length prefix from the start on, or nothing changed
 unfoldable pub out_after : List ℕ → Message → List ℕ

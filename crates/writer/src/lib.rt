@@ -3,7 +3,6 @@
 ghost use Rattle.std.specs.Prelude.{◌≡◌, true, false, [], ◌+◌, ◌-◌, ◌*◌, ◌≤◌, ◌<◌, length, get_or, leb, ◌++◌, cond};
 ghost use Rattle.limits.specs.Limits.{most_key, most_body};
 ghost use Rattle.wire.specs.Items.{minimal, written, single, Put};
-ghost use Rattle.std.proofs.Math.Option.{none, some};
 ghost use Rattle.message.specs.Message.{encode, frame};
 ghost use Rattle.pieces.specs.Writable.{peer_piece, record_with, writable};
 ghost use Rattle.peer.specs.Addresses.{two, address_size, addresses_of};
@@ -16,20 +15,6 @@ use refusal::Refusal;
 const CLOSER: u8 = 8;
 
 const PROVIDER: u8 = 9;
-
-#[derive(Drop)]
-pub enum Written {
-    // The message was written: how many bytes it has with its prefix.
-    Done(usize),
-    Refused(Refusal),
-}
-
-// How many bytes something has, if it may be written.
-#[derive(Drop)]
-pub enum Size {
-    Is(usize),
-    Over,
-}
 
 // A byte of a slice, 0 past its end.
 fn byte_at(s: &[u8], at: usize) -> usize
@@ -60,34 +45,30 @@ fn address_size(s: &[u8]) -> usize
 fn address_count(list: &[u8]) -> usize
     ensures { result ≡ count_of (addresses_of list.now) }
 {
-    let mut n: usize = 0;
     let mut at: usize = 0;
-    while n < 5 {
+    for n in 0..5 {
         let rest = &list[at..];
         let size = address_size(rest);
         if rest.len() < size {
             return n;
         }
         at += size;
-        n += 1;
     }
-    n
+    5
 }
 
 // The address of place k of a list; an empty one where there are no more.
 fn address_at(list: &[u8], k: usize) -> &[u8]
     ensures { result.now ≡ get_or (addresses_of list.now) k [] }
 {
-    let mut i: usize = 0;
     let mut at: usize = 0;
-    while i < k {
+    for i in 0..k {
         let rest = &list[at..];
         let size = address_size(rest);
         if rest.len() < size {
             return &list[0..0];
         }
         at += size;
-        i += 1;
     }
     first_address(&list[at..])
 }
@@ -166,7 +147,7 @@ fn put_entry(buf: &mut [u8], at: usize, field: u8, s: &[u8]) -> usize
 }
 
 // How many bytes the peers of a list take as field f.
-fn list_len(field: u8, s: &[u8]) -> Size
+fn list_len(field: u8, s: &[u8]) -> Option<usize>
     ensures { result ≡ sized field 0 (peers_of s.now) }
 {
     let mut sum: usize = 0;
@@ -175,14 +156,14 @@ fn list_len(field: u8, s: &[u8]) -> Size
         let rest = &s[at..];
         let size = entry_size(rest);
         if rest.len() < size {
-            return Size::Is(sum);
+            return Some(sum);
         }
         let n = entry_len(field, rest);
         if n == 0 {
-            return Size::Over;
+            return None;
         }
         if limits::MOST_BODY - sum < n {
-            return Size::Over;
+            return None;
         }
         sum += n;
         at += size;
@@ -218,29 +199,29 @@ fn key_len(key: &[u8]) -> usize
 }
 
 // How many bytes the record has as a field, if there is one.
-fn held_len(held: bool, rkey: &[u8], value: &[u8]) -> Size
-    ensures { result ≡ held_size (cond held (some (record_with rkey.now value.now)) none) }
+fn held_len(held: bool, rkey: &[u8], value: &[u8]) -> Option<usize>
+    ensures { result ≡ held_size (cond held (Some (record_with rkey.now value.now)) None) }
 {
     if held {
         let n = pieces::record_len(rkey, value);
         if n == 0 {
-            return Size::Over;
+            return None;
         }
-        return Size::Is(n);
+        return Some(n);
     }
-    Size::Is(0)
+    Some(0)
 }
 
 // The size of a body from those of its parts, if it may be written.
-fn total(key: usize, held: usize, closer: usize, providers: usize) -> Size
+fn total(key: usize, held: usize, closer: usize, providers: usize) -> Option<usize>
     requires { (key ≤ long_field most_key) × (held ≤ most_record_field) × (closer ≤ most_body) × (providers ≤ most_body) }
-    ensures { result ≡ cond (leb (2 + key + held + closer + providers) most_body) (Size.Is (2 + key + held + closer + providers)) Size.Over }
+    ensures { result ≡ cond (leb (2 + key + held + closer + providers) most_body) (Some (2 + key + held + closer + providers)) None }
 {
     let n = 2 + key + held + closer + providers;
     if n <= limits::MOST_BODY {
-        return Size::Is(n);
+        return Some(n);
     }
-    Size::Over
+    None
 }
 
 // How many bytes the body of a message has, if it may be written.
@@ -252,24 +233,18 @@ fn body_len(
     value: &[u8],
     closer: &[u8],
     providers: &[u8],
-) -> Size
+) -> Option<usize>
     ensures { result ≡ size_of (message_with kind key.now held rkey.now value.now closer.now providers.now) }
 {
     if limits::MOST_KIND < kind {
-        return Size::Over;
+        return None;
     }
     if limits::MOST_KEY < key.len() {
-        return Size::Over;
+        return None;
     }
-    let Size::Is(h) = held_len(held, rkey, value) else {
-        return Size::Over;
-    };
-    let Size::Is(a) = list_len(CLOSER, closer) else {
-        return Size::Over;
-    };
-    let Size::Is(b) = list_len(PROVIDER, providers) else {
-        return Size::Over;
-    };
+    let h = held_len(held, rkey, value)?;
+    let a = list_len(CLOSER, closer)?;
+    let b = list_len(PROVIDER, providers)?;
     total(key_len(key), h, a, b)
 }
 
@@ -314,15 +289,15 @@ pub fn write(
     value: &[u8],
     closer: &[u8],
     providers: &[u8],
-) -> Written
+) -> Result<usize, Refusal>
     ensures { (result ≡ answer_of out.old (message_with kind key.now held rkey.now value.now closer.now providers.now)) × (out.new ≡ out_after out.old (message_with kind key.now held rkey.now value.now closer.now providers.now)) }
 {
     if out.len() < limits::LEAST_REPLY {
-        return Written::Refused(Refusal::SmallBuffer);
+        return Err(Refusal::SmallBuffer);
     }
-    let Size::Is(n) = body_len(kind, key, held, rkey, value, closer, providers) else {
-        return Written::Refused(Refusal::Unwritable);
+    let Some(n) = body_len(kind, key, held, rkey, value, closer, providers) else {
+        return Err(Refusal::Unwritable);
     };
     let end = put_message(out, n, kind, key, held, rkey, value, closer, providers);
-    Written::Done(end)
+    Ok(end)
 }

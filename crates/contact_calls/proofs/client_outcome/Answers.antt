@@ -8,6 +8,6 @@ pub returns-then-fit : goal.returns-then-fit
 unfolding client_outcome
 returns-then-fit c = sym (cond_yes c.args.fit _ _ c.if-fit.true)
 
-pub returns : goal.returns
+pub returns-else-fit : goal.returns-else-fit
 unfolding client_outcome
-returns c = sym (cond_no c.args.fit _ _ c.if-fit.false)
+returns-else-fit c = sym (cond_no c.args.fit _ _ c.if-fit.false)

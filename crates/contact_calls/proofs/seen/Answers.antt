@@ -1,18 +1,16 @@
 -- `contact_calls::seen` meets its contract. Assumes nothing.
 use mathlib.Core.Path.{sym, ◌∙◌}
-use borrow.Author.Tests.{not-true, not-false}
-use Rattle.contact_calls.proofs.Outcomes.{seen-form, seen-bad, seen-client, seen-taken}
-use borrow.Author.Rules.{rules}
+use Rattle.std.proofs.lemmas.Result.{err_from_is_err_and}
+use Rattle.contact_calls.proofs.Outcomes.{seen-bad, seen-client, seen-taken}
 use Rattle.contact_calls.proofs.seen.Goals as goal
 
-pub returns-then-not-in_form : goal.returns-then-not-in_form
-returns-then-not-in_form c = seen-form c.args.table.now c.args.ours.now c.args.id.now c.args.client c.args.addresses.now (sym c.in_form.ensures ∙ c.if-not-in_form.true)
-
-pub returns-then-judged : goal.returns-then-judged
-returns-then-judged c = seen-bad c.args.table.now c.args.ours.now c.args.id.now c.args.client c.args.addresses.now (sym c.in_form.ensures ∙ c.if-not-in_form.false) _ c.judge-judged.ensures c.if-judged.true
+pub returns-in_err-place : goal.returns-in_err-place
+returns-in_err-place c =
+    let p = err_from_is_err_and c.from_residual.result c.from_residual.ensures.1 in
+    rw (p.1, p.2) (seen-bad c.args.table.now c.args.ours.now c.args.id.now c.args.client c.args.addresses.now _ (sym c.admit.ensures ∙ c.in_err-place.was))
 
 pub returns-then-client : goal.returns-then-client
-returns-then-client c = seen-client c.args.table.now c.args.ours.now c.args.id.now c.args.client c.args.addresses.now (sym c.in_form.ensures ∙ c.if-not-in_form.false) _ c.judge-judged.ensures c.if-judged.false c.if-client.true
+returns-then-client c = seen-client c.args.table.now c.args.ours.now c.args.id.now c.args.client c.args.addresses.now _ (sym c.admit.ensures ∙ c.in_ok-place.was) c.if-client.true
 
 pub returns : goal.returns
-returns c = seen-taken c.args.table.now c.args.ours.now c.args.id.now c.args.client c.args.addresses.now (sym c.in_form.ensures ∙ c.if-not-in_form.false) _ c.judge-judged.ensures c.if-judged.false c.if-client.false _ _ _ c.peer_of.ensures c.seen.ensures
+returns c = seen-taken c.args.table.now c.args.ours.now c.args.id.now c.args.client c.args.addresses.now _ (sym c.admit.ensures ∙ c.in_ok-place.was) c.if-client.false _ _ _ c.peer_of.ensures c.seen.ensures

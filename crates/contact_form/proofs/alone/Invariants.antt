@@ -12,6 +12,3 @@ use Rattle.contact_form.proofs.alone.Given as goal
 
 abbrev pub invariant-loop-d : goal.invariant-loop-d
 invariant-loop-d l = (l.d ≤ l.m) × (all l.d (other_before l.table l.mine l.at l.k) ≡ true)
-
-abbrev pub decreases-loop-d : goal.decreases-loop-d
-decreases-loop-d l = l.m - l.d

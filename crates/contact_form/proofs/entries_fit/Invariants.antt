@@ -11,6 +11,3 @@ use Rattle.contact_form.proofs.entries_fit.Given as goal
 
 abbrev pub invariant-loop-k : goal.invariant-loop-k
 invariant-loop-k l = (l.k ≤ 5120) × (all l.k (entry_fits l.table l.at) ≡ true)
-
-abbrev pub decreases-loop-k : goal.decreases-loop-k
-decreases-loop-k l = 5120 - l.k

@@ -10,6 +10,3 @@ use Rattle.contact_order.proofs.held_at.Given as goal
 
 abbrev pub invariant-loop-i : goal.invariant-loop-i
 invariant-loop-i l = (l.i ≤ l.n) × ((j : ℕ) → j < l.i → is_at l.p (slot l.table j) ≡ false)
-
-abbrev pub decreases-loop-i : goal.decreases-loop-i
-decreases-loop-i l = l.n - l.i

@@ -10,6 +10,3 @@ use Rattle.contact_order.proofs.tail_of.Given as goal
 
 abbrev pub invariant-loop-i : goal.invariant-loop-i
 invariant-loop-i l = (l.i ≤ l.n) × (l.top ≡ largest l.i (λ (j : ℕ). mark_in l.ours l.b (slot l.table j)))
-
-abbrev pub decreases-loop-i : goal.decreases-loop-i
-decreases-loop-i l = l.n - l.i

@@ -11,6 +11,3 @@ invariant-loop-i l = record {
   laid : l.room ≡ laid_to l.i l.t l.initial.room;
   size : length (table_bytes (take l.i l.t)) ≡ l.i * slot_size;
 }
-
-abbrev pub decreases-loop-i : goal.decreases-loop-i
-decreases-loop-i l = l.n - l.i

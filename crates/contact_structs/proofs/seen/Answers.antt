@@ -1,16 +1,16 @@
 -- `seen` meets its contract: the contacts are laid out in the room, the core works on their bytes there, and they are taken from the room.
 use Rattle.std.proofs.Common.{ℕ, List}
 use Rattle.refusal.specs.declared.Refusal.TheVariants.{OutOfForm}
-use Rattle.sightings.specs.declared.Sighting.TheVariants.{Refused}
 use Rattle.host_calls.specs.Hosts.{seen_of, seen_after}
 use Rattle.contact_slots.specs.Slots.{seen_in}
 use Rattle.contact_structs.specs.Structs.{seen_on}
 use Rattle.contact_structs.proofs.Calls.{all_after}
 use Rattle.contact_structs.proofs.seen.Goals as goal
+use Rattle.std.specs.Prelude.{Err}
 
 pub returns : goal.returns
 unfolding seen_on seen_in
 returns c =
     all_after c.args.t.now c.args.room.now c.pack.new.room c.pack.ensures.1 c.pack.auto.room c.pack.ensures.0
     (λ (s : List ℕ). seen_after c.args.me s c.args.id.now c.args.client c.args.addresses.now) c.seen_in-r.new.room c.seen_in-r.auto.room c.seen_in-r.ensures.1
-    (λ (s : List ℕ). seen_of c.args.me s c.args.id.now c.args.client c.args.addresses.now) (Refused OutOfForm) c.unpack.new.t c.seen_in-r.result c.seen_in-r.ensures.0 c.unpack.ensures
+    (λ (s : List ℕ). seen_of c.args.me s c.args.id.now c.args.client c.args.addresses.now) (Err OutOfForm) c.unpack.new.t c.seen_in-r.result c.seen_in-r.ensures.0 c.unpack.ensures

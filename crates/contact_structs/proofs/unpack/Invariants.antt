@@ -8,6 +8,3 @@ invariant-loop-i l = record {
   within : l.i ≤ length l.initial.t;
   taken : l.t ≡ taken_to l.i l.initial.t l.room;
 }
-
-abbrev pub decreases-loop-i : goal.decreases-loop-i
-decreases-loop-i l = l.n - l.i

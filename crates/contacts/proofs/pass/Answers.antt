@@ -28,9 +28,6 @@ keep-n-requires c = record {
   list = c.loop-k.invariant.2;
 }
 
-pub overflow_add-k : goal.overflow_add-k
-overflow_add-k c = omega (arith, c.slots-end.ensures, slots-most c.args.table.now)
-
 turn : (c : Joined-shown_at)
     → (c.if-shown_at.n ≡ length (kept c.args.table.now c.args.target.now (c.loop-k.k + 1)))
     × (c.if-shown_at.at ≡ filled (kept c.args.table.now c.args.target.now (c.loop-k.k + 1)))

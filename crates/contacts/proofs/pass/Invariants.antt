@@ -14,6 +14,3 @@ use Rattle.contacts.proofs.pass.Given as goal
 
 abbrev pub invariant-loop-k : goal.invariant-loop-k
 invariant-loop-k l = (l.k ≤ l.end) × (l.n ≡ length (kept l.table l.target l.k)) × (l.at ≡ filled (kept l.table l.target l.k))
-
-abbrev pub decreases-loop-k : goal.decreases-loop-k
-decreases-loop-k l = l.end - l.k

@@ -10,6 +10,3 @@ use Rattle.contacts.proofs.put.Given as goal
 
 abbrev pub invariant-loop-i : goal.invariant-loop-i
 invariant-loop-i l = (l.p ≤ l.i) × (l.i ≤ 20) × (l.at ≡ take l.i (take l.p l.initial.at ++ l.k ∷ drop l.p l.initial.at) ++ drop l.i l.initial.at) × (l.x ≡ get_or (take l.p l.initial.at ++ l.k ∷ drop l.p l.initial.at) l.i 0)
-
-abbrev pub decreases-loop-i : goal.decreases-loop-i
-decreases-loop-i l = 20 - l.i

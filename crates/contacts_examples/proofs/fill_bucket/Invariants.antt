@@ -6,6 +6,3 @@ use Rattle.contacts_examples.proofs.fill_bucket.Given as goal
 
 abbrev pub invariant-loop-id : goal.invariant-loop-id
 invariant-loop-id l = (l.id ≤ 200) × (length l.table ≡ length l.initial.table)
-
-abbrev pub decreases-loop-id : goal.decreases-loop-id
-decreases-loop-id l = 200 - l.id

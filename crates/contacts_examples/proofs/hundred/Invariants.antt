@@ -6,6 +6,3 @@ use Rattle.contacts_examples.proofs.hundred.Given as goal
 
 abbrev pub invariant-loop-i : goal.invariant-loop-i
 invariant-loop-i l = (l.i ≤ 100) × (length l.table ≡ length l.initial.table) × (length l.out ≡ 100)
-
-abbrev pub decreases-loop-i : goal.decreases-loop-i
-decreases-loop-i l = 100 - l.i

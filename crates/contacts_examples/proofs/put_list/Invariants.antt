@@ -6,6 +6,3 @@ use Rattle.contacts_examples.proofs.put_list.Given as goal
 
 abbrev pub invariant-loop-k : goal.invariant-loop-k
 invariant-loop-k l = (l.at ≤ 142 * l.k) × (l.k ≤ l.n) × (l.n < 6) × (length l.buf ≡ length l.initial.buf)
-
-abbrev pub decreases-loop-k : goal.decreases-loop-k
-decreases-loop-k l = l.n - l.k

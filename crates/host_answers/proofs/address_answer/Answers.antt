@@ -5,5 +5,5 @@ use mathlib.Core.Path.{refl}
 use borrow.Author.Rules.{rules}
 use Rattle.host_answers.proofs.address_answer.Goals as goal
 
-pub returns-in-At : goal.returns-in-At
-returns-in-At c = (by-case part_number _ _ _ c.in-At.is refl, by-case (address_numbers _) _ _ _ c.in-At.is c.put_numbers.ensures)
+pub returns-in-Some : goal.returns-in-Some
+returns-in-Some c = (by-case part_number _ _ _ c.in-Some.is refl, by-case (address_numbers _) _ _ _ c.in-Some.is c.put_numbers.ensures)

@@ -5,8 +5,8 @@ use mathlib.Core.Path.{refl}
 use borrow.Author.Rules.{rules}
 use Rattle.host_answers.proofs.read_answer.Goals as goal
 
-pub returns-in-Whole : goal.returns-in-Whole
-returns-in-Whole c = (by-case read_number _ _ _ c.in-Whole.is refl, by-case (read_numbers _) _ _ _ c.in-Whole.is c.put_view.ensures)
+pub returns-in-Ok : goal.returns-in-Ok
+returns-in-Ok c = (by-case read_number _ _ _ c.in-Ok.is refl, by-case (read_numbers _) _ _ _ c.in-Ok.is c.put_view.ensures)
 
-pub returns-in-Refused : goal.returns-in-Refused
-returns-in-Refused c = (by-case read_number _ _ _ c.in-Refused.is c.code_of.ensures, by-case (read_numbers _) _ _ _ c.in-Refused.is refl)
+pub returns-in-Err : goal.returns-in-Err
+returns-in-Err c = (by-case read_number _ _ _ c.in-Err.is c.code_of.ensures, by-case (read_numbers _) _ _ _ c.in-Err.is refl)

@@ -5,8 +5,8 @@ use mathlib.Core.Path.{refl}
 use borrow.Author.Rules.{rules}
 use Rattle.host_answers.proofs.recipe_read_answer.Goals as goal
 
-pub returns-in-Recipe : goal.returns-in-Recipe
-returns-in-Recipe c = (by-case spans_number _ _ _ c.in-Recipe.is refl, by-case (spans_numbers _) _ _ _ c.in-Recipe.is c.put_numbers.ensures)
+pub returns-in-Ok : goal.returns-in-Ok
+returns-in-Ok c = (by-case spans_number _ _ _ c.in-Ok.is refl, by-case (spans_numbers _) _ _ _ c.in-Ok.is c.put_numbers.ensures)
 
-pub returns-in-Refused : goal.returns-in-Refused
-returns-in-Refused c = (by-case spans_number _ _ _ c.in-Refused.is c.broken_recipe.ensures.0, by-case (spans_numbers _) _ _ _ c.in-Refused.is c.broken_recipe.ensures.1)
+pub returns-in-Err : goal.returns-in-Err
+returns-in-Err c = (by-case spans_number _ _ _ c.in-Err.is c.broken_recipe.ensures.0, by-case (spans_numbers _) _ _ _ c.in-Err.is c.broken_recipe.ensures.1)

@@ -5,8 +5,8 @@ use mathlib.Core.Path.{refl}
 use borrow.Author.Rules.{rules}
 use Rattle.host_answers.proofs.write_answer.Goals as goal
 
-pub returns-in-Done : goal.returns-in-Done
-returns-in-Done c = (by-case write_number _ _ _ c.in-Done.is refl, by-case (write_numbers _) _ _ _ c.in-Done.is c.put_number.ensures)
+pub returns-in-Ok : goal.returns-in-Ok
+returns-in-Ok c = (by-case write_number _ _ _ c.in-Ok.is refl, by-case (write_numbers _) _ _ _ c.in-Ok.is c.put_number.ensures)
 
-pub returns-in-Refused : goal.returns-in-Refused
-returns-in-Refused c = (by-case write_number _ _ _ c.in-Refused.is c.code_of.ensures, by-case (write_numbers _) _ _ _ c.in-Refused.is refl)
+pub returns-in-Err : goal.returns-in-Err
+returns-in-Err c = (by-case write_number _ _ _ c.in-Err.is c.code_of.ensures, by-case (write_numbers _) _ _ _ c.in-Err.is refl)

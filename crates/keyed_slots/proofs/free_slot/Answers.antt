@@ -1,8 +1,5 @@
 use native.Mathlib.Omega.{arith}
-use borrow.Author.Rules.{rules}
-use mathlib.Core.Path.{◌≡◌, ◌∙◌}
-use mathlib.Core.Bool.{false}
-use Prim.Native.Nat.{ℕ, ◌≤◌, ◌<◌, ◌-◌}
+use mathlib.Core.Path.{◌∙◌}
 use Rattle.octets.proofs.Searching.{first-hit, first-miss}
 use Rattle.keyed_slots.specs.Slots.{slots_of, is_free, free_slot}
 use Rattle.keyed_slots.proofs.Laying.{free-yes, free-no}
@@ -21,9 +18,6 @@ bounds-s-0 c = omega (arith, c.slot_at-s.ensures.1)
 pub returns-then-s-lt1 : goal.returns-then-s-lt1
 unfolding free_slot
 returns-then-s-lt1 c = first-hit (is_free c.args.size c.args.store.now) (slots_of c.args.size c.args.store.now) c.loop-i.i (omega (arith, c.slots-n.ensures)) c.loop-i.invariant.1 (free-yes c.args.size c.args.store.now c.loop-i.i c.slot_at-s.ensures.0 (omega arith))
-
-pub overflow_add-i : goal.overflow_add-i
-overflow_add-i c = omega (arith, c.slots-n.ensures)
 
 pub loop-i-preserved : goal.loop-i-preserved
 loop-i-preserved c = (omega arith, none_more (is_free c.args.size c.args.store.now) c.loop-i.i c.loop-i.invariant.1 (free-no c.args.size c.args.store.now c.loop-i.i c.slot_at-s.ensures.0 (omega arith)))

@@ -1,6 +1,5 @@
 -- `key_of` cuts out as many bytes as byte 0 says, or as many as the slot has.
 use native.Mathlib.Omega.{arith}
-use borrow.Author.Rules.{rules}
 use Rattle.keyed_slots.proofs.Laying.{key-none, key-short, key-cut}
 use Rattle.keyed_slots.proofs.key_of.Goals as goal
 

@@ -1,12 +1,10 @@
 use native.Mathlib.Omega.{arith}
-use borrow.Author.Rules.{rules}
 use mathlib.Core.Path.{◌≡◌, refl, sym, subst}
 use mathlib.Core.Bool.{true}
-use Prim.Native.Nat.{ℕ, ◌≤◌, ◌-◌}
+use Prim.Native.Nat.{ℕ}
 use Rattle.octets.specs.Search.{all}
 use Rattle.octets.proofs.Searching.{all-zero, all_more, all-fails}
 use Rattle.keyed_slots.specs.Slots.{slots_of, alone, keys_apart}
-use Rattle.keyed_slots.specs.Inner.{Ordered}
 use Rattle.keyed_slots.proofs.Ordering.{ordered}
 use Rattle.keyed_slots.proofs.keys_apart.Goals as goal
 
@@ -22,9 +20,6 @@ settle-held-requires c = (omega (arith, c.slots-n.ensures), c.loop-i.invariant.2
 pub returns-then-held-gt-MOST_RECORDS : goal.returns-then-held-gt-MOST_RECORDS
 unfolding keys_apart
 returns-then-held-gt-MOST_RECORDS c = sym (all-fails (alone c.args.size c.args.store.now) (slots_of c.args.size c.args.store.now) c.loop-i.i (omega (arith, c.slots-n.ensures)) (c.settle-held.ensures.unfit (omega arith)))
-
-pub overflow_add-i : goal.overflow_add-i
-overflow_add-i c = omega (arith, c.slots-n.ensures)
 
 pub loop-i-preserved : goal.loop-i-preserved
 loop-i-preserved c = (omega arith, all_more (alone c.args.size c.args.store.now) c.loop-i.i c.loop-i.invariant.1 (c.settle-held.ensures.fit (omega arith)).0, (c.settle-held.ensures.fit (omega arith)).1)

@@ -1,11 +1,10 @@
 use native.Mathlib.Omega.{arith}
-use borrow.Author.Rules.{rules}
 use mathlib.Core.Path.{sym, ap, ◌∙◌}
 use mathlib.Core.List.{List}
 use Prim.Native.Nat.{ℕ, ◌+◌, ◌-◌, ◌/◌}
 use Rattle.octets.specs.Octets.{lower}
 use Rattle.keyed_slots.specs.Slots.{key_of}
-use Rattle.keyed_slots.proofs.Ordering.{Halving, halving, half-low, half_high, halved}
+use Rattle.keyed_slots.proofs.Ordering.{halving, half-low, half_high, halved}
 use Rattle.keyed_slots.proofs.place_for.Goals as goal
 
 pub loop-lo-init : goal.loop-lo-init

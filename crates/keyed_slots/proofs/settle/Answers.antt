@@ -1,6 +1,5 @@
 -- `settle`: a free slot, one whose key stands already, and one that is put in its place.
 use native.Mathlib.Omega.{arith}
-use borrow.Author.Rules.{rules}
 use Rattle.keyed_slots.proofs.Laying.{slots-most}
 use Rattle.keyed_slots.proofs.Ordering.{settle-free, settle-twice, settle-new}
 use Rattle.keyed_slots.proofs.settle.Goals as goal

@@ -4,7 +4,6 @@ use mathlib.Core.Path.{◌≡◌, ap}
 use lib.ListN.{length}
 use Rattle.keyed_slots.specs.Slots.{slot}
 use Rattle.keyed_slots.proofs.Laying.{slot-in, slot-some, slot-long, slot-cut}
-use borrow.Author.Rules.{rules}
 use Rattle.keyed_slots.proofs.slot_at.Goals as goal
 
 pub overflow_mul-a : goal.overflow_mul-a

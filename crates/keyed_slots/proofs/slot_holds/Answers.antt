@@ -1,7 +1,6 @@
 -- `slot_holds`: a free slot holds nothing, a used one the key that it has.
 use native.Mathlib.Omega.{arith}
 use Rattle.keyed_slots.proofs.Laying.{holds-free, holds-used}
-use borrow.Author.Rules.{rules}
 use Rattle.keyed_slots.proofs.slot_holds.Goals as goal
 
 pub returns-then-s-lt1 : goal.returns-then-s-lt1

@@ -1,8 +1,5 @@
 use native.Mathlib.Omega.{arith}
-use borrow.Author.Rules.{rules}
-use mathlib.Core.Path.{◌≡◌, sym, ◌∙◌}
-use mathlib.Core.Bool.{false}
-use Prim.Native.Nat.{ℕ, ◌≤◌, ◌<◌, ◌-◌}
+use mathlib.Core.Path.{sym, ◌∙◌}
 use Rattle.octets.proofs.Searching.{first-hit, first-miss}
 use Rattle.keyed_slots.specs.Slots.{slots_of, holds, slot_with}
 use Rattle.octets.proofs.Searching.{none_yet, none_more}
@@ -17,9 +14,6 @@ slot_holds-requires c = omega (arith, c.slots-n.ensures)
 pub returns-then-slot_holds : goal.returns-then-slot_holds
 unfolding slot_with
 returns-then-slot_holds c = first-hit (holds c.args.size c.args.store.now c.args.key.now) (slots_of c.args.size c.args.store.now) c.loop-i.i (omega (arith, c.slots-n.ensures)) c.loop-i.invariant.1 (sym c.slot_holds.ensures ∙ c.if-slot_holds.true)
-
-pub overflow_add-i : goal.overflow_add-i
-overflow_add-i c = omega (arith, c.slots-n.ensures)
 
 pub loop-i-preserved : goal.loop-i-preserved
 loop-i-preserved c = (omega arith, none_more (holds c.args.size c.args.store.now c.args.key.now) c.loop-i.i c.loop-i.invariant.1 (sym c.slot_holds.ensures ∙ c.if-slot_holds.false))

@@ -1,7 +1,6 @@
 -- `slots` counts the whole slots, up to 256; there is none of 0 bytes.
 use native.Mathlib.Omega.{arith}
 use mathlib.Core.Path.{refl}
-use borrow.Author.Rules.{rules}
 use Rattle.keyed_slots.proofs.Laying.{slots-none, slots-few, slots-many}
 use Rattle.keyed_slots.proofs.slots.Goals as goal
 

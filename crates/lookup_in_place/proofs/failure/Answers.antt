@@ -14,10 +14,10 @@ pub returns-then-m-lt-SIZE : goal.returns-then-m-lt-SIZE
 returns-then-m-lt-SIZE c = short-step c.args.m.now (failure_of (lookup_in c.args.m.now) _ _ _) _ c.if-m-lt-SIZE.true c.give.ensures
 
 pub fail-requires : goal.fail-requires
-fail-requires c = let w = found_within (lookup_in c.args.m.now) _ _ _ _ _ c.about-w.ensures c.in-At.is in (c.if-m-lt-SIZE.false, omega (arith, w.0, w.1), w.1)
+fail-requires c = let w = found_within (lookup_in c.args.m.now) _ _ _ _ _ c.about-w.ensures c.in-Ok.is in (c.if-m-lt-SIZE.false, omega (arith, w.0, w.1), w.1)
 
-pub returns-in-Nobody : goal.returns-in-Nobody
-returns-in-Nobody c = failure-refused c.args.m.now _ _ _ c.if-m-lt-SIZE.false _ c.about-w.ensures _ _ c.in-Nobody.is c.give-in-Nobody.ensures
+pub returns-in-Err : goal.returns-in-Err
+returns-in-Err c = failure-refused c.args.m.now _ _ _ c.if-m-lt-SIZE.false _ c.about-w.ensures _ _ c.in-Err.is c.give-in-Err.ensures
 
-pub returns-in-At : goal.returns-in-At
-returns-in-At c = failure-at c.args.m.now _ _ _ c.if-m-lt-SIZE.false _ c.about-w.ensures _ _ _ c.in-At.is c.fail.ensures
+pub returns-in-Ok : goal.returns-in-Ok
+returns-in-Ok c = failure-at c.args.m.now _ _ _ c.if-m-lt-SIZE.false _ c.about-w.ensures _ _ _ c.in-Ok.is c.fail.ensures

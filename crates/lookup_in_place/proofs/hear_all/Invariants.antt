@@ -10,6 +10,3 @@ use Rattle.lookup_in_place.proofs.hear_all.Given as goal
 
 abbrev pub invariant-loop-i : goal.invariant-loop-i
 invariant-loop-i l = Hearing l.body l.ours l.n l.initial.m l.m l.i
-
-abbrev pub decreases-loop-i : goal.decreases-loop-i
-decreases-loop-i l = l.n - l.i

@@ -14,6 +14,3 @@ use Rattle.lookup_in_place.proofs.is_known.Given as goal
 
 abbrev pub invariant-loop-i : goal.invariant-loop-i
 invariant-loop-i l = (l.i ≤ l.n) × (any_in (lies_at l.place) (drop l.i (take l.n (lookup_in l.m).candidates)) ≡ any_in (lies_at l.place) (take l.n (lookup_in l.m).candidates))
-
-abbrev pub decreases-loop-i : goal.decreases-loop-i
-decreases-loop-i l = l.n - l.i

@@ -13,6 +13,3 @@ use Rattle.lookup_in_place.proofs.marks_in.Given as goal
 
 abbrev pub invariant-loop-i : goal.invariant-loop-i
 invariant-loop-i l = Mapping mark_of (lookup_in l.m).candidates l.marks l.i
-
-abbrev pub decreases-loop-i : goal.decreases-loop-i
-decreases-loop-i l = 256 - l.i

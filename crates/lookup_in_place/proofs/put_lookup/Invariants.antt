@@ -10,6 +10,3 @@ use Rattle.lookup_in_place.proofs.put_lookup.Given as goal
 
 abbrev pub invariant-loop-i : goal.invariant-loop-i
 invariant-loop-i l = Putting l.initial.m (members_of l.table l.at l.n) l.m l.i
-
-abbrev pub decreases-loop-i : goal.decreases-loop-i
-decreases-loop-i l = 256 - l.i

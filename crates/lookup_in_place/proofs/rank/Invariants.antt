@@ -14,6 +14,3 @@ use Rattle.lookup_in_place.proofs.rank.Given as goal
 
 abbrev pub invariant-loop-i : goal.invariant-loop-i
 invariant-loop-i l = (l.i ≤ l.n) × (l.i + first_in (beyond (lookup_in l.m).target l.place) (drop l.i (take l.n (lookup_in l.m).candidates)) ≡ first_in (beyond (lookup_in l.m).target l.place) (take l.n (lookup_in l.m).candidates))
-
-abbrev pub decreases-loop-i : goal.decreases-loop-i
-decreases-loop-i l = l.n - l.i

@@ -20,10 +20,10 @@ pub returns-then-not-is_view : goal.returns-then-not-is_view
 returns-then-not-is_view c = reply-bad-in c.args.m.now _ _ _ _ _ c.if-m-lt-SIZE.false _ c.is_view.ensures _ (ap not c.if-not-is_view.true) c.give-then-not-is_view.ensures
 
 pub hear_out-requires : goal.hear_out-requires
-hear_out-requires c = let w = found_within (lookup_in c.args.m.now) _ _ _ _ _ c.about-w.ensures c.in-At.is in (c.if-m-lt-SIZE.false, omega (arith, w.0, w.1), w.1)
+hear_out-requires c = let w = found_within (lookup_in c.args.m.now) _ _ _ _ _ c.about-w.ensures c.in-Ok.is in (c.if-m-lt-SIZE.false, omega (arith, w.0, w.1), w.1)
 
-pub returns-in-Nobody : goal.returns-in-Nobody
-returns-in-Nobody c = reply-refused-in c.args.m.now _ _ _ _ _ c.if-m-lt-SIZE.false _ c.is_view.ensures (ap not c.if-not-is_view.false) _ c.about-w.ensures _ _ c.in-Nobody.is c.give-in-Nobody.ensures
+pub returns-in-Err : goal.returns-in-Err
+returns-in-Err c = reply-refused-in c.args.m.now _ _ _ _ _ c.if-m-lt-SIZE.false _ c.is_view.ensures (ap not c.if-not-is_view.false) _ c.about-w.ensures _ _ c.in-Err.is c.give-in-Err.ensures
 
-pub returns-in-At : goal.returns-in-At
-returns-in-At c = reply-at-in c.args.m.now _ _ _ _ _ c.if-m-lt-SIZE.false _ c.is_view.ensures (ap not c.if-not-is_view.false) _ c.about-w.ensures _ _ _ c.in-At.is c.hear_out.ensures
+pub returns-in-Ok : goal.returns-in-Ok
+returns-in-Ok c = reply-at-in c.args.m.now _ _ _ _ _ c.if-m-lt-SIZE.false _ c.is_view.ensures (ap not c.if-not-is_view.false) _ c.about-w.ensures _ _ _ c.in-Ok.is c.hear_out.ensures

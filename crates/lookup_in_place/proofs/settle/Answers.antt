@@ -14,6 +14,7 @@ use Rattle.lookup_in_place.proofs.give.Reads as give-reads
 use Rattle.lookup_in_place.proofs.marks_in.Reads as marks-in-reads
 use Rattle.lookup_marks.proofs.over.Reads as over_reads
 use Rattle.lookup_in_place.proofs.settle.Goals as goal
+use Rattle.std.specs.Prelude.{Ok}
 
 pub slice_bounds-held-end : goal.slice_bounds-held-end
 slice_bounds-held-end c = held-count c.args.m.now _ _ c.count_in-n.ensures c.marks_in-marks.ensures (omega (arith, c.count_in-n.ensures, c.requires.1))
@@ -25,4 +26,4 @@ pub returns-then-over : goal.returns-then-over
 returns-then-over c = c.end.ensures ∙ ap outcome_of (settle-over (lookup_in c.args.m.now) _ (marks-held c.args.m.now _ _ c.count_in-n.ensures c.marks_in-marks.ensures) _ c.over.ensures (ends (lookup_in c.args.m.now)) c.if-over.true refl)
 
 pub returns : goal.returns
-returns c = c.give.ensures ∙ ap outcome_of (settle-going (lookup_in c.args.m.now) _ (marks-held c.args.m.now _ _ c.count_in-n.ensures c.marks_in-marks.ensures) _ c.over.ensures (gives (lookup_in c.args.m.now) Going) c.if-over.false refl)
+returns c = c.give.ensures ∙ ap outcome_of (settle-going (lookup_in c.args.m.now) _ (marks-held c.args.m.now _ _ c.count_in-n.ensures c.marks_in-marks.ensures) _ c.over.ensures (gives (lookup_in c.args.m.now) (Ok Going)) c.if-over.false refl)

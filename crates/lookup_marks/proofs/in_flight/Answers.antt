@@ -1,5 +1,4 @@
 -- `in_flight` counts one mark. Assumes nothing.
-use borrow.Author.Rules.{rules}
 use Rattle.lookup_marks.proofs.Scans.{flights-are}
 use Rattle.lookup_marks.proofs.in_flight.Goals as goal
 

@@ -1,15 +1,8 @@
--- `over`: what is left to look at, from rank i on, decides. Assumes nothing.
-use Prim.Native.Nat.{◌≤◌, ◌-◌}
-use mathlib.Core.Path.{◌≡◌, sym, ◌∙◌}
-use lib.ListN.{length}
-use native.Mathlib.Omega.{arith}
-use borrow.Author.Rules.{rules}
+-- `over`: what is left to look at, from a rank on, decides. Assumes nothing.
+use mathlib.Core.Path.{◌≡◌}
 use Rattle.lookup_marks.specs.Marks.{is_over}
-use Rattle.lookup_marks.proofs.Scans.{Still, still-start, still-none, still-end, still-failed, still-answered, still_open}
+use Rattle.lookup_marks.proofs.Scans.{Still}
 use Rattle.lookup_marks.proofs.over.Given as goal
 
-abbrev pub invariant-loop-i : goal.invariant-loop-i
-invariant-loop-i l = (l.i ≤ length l.marks) × (Still l.marks l.left l.i ≡ is_over l.marks)
-
-abbrev pub decreases-loop-i : goal.decreases-loop-i
-decreases-loop-i l = length l.marks - l.i
+abbrev pub invariant-loop-m : goal.invariant-loop-m
+invariant-loop-m l = Still l.marks l.left l.m-index ≡ is_over l.marks

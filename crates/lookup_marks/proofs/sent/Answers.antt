@@ -1,7 +1,6 @@
 -- `sent`: all but the idle. Assumes nothing.
 use native.Mathlib.Omega.{arith}
 use lib.ListN.{length}
-use borrow.Author.Rules.{rules}
 use Rattle.octets.proofs.Searching.{count-le}
 use Rattle.lookup_marks.specs.Marks.{marked, idle}
 use Rattle.lookup_marks.proofs.Scans.{sent-rest}

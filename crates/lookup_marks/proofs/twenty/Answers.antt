@@ -1,7 +1,4 @@
-use Prim.Native.Nat.{◌-◌}
-use lib.ListN.{length}
-use borrow.Author.Rules.{rules}
-use Rattle.lookup_marks.proofs.Scans.{Filling, fill_start, fill-failed, fill_one, fill-full, fill_end}
+use Rattle.lookup_marks.proofs.Scans.{fill_start, fill-failed, fill_one, fill-full, fill_end}
 use Rattle.lookup_marks.proofs.twenty.Goals as goal
 use Rattle.lookup_marks.proofs.twenty.Goals.{then-m-ne-FAILED, else-m-ne-FAILED}
 

@@ -21,7 +21,7 @@ pub loop-next-smaller : goal.loop-next-smaller
 loop-next-smaller c = nearer _ _ _ (next-is c.read_field-f.ensures c.after.ensures c.in-On.is)
 
 pub loop-next-preserved : goal.loop-next-preserved
-loop-next-preserved c = gather-on _ _ _ c.loop-next.invariant _ (next-is c.read_field-f.ensures c.after.ensures c.in-On.is) _ c.read_field-f.ensures _ c.with_field.ensures _ c.in-Sound.is
+loop-next-preserved c = gather-on _ _ _ c.loop-next.invariant _ (next-is c.read_field-f.ensures c.after.ensures c.in-On.is) _ c.read_field-f.ensures _ c.with_field.ensures _ c.in_ok-m-in-On.was
 
-pub returns-in-Broken-with_field : goal.returns-in-Broken-with_field
-returns-in-Broken-with_field c = gather-broken _ _ _ c.loop-next.invariant _ (next-is c.read_field-f.ensures c.after.ensures c.in-On.is) _ c.read_field-f.ensures _ c.with_field.ensures c.in-Broken-with_field.is
+pub returns-in_err-m-in-On : goal.returns-in_err-m-in-On
+returns-in_err-m-in-On c = rw c.from_residual.ensures (gather-broken _ _ _ c.loop-next.invariant _ (next-is c.read_field-f.ensures c.after.ensures c.in-On.is) _ c.read_field-f.ensures _ c.with_field.ensures c.in_err-m-in-On.was)

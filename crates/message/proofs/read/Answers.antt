@@ -9,10 +9,10 @@ pub returns-then-body-gt-MOST_BODY : goal.returns-then-body-gt-MOST_BODY
 returns-then-body-gt-MOST_BODY c = read-long _ (omega arith)
 
 pub returns-then-m-gt-MOST_KIND : goal.returns-then-m-gt-MOST_KIND
-returns-then-m-gt-MOST_KIND c = read-unknown _ (omega arith) _ (sym c.in-Sound.is ∙ c.gather.ensures) (omega arith)
+returns-then-m-gt-MOST_KIND c = read-unknown _ (omega arith) _ (sym c.in-Some.is ∙ c.gather.ensures) (omega arith)
 
-pub returns-else-m-gt-MOST_KIND : goal.returns-else-m-gt-MOST_KIND
-returns-else-m-gt-MOST_KIND c = read-sound _ (omega arith) _ (sym c.in-Sound.is ∙ c.gather.ensures) (omega arith)
+pub returns : goal.returns
+returns c = read-sound _ (omega arith) _ (sym c.in-Some.is ∙ c.gather.ensures) (omega arith)
 
-pub returns-in-Broken : goal.returns-in-Broken
-returns-in-Broken c = read-broken _ (omega arith) (sym c.in-Broken.is ∙ c.gather.ensures)
+pub returns-in_default : goal.returns-in_default
+returns-in_default c = read-broken _ (omega arith) (sym c.in_default.is ∙ c.gather.ensures)

@@ -6,6 +6,3 @@ use Rattle.message_examples.proofs.put_twenty.Given as goal
 
 abbrev pub invariant-loop-k : goal.invariant-loop-k
 invariant-loop-k l = (l.k ≤ 20) × (length l.list ≡ length l.initial.list)
-
-abbrev pub decreases-loop-k : goal.decreases-loop-k
-decreases-loop-k l = 20 - l.k

@@ -3,8 +3,8 @@ use Rattle.node.proofs.Receiving.{hear-whole, hear-refused}
 use borrow.Author.Rules.{rules}
 use Rattle.node.proofs.hear.Goals as goal
 
-pub returns-in-Whole : goal.returns-in-Whole
-returns-in-Whole c = let a = c.args in hear-whole a.conn a.taken a.body.now _ c.read.ensures _ _ c.in-Whole.is c.hand_back.ensures
+pub returns-in-Ok : goal.returns-in-Ok
+returns-in-Ok c = let a = c.args in hear-whole a.conn a.taken a.body.now _ c.read.ensures _ _ c.in-Ok.is c.hand_back.ensures
 
-pub returns-in-Refused : goal.returns-in-Refused
-returns-in-Refused c = let a = c.args in hear-refused a.conn a.taken a.body.now _ c.read.ensures _ _ c.in-Refused.is c.refuse.ensures
+pub returns-in-Err : goal.returns-in-Err
+returns-in-Err c = let a = c.args in hear-refused a.conn a.taken a.body.now _ c.read.ensures _ _ c.in-Err.is c.refuse.ensures

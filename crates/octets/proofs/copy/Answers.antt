@@ -1,22 +1,11 @@
 use native.Mathlib.Omega.{arith}
-use Prim.Native.Nat.{◌-◌}
-use Rattle.octets.proofs.Stores.{Copying, copying, copy-on, copied}
+use mathlib.Core.Path.{sym}
+use Rattle.octets.proofs.Stores.{copied, sets-out}
 use Rattle.octets.proofs.copy.Goals as goal
 
-pub loop-i-init : goal.loop-i-init
-loop-i-init c = copying _ _ _ _
+pub returns-after-loop-i : goal.returns-after-loop-i
+returns-after-loop-i c =
+    copied _ _ _ _ _ _ c.loop-i.invariant (omega arith) (omega (arith, c.min-n.ensures)) (λ h. omega (arith, c.min-n.ensures))
 
-pub overflow_add-buf : goal.overflow_add-buf
-overflow_add-buf c = omega (arith, c.room-n.ensures.2 (omega arith))
-
-pub bounds-buf-at : goal.bounds-buf-at
-bounds-buf-at c = omega (arith, c.loop-i.invariant.kept, c.room-n.ensures.2 (omega arith))
-
-pub loop-i-preserved : goal.loop-i-preserved
-loop-i-preserved c = copy-on _ _ _ _ _ _ c.loop-i.invariant (omega arith) (omega (arith, c.room-n.ensures.0))
-
-pub shape_of-buf : goal.shape_of-buf
-shape_of-buf c = c.loop-i.invariant.kept
-
-pub returns : goal.returns
-returns c = copied _ _ _ _ _ _ c.loop-i.invariant (omega arith) c.room-n.ensures.0 c.room-n.ensures.1
+pub returns-else-at-buf : goal.returns-else-at-buf
+returns-else-at-buf c = sym (sets-out c.args.buf.now c.args.at c.args.src.now (omega arith))

@@ -1,15 +1,15 @@
--- `lower_bytes` passes over what the two have in common; then their order is that of what is left from `i` on.
-use native.Mathlib.Omega.{arith}
-use borrow.Author.Rules.{rules}
-use mathlib.Core.Path.{◌≡◌, sym, ap₂, ◌∙◌}
-use Prim.Native.Nat.{◌≤◌, ◌-◌}
+-- `lower_bytes` compares word by word: the order of the two is that of what is left of them.
+use mathlib.Core.Path.{◌≡◌}
 use lib.ListN.{drop}
-use Rattle.octets.specs.Octets.{lower}
-use Rattle.octets.proofs.Words.{word-decides, word-passed, to_end}
+use Rattle.std.specs.Iterator.Adapters.{zip_first, zip_second}
+use Rattle.std.specs.Slice.Iter.{chunks_exact_rest, chunks_exact_size}
+use Rattle.octets.proofs.Words.{Left}
 use Rattle.octets.proofs.lower_bytes.Given as goal
 
-abbrev pub invariant-loop-i : goal.invariant-loop-i
-invariant-loop-i l = (l.i ≤ l.n) × (lower l.a l.b ≡ lower (drop l.i l.a) (drop l.i l.b))
-
-abbrev pub decreases-loop-i : goal.decreases-loop-i
-decreases-loop-i l = l.n - l.i
+abbrev pub invariant-loop-s : goal.invariant-loop-s
+invariant-loop-s l =
+    (goal.iterator-loop-s).can_next l.s-iterator
+    × (goal.iterator-loop-s).is_finite l.s-iterator
+    × (chunks_exact_size (zip_first l.s-iterator) ≡ 8)
+    × (chunks_exact_size (zip_second l.s-iterator) ≡ 8)
+    × Left l.a l.b (drop l.n l.a) (drop l.n l.b) (chunks_exact_rest (zip_first l.s-iterator)) (chunks_exact_rest (zip_second l.s-iterator))

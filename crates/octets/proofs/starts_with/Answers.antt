@@ -1,17 +1,7 @@
--- `starts_with` compares the first bytes of `s`, as many as `p` has.
-use lib.Seq.{length-take-le}
-use mathlib.Core.Path.{sym}
-use Rattle.octets.specs.Octets.{starts_with}
-use Rattle.octets.proofs.Strings.{starts-short}
-use borrow.Author.Rules.{rules}
+-- `starts_with` is what the library's method says, which compares the other way round.
+use mathlib.Core.Path.{◌∙◌}
+use Rattle.octets.proofs.Strings.{starts-pointwise}
 use Rattle.octets.proofs.starts_with.Goals as goal
 
-pub returns-then-s-n : goal.returns-then-s-n
-returns-then-s-n c = sym (starts-short c.args.s.now c.args.p.now c.if-s-n.true)
-
-pub slice_bounds-same_bytes-end : goal.slice_bounds-same_bytes-end
-slice_bounds-same_bytes-end c = sym (length-take-le _ _ c.if-s-n.false)
-
 pub returns : goal.returns
-unfolding starts_with
-returns c = c.same_bytes.ensures
+returns c = c.starts_with.ensures.value ∙ starts-pointwise c.args.s.now c.args.p.now

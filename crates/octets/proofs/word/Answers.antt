@@ -1,7 +1,6 @@
 -- `word` is the number of eight bytes, or of as many as there are.
 use mathlib.Core.Path.{refl, sym, ◌∙◌}
 use Rattle.octets.proofs.Numbers.{word_none, word-few}
-use borrow.Author.Rules.{rules}
 use Rattle.octets.proofs.word.Goals as goal
 
 pub returns-then-n-at : goal.returns-then-n-at

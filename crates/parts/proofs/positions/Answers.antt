@@ -4,10 +4,10 @@ use Rattle.parts.specs.Parts.{read_fields, positions_of}
 use borrow.Author.Rules.{rules}
 use Rattle.parts.proofs.positions.Goals as goal
 
-pub returns-in-Whole : goal.returns-in-Whole
+pub returns-in-Ok : goal.returns-in-Ok
 unfolding positions_of
-returns-in-Whole c = ap read_fields (sym c.in-Whole.is ∙ c.read-reading.ensures)
+returns-in-Ok c = ap read_fields (sym c.in-Ok.is ∙ c.read.ensures)
 
-pub returns-in-Refused : goal.returns-in-Refused
+pub returns-in-Err : goal.returns-in-Err
 unfolding positions_of
-returns-in-Refused c = ap read_fields (sym c.in-Refused.is ∙ c.read-reading.ensures)
+returns-in-Err c = ap read_fields (sym c.in-Err.is ∙ c.read.ensures)

@@ -11,6 +11,3 @@ use Rattle.peer.proofs.keep_usable.Given as goal
 
 abbrev pub invariant-loop-k : goal.invariant-loop-k
 invariant-loop-k l = Kept l.p l.addrs l.lens l.count l.k
-
-abbrev pub decreases-loop-k : goal.decreases-loop-k
-decreases-loop-k l = l.all - l.k

@@ -1,7 +1,6 @@
 -- `bucket` answers 256 where either is no place, and else counts the bits that both share.
 use mathlib.Core.Path.{sym, ◌∙◌}
 use Rattle.place.proofs.Buckets.{bucket-not-left, bucket-not-right, bucket-places}
-use borrow.Author.Rules.{rules}
 use Rattle.place.proofs.bucket.Goals as goal
 
 pub returns-then-p-ne32 : goal.returns-then-p-ne32

@@ -1,7 +1,6 @@
 -- `nearer` refuses what isn't three places, and else compares.
 use mathlib.Core.Path.{sym, ◌∙◌}
 use Rattle.place.proofs.Distance.{nearer-no, nearer-is}
-use borrow.Author.Rules.{rules}
 use Rattle.place.proofs.nearer.Goals as goal
 
 pub returns-then-target-ne32 : goal.returns-then-target-ne32

@@ -1,7 +1,5 @@
 use native.Mathlib.Omega.{arith}
-use Prim.Native.Nat.{◌-◌, ◌%◌, ◌≤◌}
-use mathlib.Core.Path.{◌≡◌}
-use Rattle.place.proofs.Distance.{lead, lead-none, word-decides, word_same, never-nearer}
+use Rattle.place.proofs.Distance.{lead-none, word-decides, word_same, never-nearer}
 use Rattle.place.proofs.nearer_place.Goals as goal
 
 pub loop-i-init : goal.loop-i-init

@@ -1,6 +1,5 @@
 -- `place_of` is the hash.
 use Rattle.place.specs.Place.{place_of}
-use borrow.Author.Rules.{rules}
 use Rattle.place.proofs.place_of.Goals as goal
 
 pub returns : goal.returns

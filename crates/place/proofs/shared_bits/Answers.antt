@@ -1,10 +1,8 @@
 use native.Mathlib.Omega.{arith}
-use Prim.Native.Nat.{ℕ, ◌+◌, ◌*◌, ◌-◌, ◌%◌, ◌≤◌}
-use mathlib.Core.Path.{◌≡◌, sym, ap, ◌∙◌}
-use lib.ListN.{drop}
+use Prim.Native.Nat.{ℕ, ◌+◌, ◌*◌}
+use mathlib.Core.Path.{sym, ap, ◌∙◌}
 use lib.Bits.{bit_xor}
 use lib.Count.{leading_le}
-use Rattle.place.specs.Place.{common, bits}
 use Rattle.place.proofs.Buckets.{read_same, read-other, words-end}
 use Rattle.place.proofs.shared_bits.Goals as goal
 

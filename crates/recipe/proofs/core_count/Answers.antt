@@ -2,7 +2,6 @@
 use mathlib.Core.Path.{sym, ◌∙◌}
 use Rattle.recipe.specs.Recipe.{core_count_of}
 use Rattle.recipe.proofs.Trailer.{second-two, second-one}
-use borrow.Author.Rules.{rules}
 use Rattle.recipe.proofs.core_count.Goals as goal
 
 pub returns-then-format-eq-FORMAT_TWO : goal.returns-then-format-eq-FORMAT_TWO

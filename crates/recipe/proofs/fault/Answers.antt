@@ -1,8 +1,6 @@
 -- `fault` tests the value as a whole, then its lists.
 use mathlib.Core.Path.{sym, ◌∙◌}
-use borrow.Author.Tests.{not-true, not-false}
 use Rattle.recipe.proofs.Faults.{under-16, over-most, not_known, under-24, not-zero, by-lists}
-use borrow.Author.Rules.{rules}
 use Rattle.recipe.proofs.fault.Goals as goal
 
 pub returns-then-n-lt-TRAILER : goal.returns-then-n-lt-TRAILER

@@ -2,7 +2,6 @@
 use mathlib.Core.Path.{sym, ap, ◌∙◌}
 use mir.Syntax.{w32}
 use mir.ValLaws.{to_z-of_z}
-use borrow.Author.Rules.{rules}
 use Rattle.recipe.specs.Faults.{trim_in}
 use Rattle.recipe.proofs.Points.{trim-below, trim-above}
 use Rattle.recipe.proofs.in_range.Goals as goal

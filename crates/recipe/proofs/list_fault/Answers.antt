@@ -1,7 +1,6 @@
 -- `list_fault` makes its tests in their order.
 use mathlib.Core.Path.{◌∙◌}
 use Rattle.recipe.proofs.Faults.{ends-early, starts-before, too_many, in-its-room}
-use borrow.Author.Rules.{rules}
 use Rattle.recipe.proofs.list_fault.Goals as goal
 
 pub returns-then-d-e : goal.returns-then-d-e

@@ -1,6 +1,5 @@
 -- `number_at` cuts the number out.
 use native.Mathlib.Omega.{arith}
-use borrow.Author.Rules.{rules}
 use Rattle.recipe.proofs.Trailer.{number-few, number-here}
 use Rattle.recipe.proofs.number_at.Goals as goal
 

@@ -1,7 +1,6 @@
 -- `outranks` compares the sequences, and where they are equal the bytes.
 use native.Mathlib.Omega.{arith}
 use Rattle.recipe.proofs.Rank.{rank-more, rank_less, rank_same}
-use borrow.Author.Rules.{rules}
 use Rattle.recipe.proofs.outranks.Goals as goal
 
 pub returns-then-y-x : goal.returns-then-y-x

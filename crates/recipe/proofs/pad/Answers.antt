@@ -2,7 +2,6 @@
 use mathlib.Core.Path.{sym, ◌∙◌}
 use Rattle.recipe.specs.Recipe.{pad_of}
 use Rattle.recipe.proofs.Trailer.{second-two, second-one}
-use borrow.Author.Rules.{rules}
 use Rattle.recipe.proofs.pad.Goals as goal
 
 pub returns-then-format-eq-FORMAT_TWO : goal.returns-then-format-eq-FORMAT_TWO

@@ -1,13 +1,12 @@
--- `rises` goes by the case of what came before.
-use borrow.Author.Rules.{rules}
+-- `rises` goes by whether there is a setpoint before.
 use mathlib.Core.Path.{refl}
 use Rattle.recipe.specs.Faults.{rises}
 use Rattle.recipe.proofs.rises.Goals as goal
 
-pub returns-in-First : goal.returns-in-First
+pub returns-in-None : goal.returns-in-None
 unfolding rises
-returns-in-First c = let e = c.in-First.is in rw e refl
+returns-in-None c = let e = c.in-None.is in rw e refl
 
-pub returns-in-After : goal.returns-in-After
+pub returns-in-Some : goal.returns-in-Some
 unfolding rises
-returns-in-After c = let e = c.in-After.is in rw e refl
+returns-in-Some c = let e = c.in-Some.is in rw e refl

@@ -2,9 +2,7 @@
 use mathlib.Core.Path.{sym, ap, ◌∙◌}
 use mir.Syntax.{w32}
 use mir.ValLaws.{to_z-of_z}
-use borrow.Author.Rules.{rules}
-use borrow.Author.Tests.{not-true, not-false}
-use Rattle.recipe.specs.Faults.{rises, trim_in, stays}
+use Rattle.recipe.specs.Faults.{trim_in, stays}
 use Rattle.recipe.proofs.Faults.{too-high, not-rising, out_of_range, leaps, good-setpoint}
 use Rattle.recipe.proofs.setpoint_fault.Goals as goal
 

@@ -1,8 +1,6 @@
 -- `short_varint` reads up to three bytes; each answer is that of `varint` on what the bytes so far show.
 use native.Mathlib.Omega.{arith}
-use borrow.Author.Rules.{rules}
 use Rattle.recipe.proofs.Varints.{short-past, short-1, short-1-past, short-2-zero, short-2, short-2-past, short-3-zero, short-3, short-4}
-use borrow.Author.Rules.{rules}
 use Rattle.recipe.proofs.short_varint.Goals as goal
 
 pub returns-then-s-at : goal.returns-then-s-at

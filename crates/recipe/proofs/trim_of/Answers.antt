@@ -1,6 +1,5 @@
 -- `trim_of` halves, and turns the odd ones below zero.
 use Rattle.recipe.proofs.Zigzag.{trim-even, trim-fits, trim-odd}
-use borrow.Author.Rules.{rules}
 use Rattle.recipe.proofs.trim_of.Goals as goal
 
 pub returns-then-z-eq0 : goal.returns-then-z-eq0

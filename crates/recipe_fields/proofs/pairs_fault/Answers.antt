@@ -1,7 +1,6 @@
 -- `pairs_fault` makes the tests of `pairs_fault` in their order.
 use mathlib.Core.Path.{◌∙◌}
 use native.Mathlib.Omega.{arith}
-use borrow.Author.Rules.{rules}
 use Rattle.recipe_fields.proofs.Judging.{unpaired, too_many, by-points}
 use Rattle.recipe_fields.proofs.pairs_fault.Goals as goal
 

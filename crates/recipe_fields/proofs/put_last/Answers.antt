@@ -1,5 +1,4 @@
 -- `put_last` writes number after number.
-use borrow.Author.Rules.{rules}
 use Rattle.recipe_fields.proofs.Whole.{then-put}
 use Rattle.recipe_fields.proofs.put_last.Goals as goal
 

@@ -1,10 +1,8 @@
-use Prim.Native.Nat.{◌-◌}
 use mathlib.Core.Path.{refl}
 use native.Mathlib.Omega.{arith}
-use lib.ListN.{length, get_or}
+use lib.ListN.{get_or}
 use lib.IntN.{pos}
-use borrow.Author.Rules.{rules}
-use Rattle.recipe_fields.proofs.Steps.{zigzag-held, Listing, listing, listed-all, listed-on}
+use Rattle.recipe_fields.proofs.Steps.{zigzag-held, listing, listed-all, listed-on}
 use Rattle.recipe_fields.proofs.put_list.Goals as goal
 
 pub loop-i-init : goal.loop-i-init

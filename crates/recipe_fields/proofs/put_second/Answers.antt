@@ -1,5 +1,4 @@
 -- `put_second` writes number after number.
-use borrow.Author.Rules.{rules}
 use Rattle.recipe_fields.proofs.Whole.{then-put}
 use Rattle.recipe_fields.proofs.put_second.Goals as goal
 

@@ -1,5 +1,4 @@
 -- `put_trailer`: format 2 has eight bytes more.
-use borrow.Author.Rules.{rules}
 use Rattle.wire_put.proofs.Putting.{put_is}
 use Rattle.recipe_fields.proofs.Whole.{then-put, trailer-two, trailer-one}
 use Rattle.recipe_fields.proofs.put_trailer.Goals as goal

@@ -2,7 +2,6 @@
 use mathlib.Core.Path.{sym}
 use native.Mathlib.Omega.{arith}
 use lib.Seq.{set_out}
-use borrow.Author.Rules.{rules}
 use Rattle.recipe_fields.proofs.set_trim.Goals as goal
 
 pub returns-then-trims-i : goal.returns-then-trims-i

@@ -2,7 +2,6 @@
 use mathlib.Core.Path.{sym}
 use native.Mathlib.Omega.{arith}
 use lib.Seq.{set_out}
-use borrow.Author.Rules.{rules}
 use Rattle.recipe_fields.proofs.set_turn.Goals as goal
 
 pub returns-then-turns-i : goal.returns-then-turns-i

@@ -1,8 +1,6 @@
 -- `setpoints` cuts the core or the wrap out of a value that is a recipe.
 use mathlib.Core.Path.{◌∙◌}
 use mathlib.Core.Path.{sym, ◌∙◌}
-use borrow.Author.Rules.{rules}
-use borrow.Author.Tests.{not-true, not-false}
 use Rattle.recipe.proofs.Trailer.{our-recipe}
 use Rattle.recipe_fields.proofs.Places.{core-in, wrap-in, trailer-in}
 use Rattle.recipe_fields.proofs.Taken.{none-taken, core-before, core-list, core-taken, wrap-before, wrap-list, wrap-taken}

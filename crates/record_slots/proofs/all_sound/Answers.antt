@@ -19,9 +19,6 @@ sound_at-requires c = omega (arith, c.slots-n.ensures)
 pub returns-then-not-sound_at : goal.returns-then-not-sound_at
 returns-then-not-sound_at c = sym (all-fails (sound c.args.store.now) (slots_of c.args.store.now) c.loop-i.i (omega (arith, c.slots-n.ensures)) (sym c.sound_at.ensures ∙ c.if-not-sound_at.true))
 
-pub overflow_add-i : goal.overflow_add-i
-overflow_add-i c = omega (arith, c.slots-n.ensures)
-
 pub loop-i-preserved : goal.loop-i-preserved
 loop-i-preserved c = (omega arith, all_more (sound c.args.store.now) c.loop-i.i c.loop-i.invariant.1 (sym c.sound_at.ensures ∙ c.if-not-sound_at.false))
 

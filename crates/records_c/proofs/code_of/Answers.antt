@@ -4,5 +4,5 @@ use Rattle.records_c.specs.Codes.{code_of}
 use borrow.Author.Rules.{rules}
 use Rattle.records_c.proofs.code_of.Goals as goal
 
-pub returns-in-Refused : goal.returns-in-Refused
-returns-in-Refused c = c.number.ensures ∙ sym (ap code_of c.in-Refused.is)
+pub returns-in-Err : goal.returns-in-Err
+returns-in-Err c = c.number.ensures ∙ sym (ap code_of c.in-Err.is)

@@ -16,9 +16,6 @@ bounds-near-k c = omega (arith, c.loop-k-test.true, c.requires.1)
 pub overflow_add-sum : goal.overflow_add-sum
 overflow_add-sum c = omega (arith, c.contact_len-sum.ensures.1, c.loop-k.invariant.few, c.loop-k-test.true, c.requires.0)
 
-pub overflow_add-k : goal.overflow_add-k
-overflow_add-k c = omega (arith, c.loop-k-test.true, c.requires.0)
-
 pub loop-k-smaller : goal.loop-k-smaller
 loop-k-smaller c = omega (arith, c.loop-k-test.true)
 

@@ -16,9 +16,6 @@ bounds-near-k c = omega (arith, c.loop-k-test.true, c.requires)
 pub returns-then-same_bytes : goal.returns-then-same_bytes
 returns-then-same_bytes c = search-hit _ _ _ _ _ _ _ c.loop-k-test.true c.place_of.ensures c.same_bytes.ensures c.if-same_bytes.true
 
-pub overflow_add-k : goal.overflow_add-k
-overflow_add-k c = omega (arith, c.loop-k-test.true, c.requires)
-
 pub loop-k-smaller : goal.loop-k-smaller
 loop-k-smaller c = omega (arith, c.loop-k-test.true)
 

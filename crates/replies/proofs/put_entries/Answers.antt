@@ -14,9 +14,6 @@ offset_bounds-near-k c = omega (arith, c.loop-k-test.true, c.requires.0)
 pub bounds-near-k : goal.bounds-near-k
 bounds-near-k c = omega (arith, c.loop-k-test.true, c.requires.1)
 
-pub overflow_add-k : goal.overflow_add-k
-overflow_add-k c = omega (arith, c.loop-k-test.true, c.requires.0)
-
 pub loop-k-smaller : goal.loop-k-smaller
 loop-k-smaller c = omega (arith, c.loop-k-test.true)
 

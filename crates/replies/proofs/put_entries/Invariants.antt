@@ -8,6 +8,3 @@ use Rattle.replies.proofs.put_entries.Given as goal
 
 abbrev pub invariant-loop-k : goal.invariant-loop-k
 invariant-loop-k l = PuttingOn l.table l.near l.initial.buf l.from l.n l.buf l.to l.k
-
-abbrev pub decreases-loop-k : goal.decreases-loop-k
-decreases-loop-k l = l.n - l.k

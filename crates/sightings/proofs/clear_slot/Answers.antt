@@ -2,7 +2,6 @@
 use native.Mathlib.Omega.{arith}
 use Rattle.contacts.specs.Table.{slots_of}
 use Rattle.sightings.proofs.Moves.{clear-done}
-use borrow.Author.Rules.{rules}
 use Rattle.sightings.proofs.clear_slot.Goals as goal
 
 pub overflow_mul-i : goal.overflow_mul-i

@@ -4,7 +4,6 @@ use Prim.Native.Nat.{ℕ, ◌<◌}
 use Rattle.contacts.specs.Table.{slots_of}
 use Rattle.contact_order.proofs.Closing.{leave-slots}
 use Rattle.sightings.proofs.Moves.{drop-done}
-use borrow.Author.Rules.{rules}
 use Rattle.sightings.proofs.drop_slot.Goals as goal
 
 pub clear_slot-requires : goal.clear_slot-requires

@@ -3,7 +3,6 @@ use native.Mathlib.Omega.{arith}
 use mathlib.Core.Path.{ap, ◌∙◌}
 use Rattle.contact_order.specs.Order.{tail_of}
 use Rattle.sightings.proofs.Moves.{join-done}
-use borrow.Author.Rules.{rules}
 use Rattle.sightings.proofs.join_tail.Goals as goal
 
 pub overflow_add-tail : goal.overflow_add-tail

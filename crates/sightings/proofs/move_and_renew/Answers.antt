@@ -3,7 +3,6 @@ use mathlib.Core.Path.{ap, sym, ◌∙◌, subst}
 use Prim.Native.Nat.{ℕ, ◌<◌}
 use Rattle.contacts.specs.Table.{slots_of}
 use Rattle.sightings.proofs.Moves.{move-slots, renew-none, renew-some}
-use borrow.Author.Rules.{rules}
 use Rattle.sightings.proofs.move_and_renew.Goals as goal
 
 pub returns-then-p-eq0 : goal.returns-then-p-eq0

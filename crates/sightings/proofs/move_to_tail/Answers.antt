@@ -6,7 +6,6 @@ use Rattle.contact_table.proofs.Cuts.{slot_whole}
 use Rattle.contact_order.proofs.Slots.{few}
 use Rattle.contact_order.proofs.Closing.{leave-length}
 use Rattle.sightings.proofs.Moves.{move-done}
-use borrow.Author.Rules.{rules}
 use Rattle.sightings.proofs.move_to_tail.Goals as goal
 
 pub overflow_mul-at : goal.overflow_mul-at

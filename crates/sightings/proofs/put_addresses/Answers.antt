@@ -1,10 +1,9 @@
 -- `sightings::put_addresses` meets its contract. Assumes nothing.
 use native.Mathlib.Omega.{arith}
 use mathlib.Core.Path.{◌≡◌}
-use lib.ListN.{length, length-map}
+use lib.ListN.{length}
 use Rattle.contacts.specs.Table.{slots_of}
 use Rattle.sightings.proofs.Moves.{addresses-done, addresses-same}
-use borrow.Author.Rules.{rules}
 use Rattle.sightings.proofs.put_addresses.Goals as goal
 use Rattle.sightings.proofs.put_addresses.Goals.{Start}
 

@@ -1,6 +1,5 @@
 -- `sightings::seen` meets its contract. Assumes nothing.
 use Rattle.sightings.proofs.Calls.{seen-held, seen-fresh, seen-tidied}
-use borrow.Author.Rules.{rules}
 use Rattle.sightings.proofs.seen.Goals as goal
 
 pub returns-then-i-slots : goal.returns-then-i-slots

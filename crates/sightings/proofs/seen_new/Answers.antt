@@ -1,6 +1,5 @@
 -- `sightings::seen_new` meets its contract. Assumes nothing.
 use Rattle.sightings.proofs.Calls.{new-full, new_none, new-joined}
-use borrow.Author.Rules.{rules}
 use Rattle.sightings.proofs.seen_new.Goals as goal
 
 pub returns-then-tail-ge-BUCKET : goal.returns-then-tail-ge-BUCKET

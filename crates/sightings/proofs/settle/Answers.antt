@@ -1,8 +1,6 @@
 -- `sightings::settle` meets its contract. Assumes nothing.
 use mathlib.Core.Path.{sym, ◌∙◌}
-use borrow.Author.Tests.{not-true, not-false}
 use Rattle.sightings.proofs.Calls.{settle-stale, settle-in, settle-kept, settle-free, settle-low, settle-swapped}
-use borrow.Author.Rules.{rules}
 use Rattle.sightings.proofs.settle.Goals as goal
 
 pub returns-then-not-still_fits : goal.returns-then-not-still_fits

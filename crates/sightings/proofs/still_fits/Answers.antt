@@ -1,6 +1,5 @@
 -- `sightings::still_fits` meets its contract. Assumes nothing.
 use Rattle.sightings.proofs.Calls.{fits-gone, fits-behind, fits-far, fits-room, fits_last}
-use borrow.Author.Rules.{rules}
 use Rattle.sightings.proofs.still_fits.Goals as goal
 
 pub returns-then-n-h : goal.returns-then-n-h

@@ -1,10 +1,9 @@
 -- `sightings::write_slot` meets its contract. Assumes nothing.
 use native.Mathlib.Omega.{arith}
 use mathlib.Core.Path.{◌≡◌, refl}
-use lib.ListN.{length, length-map}
+use lib.ListN.{length}
 use Rattle.contacts.specs.Table.{slots_of}
 use Rattle.sightings.proofs.Moves.{write_done}
-use borrow.Author.Rules.{rules}
 use Rattle.sightings.proofs.write_slot.Goals as goal
 use Rattle.sightings.proofs.write_slot.Goals.{Start}
 

@@ -1,10 +1,7 @@
-use Prim.Native.Nat.{◌-◌}
 use lib.ListN.{length}
-use mathlib.Core.Path.{sym, ◌∙◌}
+use mathlib.Core.Path.{◌≡◌, sym, ◌∙◌}
 use native.Mathlib.Omega.{arith}
-use borrow.Author.Rules.{rules}
-use borrow.Author.Tests.{not-true, not-false}
-use Rattle.stream.proofs.Runs.{Reading, reading, read-on, read_off, read_out}
+use Rattle.stream.proofs.Runs.{reading, read-on, read_off, read_out}
 use Rattle.stream.proofs.read_prefix.Goals as goal
 
 pub loop-i-init : goal.loop-i-init
@@ -17,4 +14,6 @@ pub loop-i-preserved : goal.loop-i-preserved
 loop-i-preserved c = read-on _ _ _ _ c.loop-i.invariant (omega arith) _ c.prefix_step-lead.ensures _ (sym c.goes_on.ensures ∙ c.if-not-goes_on.false) c.held_of-h.ensures
 
 pub returns : goal.returns
-returns c = read_out _ _ _ _ c.loop-i.invariant (omega arith)
+returns c =
+    let e : c.loop-i.i ≡ length c.args.piece.now = omega arith in
+    rw e at (read_out _ _ _ _ c.loop-i.invariant (omega arith))

@@ -4,8 +4,8 @@ use Rattle.wire.specs.Wire.{fixed_at}
 use borrow.Author.Rules.{rules}
 use Rattle.wire.proofs.fixed_field.Goals as goal
 
-pub returns-in-Ends : goal.returns-in-Ends
-returns-in-Ends c = unfold fixed_at in rw (sym c.part_end.ensures ∙ c.in-Ends.is)
+pub returns-in-Some : goal.returns-in-Some
+returns-in-Some c = unfold fixed_at in rw (sym c.part_end.ensures ∙ c.in-Some.is)
 
-pub returns-in-Past : goal.returns-in-Past
-returns-in-Past c = unfold fixed_at in rw (sym c.part_end.ensures ∙ c.in-Past.is)
+pub returns-in-None : goal.returns-in-None
+returns-in-None c = unfold fixed_at in rw (sym c.part_end.ensures ∙ c.in-None.is)

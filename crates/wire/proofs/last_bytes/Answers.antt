@@ -11,10 +11,10 @@ pub loop-p-init : goal.loop-p-init
 loop-p-init c = refl
 
 pub loop-p-smaller : goal.loop-p-smaller
-loop-p-smaller c = last_less _ _ _ _ (sym c.next_bytes.ensures ∙ c.in-At.is)
+loop-p-smaller c = last_less _ _ _ _ (sym c.next_bytes.ensures ∙ c.in-Some.is)
 
 pub loop-p-preserved : goal.loop-p-preserved
-loop-p-preserved c = last_on _ _ _ _ _ _ c.loop-p.invariant _ (sym c.next_bytes.ensures ∙ c.in-At.is)
+loop-p-preserved c = last_on _ _ _ _ _ _ c.loop-p.invariant _ (sym c.next_bytes.ensures ∙ c.in-Some.is)
 
-pub returns-in-Nothing : goal.returns-in-Nothing
-returns-in-Nothing c = last_done _ _ _ _ _ _ c.loop-p.invariant (sym c.next_bytes.ensures ∙ c.in-Nothing.is)
+pub returns-in-None : goal.returns-in-None
+returns-in-None c = last_done _ _ _ _ _ _ c.loop-p.invariant (sym c.next_bytes.ensures ∙ c.in-None.is)

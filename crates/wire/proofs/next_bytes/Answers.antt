@@ -15,11 +15,11 @@ returns-in-Done c = none_done _ _ _ _ c.loop-next.invariant (next-is c.read_fiel
 pub returns-in-Broken : goal.returns-in-Broken
 returns-in-Broken c = none-broken _ _ _ _ c.loop-next.invariant (next-is c.read_field-f.ensures c.after.ensures c.in-Broken.is)
 
-pub returns-in-At : goal.returns-in-At
-returns-in-At c = found _ _ _ _ c.loop-next.invariant _ (next-is c.read_field-f.ensures c.after.ensures c.in-On.is) _ (found-is _ c.read_field-f.ensures c.span_if.ensures c.in-At.is)
+pub returns-in-Some : goal.returns-in-Some
+returns-in-Some c = found _ _ _ _ c.loop-next.invariant _ (next-is c.read_field-f.ensures c.after.ensures c.in-On.is) _ (found-is _ c.read_field-f.ensures c.span_if.ensures c.in-Some.is)
 
 pub loop-next-smaller : goal.loop-next-smaller
 loop-next-smaller c = nearer _ _ _ (next-is c.read_field-f.ensures c.after.ensures c.in-On.is)
 
 pub loop-next-preserved : goal.loop-next-preserved
-loop-next-preserved c = further _ _ _ _ c.loop-next.invariant _ (next-is c.read_field-f.ensures c.after.ensures c.in-On.is) (found-is _ c.read_field-f.ensures c.span_if.ensures c.in-Nothing.is)
+loop-next-preserved c = further _ _ _ _ c.loop-next.invariant _ (next-is c.read_field-f.ensures c.after.ensures c.in-On.is) (found-is _ c.read_field-f.ensures c.span_if.ensures c.in-None.is)

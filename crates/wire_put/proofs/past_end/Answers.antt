@@ -1,7 +1,6 @@
 -- `past_end` goes by the room there is.
 use native.Mathlib.Omega.{arith}
 use Rattle.wire_put.proofs.Digits.{past_fits, past-full, past-over}
-use borrow.Author.Rules.{rules}
 use Rattle.wire_put.proofs.past_end.Goals as goal
 
 pub returns-then-size-at : goal.returns-then-size-at

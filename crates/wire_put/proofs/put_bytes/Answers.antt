@@ -1,6 +1,5 @@
 -- `put_bytes`: tag and length, then the bytes.
 use Rattle.wire_put.proofs.Putting.{put-bytes}
-use borrow.Author.Rules.{rules}
 use Rattle.wire_put.proofs.put_bytes.Goals as goal
 
 pub returns : goal.returns

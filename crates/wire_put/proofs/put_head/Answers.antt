@@ -1,6 +1,5 @@
 -- `put_head`: a tag, then a length.
 use Rattle.wire_put.proofs.Putting.{put-tag}
-use borrow.Author.Rules.{rules}
 use Rattle.wire_put.proofs.put_head.Goals as goal
 
 pub returns : goal.returns

@@ -1,7 +1,6 @@
 -- `put_number`: a tag, then the number.
 use mathlib.Core.Path.{refl}
 use Rattle.wire_put.proofs.Putting.{put-number}
-use borrow.Author.Rules.{rules}
 use Rattle.wire_put.proofs.put_number.Goals as goal
 
 pub returns : goal.returns

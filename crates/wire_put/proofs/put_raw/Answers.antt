@@ -1,7 +1,6 @@
 -- `put_raw` copies.
 use mathlib.Core.Path.{refl}
 use Rattle.wire_put.proofs.Putting.{put-raw}
-use borrow.Author.Rules.{rules}
 use Rattle.wire_put.proofs.put_raw.Goals as goal
 
 pub returns : goal.returns

@@ -1,7 +1,6 @@
 -- `put_single`: nothing for an empty field.
 use mathlib.Core.Path.{sym}
 use Rattle.wire_put.proofs.Putting.{put-start, put_is, single-empty, single-full}
-use borrow.Author.Rules.{rules}
 use Rattle.wire_put.proofs.put_single.Goals as goal
 
 pub returns-then-src-eq0 : goal.returns-then-src-eq0

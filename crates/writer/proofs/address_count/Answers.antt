@@ -1,7 +1,6 @@
-use Prim.Native.Nat.{◌-◌}
+use mathlib.Core.Path.{◌≡◌}
 use native.Mathlib.Omega.{arith}
-use borrow.Author.Rules.{rules}
-use Rattle.writer.proofs.Entries.{Counted, counted_start, counted-on, counted-end, counted-full}
+use Rattle.writer.proofs.Entries.{counted_start, counted-on, counted-end, counted-full}
 use Rattle.writer.proofs.address_count.Goals as goal
 
 pub loop-n-init : goal.loop-n-init
@@ -23,4 +22,6 @@ pub loop-n-preserved : goal.loop-n-preserved
 loop-n-preserved c = counted-on _ _ _ c.loop-n.invariant c.loop-n-test.true _ c.address_size-size.ensures.0 (omega arith)
 
 pub returns : goal.returns
-returns c = counted-full _ _ _ c.loop-n.invariant (omega arith)
+returns c =
+    let e : c.loop-n.n ≡ 5 = omega arith in
+    rw e at (counted-full _ _ _ c.loop-n.invariant (omega arith))

@@ -11,4 +11,4 @@ pub returns-in_default : goal.returns-in_default
 returns-in_default c = write-over _ _ _ _ _ _ _ _ c.if-out-lt-LEAST_REPLY.false (sym c.body_len.ensures ∙ c.in_default.is)
 
 pub returns : goal.returns
-returns c = write_done _ _ _ _ _ _ _ _ (sym c.body_len.ensures ∙ c.in-Is.is) _ _ _ c.if-out-lt-LEAST_REPLY.false c.put_message-end.ensures
+returns c = write_done _ _ _ _ _ _ _ _ (sym c.body_len.ensures ∙ c.in-Some.is) _ _ _ c.if-out-lt-LEAST_REPLY.false c.put_message-end.ensures
