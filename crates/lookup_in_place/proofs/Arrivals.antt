@@ -6,11 +6,12 @@ use mathlib.Core.List.{List, [], ◌∷◌, ◌++◌, append_assoc}
 use native.Mathlib.Omega.{arith}
 use lib.Dec.{ltb}
 use lib.ListN.{length, get_or, take, drop, set, length-drop, length-set, take-append-drop}
-use lib.Seq.{sets, sets-eq, length-sets, set_comm, get_or-set_same, get_or-set_other, take-append-le, take-take, take-set-le, get_or-take, get_or-drop, drop-append-le, drop_at, drop-cons, drop-drop, drop-set-lt, length-take-le}
+use lib.Seq.{sets, sets-eq, length-sets, get_or-set_same, get_or-set_other, take-append-le, take-take, take-set-le, get_or-take, get_or-drop, drop-append-le, drop_at, drop-drop, drop-set-lt, length-take-le}
+use Rattle.std.specs.List.{copy_within}
 use Rattle.octets.specs.Octets.{part}
 use Rattle.octets.proofs.Bools.{or_l, or_off}
 use Rattle.octets.proofs.Parts.{part_length}
-use Rattle.octets.proofs.Stores.{get_d_sets_before, take-sets, drop-sets}
+use Rattle.octets.proofs.Stores.{take-sets, drop-sets}
 use Rattle.octets.specs.Search.{any_in}
 use Rattle.octets.proofs.Finding.{one_on, at-end}
 use Rattle.lookup.specs.Lookup.{room, padded, with_candidates, turn_away}
@@ -41,53 +42,12 @@ pub any-end : {A : Type 0} (p : A → Bool) (n : ℕ) (xs : List A) (i : ℕ) (W
 unfolding any_in
 any-end p n xs i W h w = sym (ap (any_in p) (at-end n xs i h)) ∙ w
 
--- ---- the bytes from a up to e move up by a candidate: those from g on have
-set-sets : (l : List ℕ) (i : ℕ) (s : List ℕ) (j x : ℕ) → j < i → set (sets l i s) j x ≡ sets (set l j x) i s
-set-sets l i [] j x h = refl
-set-sets l i (b ∷ s) j x h =
-    set-sets (set l i b) (suc i) s j x (omega arith) ∙ ap (λ (k : List ℕ). sets k (suc i) s) (set_comm l i j b x (λ e. other e))
-  where
-    other : i ≡ j → ⊥
-    other e = omega arith
-
-pub record Moving (m₀ : List ℕ) (a e : ℕ) (m : List ℕ) (g : ℕ) : Type 0 where
-  pub low : a ≤ g
-  pub high : g ≤ e
-  pub done : m ≡ sets m₀ (g + candidate_size) (part m₀ g e)
-
-pub move-none : (m : List ℕ) (a e : ℕ) → a ≤ e → Moving m a e m e
-move-none m a e h =
-    let z : e - e ≡ 0 = omega arith in
-    record { low = h; high = omega arith; done = sym (ap (λ (k : ℕ). sets m (e + candidate_size) (take k (drop e m))) z) }
-
-pub move-one : (m₀ : List ℕ) (a e : ℕ) (m : List ℕ) (g : ℕ) → e + candidate_size ≤ length m₀ → a < g → Moving m₀ a e m g
-    → Moving m₀ a e (set m (g - 1 + candidate_size) (get_or m (g - 1) 0)) (g - 1)
-move-one m₀ a e m g l h v =
-    let k : ℕ = g - 1 in
-    let x : ℕ = get_or m₀ k 0 in
-    let rest : List ℕ = part m₀ g e in
-    let read : get_or m k 0 ≡ x = ap (λ (y : List ℕ). get_or y k 0) v.done ∙ get_d_sets_before m₀ (g + candidate_size) rest k (omega arith) in
-    let up : suc k ≡ g = omega arith in
-    let size : e - k ≡ suc (e - g) = omega (arith, v.high) in
-    let more : part m₀ k e ≡ x ∷ rest =
-    ap (λ (j : ℕ). take j (drop k m₀)) size ∙ ap (take (suc (e - g))) (drop-cons m₀ k 0 (omega (arith, v.high)))
-    ∙ ap (λ (j : ℕ). x ∷ take (e - g) (drop j m₀)) up in
-    let next : suc (k + candidate_size) ≡ g + candidate_size = omega arith in
-    record {
-      low = omega arith;
-      high = omega (arith, v.high);
-      done =
-          ap₂ (λ (y : List ℕ) (z : ℕ). set y (k + candidate_size) z) v.done read
-          ∙ set-sets m₀ (g + candidate_size) rest (k + candidate_size) x (omega arith)
-          ∙ ap (λ (j : ℕ). sets (set m₀ (k + candidate_size) x) j rest) (sym next)
-          ∙ sym (ap (sets m₀ (k + candidate_size)) more);
-    }
-
-move-long : (m₀ : List ℕ) (a e : ℕ) (m : List ℕ) (g : ℕ) → Moving m₀ a e m g → length m ≡ length m₀
-move-long m₀ a e m g v = ap length v.done ∙ length-sets m₀ (g + candidate_size) (part m₀ g e)
-
-pub move_all : (m₀ : List ℕ) (a e : ℕ) (m : List ℕ) (g : ℕ) → g ≤ a → Moving m₀ a e m g → m ≡ sets m₀ (a + candidate_size) (part m₀ a e)
-move_all m₀ a e m g h v = let q : g ≡ a = omega (arith, v.low) in v.done ∙ ap (λ (j : ℕ). sets m₀ (j + candidate_size) (part m₀ j e)) q
+-- ---- the bytes from a up to e move up by a candidate, as a copy within the bytes
+pub moved : (m : List ℕ) (a e : ℕ) → a ≤ e → e + candidate_size ≤ length m → copy_within m a e (a + candidate_size) ≡ sets m (a + candidate_size) (part m a e)
+moved m a e h l =
+    let p : List ℕ = part m a e in
+    let lp : length p ≡ e - a = part_length m a e (omega arith) in
+    sym (sets-eq p m (a + candidate_size) (omega arith) ∙ ap (λ (k : ℕ). take (a + candidate_size) m ++ p ++ drop (a + candidate_size + k) m) lp)
 
 -- and a candidate is written over the gap
 spliced : (m m₁ m₂ b : List ℕ) (a e : ℕ) → a ≤ e → e + candidate_size ≤ length m → length b ≡ candidate_size

@@ -424,15 +424,12 @@ fn rank(m: &[u8], n: usize, place: &[u8]) -> usize
     n
 }
 
-// The bytes from a up to e move up by a candidate, the last first.
-// One by one, since `copy_within` calls memmove: what a host links needs memcpy and memset and nothing else.
+// The bytes from a up to e move up by a candidate.
 fn make_gap(m: &mut [u8], a: usize, e: usize)
     requires { (a ≤ e) × (e + candidate_size ≤ length m.old) }
     ensures { m.new ≡ sets m.old (a + candidate_size) (part m.old a e) }
 {
-    for g in (a..e).rev() {
-        m[g + CANDIDATE] = m[g];
-    }
+    m.copy_within(a..e, a + CANDIDATE);
 }
 
 // A candidate from a place on.
