@@ -1,6 +1,6 @@
 /* Starterbell for Linux on aarch64: what the proved sources of crates/host_c compile to. include/starterbell.h declares its functions.
    Written by tools/dist; the gate compiles the sources again and compares.
-   sources: 49be416479e1dc8e6ed98b5b047a02598f2641c815ee3e833f194aaaa4b39a09 */
+   sources: 92cc9d2a9ea17a74366f84379874b0f454ac1e2f9387cc88f4ebad4955ba88d9 */
 	.section	".text.contact_form::in_form","ax",@progbits
 	.p2align	2
 	.type	"contact_form::in_form",@function
@@ -10069,11 +10069,11 @@ starterbell_lookup_reply:
 	stp	x24, x23, [sp, #48]
 	stp	x22, x21, [sp, #64]
 	stp	x20, x19, [sp, #80]
-	sub	sp, sp, #2832
+	sub	sp, sp, #3008
 	cmp	x2, #0
 	mov	w8, #4096
 	ldr	x21, [x29, #96]
-	csel	x10, x8, xzr, eq
+	csel	x27, x8, xzr, eq
 	cmp	x4, #0
 	movi	v0.2d, #0000000000000000
 	ldr	x9, [x29, #112]
@@ -10096,7 +10096,7 @@ starterbell_lookup_reply:
 	cmp	x0, #0
 	mov	w8, #4096
 	csel	x8, x8, xzr, eq
-	mov	x27, x2
+	stp	x2, x7, [sp, #56]
 	ldr	x23, [x29, #104]
 	add	x24, x0, x8
 	add	x0, sp, #848
@@ -10105,7 +10105,6 @@ starterbell_lookup_reply:
 	mov	x20, x6
 	mov	x25, x4
 	stp	x9, x5, [sp, #32]
-	stp	x10, x7, [sp, #56]
 	str	x3, [sp, #72]
 	bl	memcpy
 	ldur	q0, [x24, #40]
@@ -10212,7 +10211,7 @@ starterbell_lookup_reply:
 .LBB38_14:
 	mov	w0, wzr
 .LBB38_15:
-	add	sp, sp, #2832
+	add	sp, sp, #3008
 	ldp	x20, x19, [sp, #80]
 	ldp	x22, x21, [sp, #64]
 	ldp	x24, x23, [sp, #48]
@@ -10247,15 +10246,15 @@ starterbell_lookup_reply:
 	ldr	x8, [sp, #912]
 	cmp	x8, x9
 	b.ne	.LBB38_14
-	ldp	x23, x22, [sp, #48]
+	ldp	x27, x22, [sp, #48]
 	add	x19, sp, #240
 	ldr	x5, [sp, #40]
 	add	x0, sp, #1776
 	add	x3, x19, #576
 	add	x4, x25, x21
 	mov	x2, x26
-	add	x1, x23, x22
-	add	x24, x23, x22
+	add	x1, x22, x27
+	add	x23, x22, x27
 	bl	"lookup_in_place::about"
 	ldrb	w8, [sp, #1776]
 	cmp	w8, #1
@@ -10296,7 +10295,8 @@ starterbell_lookup_reply:
 	ldr	x8, [sp, #1784]
 	mov	w9, #98
 	movi	v0.2d, #0000000000000000
-	madd	x8, x8, x9, x24
+	add	x21, x22, x27
+	madd	x8, x8, x9, x23
 	ldr	x9, [sp, #16]
 	cmp	x9, #4
 	str	q0, [sp, #1936]
@@ -10311,10 +10311,10 @@ starterbell_lookup_reply:
 	str	q0, [sp, #1792]
 	b.ne	.LBB38_140
 	ldp	q1, q2, [x19, #576]
-	mov	x21, x23
+	add	x21, x22, x27
 	ldr	x23, [sp, #64]
 	mov	x25, xzr
-	mov	x27, xzr
+	mov	x24, xzr
 	mov	w9, #2
 	add	x28, sp, #1952
 	add	x26, sp, #848
@@ -10478,7 +10478,7 @@ starterbell_lookup_reply:
 	ldrsb	w11, [x20, x11]
 	mov	x10, #-562949953421312
 	mov	x13, x27
-	mov	x12, x21
+	mov	x12, x24
 	add	x9, x9, x10
 	and	x10, x11, #0xff
 	tbnz	w11, #31, .LBB38_56
@@ -10488,10 +10488,10 @@ starterbell_lookup_reply:
 .LBB38_56:
 	ldp	x22, x14, [sp, #56]
 	add	x11, x25, #8
-	mov	x21, x12
 	mov	x27, x13
+	mov	x24, x12
 	cmp	x11, x14
-	add	x24, x12, x22
+	add	x21, x22, x13
 	b.eq	.LBB38_88
 	add	x9, x9, x10, lsl #49
 	ldrsb	w11, [x20, x11]
@@ -10503,9 +10503,9 @@ starterbell_lookup_reply:
 	add	x8, x25, #8
 .LBB38_59:
 	ldp	x22, x23, [sp, #56]
-	mov	x21, x12
 	mov	x27, x13
-	add	x24, x12, x22
+	mov	x24, x12
+	add	x21, x22, x13
 	madd	x9, x11, x10, x9
 	add	x3, x8, #1
 	add	x8, x25, #5
@@ -10609,10 +10609,10 @@ starterbell_lookup_reply:
 	bl	"wire::last_bytes"
 	add	x8, sp, #2496
 	add	x9, sp, #2320
-	str	x0, [x8, x27, lsl #3]
-	str	x1, [x9, x27, lsl #3]
-	add	x27, x27, #1
-	cmp	x27, #21
+	str	x0, [x8, x24, lsl #3]
+	str	x1, [x9, x24, lsl #3]
+	add	x24, x24, #1
+	cmp	x24, #21
 	b.ne	.LBB38_32
 	b	.LBB38_150
 .LBB38_84:
@@ -10624,10 +10624,10 @@ starterbell_lookup_reply:
 .LBB38_85:
 	ldp	x22, x23, [sp, #56]
 	add	x11, x25, #9
-	mov	x21, x12
 	mov	x27, x13
+	mov	x24, x12
 	cmp	x23, x11
-	add	x24, x12, x22
+	add	x21, x22, x13
 	b.ls	.LBB38_88
 	ldrb	w11, [x20, x11]
 	cmp	x11, #1
@@ -10722,30 +10722,28 @@ starterbell_lookup_reply:
 	str	q1, [sp, #2496]
 	str	q2, [sp, #2544]
 	str	q0, [sp, #2528]
-	cbz	x27, .LBB38_141
+	cbz	x24, .LBB38_141
 .LBB38_89:
-	add	x8, x22, x21
+	add	x8, x27, x22
 	mov	x23, xzr
-	add	x21, sp, #2320
 	add	x9, x8, #234
-	stp	x9, x27, [sp, #56]
+	stp	x9, x24, [sp, #56]
 	add	x9, x8, #250
 	str	x9, [sp, #16]
 	add	x9, x8, #258
-	add	x8, x8, #97
+	add	x8, x8, #265
 	stp	x9, x8, [sp, #40]
 	b	.LBB38_93
 .LBB38_90:
-	add	w8, w26, #1
-	mov	x21, x24
-	strh	w8, [x24]
+	add	w8, w25, #1
+	mov	x26, x21
+	strh	w8, [x21]
 .LBB38_91:
-	ldr	x27, [sp, #64]
-	mov	x24, x21
-	add	x21, sp, #2320
+	ldr	x24, [sp, #64]
+	mov	x21, x26
 .LBB38_92:
 	add	x23, x23, #1
-	cmp	x23, x27
+	cmp	x23, x24
 	b.eq	.LBB38_141
 .LBB38_93:
 	add	x8, sp, #848
@@ -10759,9 +10757,10 @@ starterbell_lookup_reply:
 	sub	x8, x22, #1
 	cmp	x8, #63
 	b.hi	.LBB38_92
-	add	x0, x21, #64
+	add	x8, sp, #2320
 	add	x1, x20, x19
 	mov	x2, x22
+	add	x0, x8, #64
 	bl	"sha256::hash"
 	movi	v0.2d, #0000000000000000
 	sub	x0, x29, #80
@@ -10770,238 +10769,248 @@ starterbell_lookup_reply:
 	stp	q0, q0, [x29, #-80]
 	stp	q0, q0, [x29, #-48]
 	bl	memcpy
-	ldp	q0, q1, [x29, #-80]
+	ldr	q0, [sp, #2400]
+	ldr	q1, [sp, #2384]
+	sub	x8, x29, #208
 	ldur	w9, [x29, #-112]
-	str	q0, [sp, #2320]
-	ldp	q2, q0, [x21, #64]
-	str	q1, [sp, #2336]
-	stp	q2, q0, [x29, #-160]
-	ldp	q1, q2, [x29, #-48]
-	ldur	w8, [x29, #-160]
+	stp	q1, q0, [x29, #-144]
+	ldp	q2, q1, [x29, #-48]
+	stp	q2, q1, [x29, #-176]
+	ldp	q2, q0, [x8, #64]
+	stp	q2, q0, [x29, #-240]
+	ldp	q0, q2, [x29, #-80]
+	ldur	w8, [x29, #-240]
 	cmp	w8, w9
-	str	q1, [sp, #2352]
-	str	q2, [sp, #2368]
+	stp	q0, q2, [x29, #-208]
 	b.ne	.LBB38_96
-	sub	x0, x29, #160
+	sub	x0, x29, #240
 	sub	x2, x29, #112
 	mov	w1, #32
 	bl	"core::cmp::slices::groups_equal::<i8,31'core::cmp::numbers::U8PartialEq{}>"
 	cbnz	w0, .LBB38_92
 .LBB38_96:
-	ldrb	w19, [x24]
-	ldrb	w25, [x24, #1]
-	ldp	q0, q1, [x21, #64]
-	orr	x26, x19, x25, lsl #8
-	stp	q0, q1, [x29, #-160]
-	cbz	x26, .LBB38_103
+	ldp	q0, q1, [x29, #-176]
+	add	x8, sp, #2672
+	ldrb	w27, [x21]
+	ldrb	w19, [x21, #1]
+	str	q0, [sp, #2704]
+	ldp	q2, q0, [x29, #-144]
+	str	q1, [sp, #2720]
+	orr	x25, x27, x19, lsl #8
+	str	q0, [sp, #2752]
+	ldp	q0, q1, [x29, #-208]
+	str	q2, [sp, #2736]
+	str	q0, [sp, #2672]
+	str	q1, [sp, #2688]
+	ldp	q0, q1, [x8, #64]
+	stp	q0, q1, [x29, #-80]
+	cbz	x25, .LBB38_103
 	ldr	x0, [sp, #56]
-	ldur	w27, [x29, #-160]
-	mov	x21, x24
-	mov	x28, x26
-	mov	x24, x0
+	ldur	w24, [x29, #-80]
+	mov	x26, x21
+	mov	x28, x25
+	mov	x21, x0
 	b	.LBB38_99
 .LBB38_98:
 	subs	x28, x28, #1
-	mov	x0, x24
+	mov	x0, x21
 	b.eq	.LBB38_101
 .LBB38_99:
-	ldr	w8, [x24], #98
-	cmp	w8, w27
+	ldr	w8, [x21], #98
+	cmp	w8, w24
 	b.ne	.LBB38_98
-	sub	x2, x29, #160
+	sub	x2, x29, #80
 	mov	w1, #32
 	bl	"core::cmp::slices::groups_equal::<i8,31'core::cmp::numbers::U8PartialEq{}>"
 	tbz	w0, #0, .LBB38_98
 	b	.LBB38_91
 .LBB38_101:
-	cbz	w25, .LBB38_108
+	cbz	w19, .LBB38_110
 	mov	w8, #1
-	strb	w8, [x21, #4]
+	strb	w8, [x26, #4]
 	b	.LBB38_91
 .LBB38_103:
-	ldr	x2, [sp, #72]
-	mov	x28, xzr
+	ldr	x3, [sp, #72]
+	mov	x24, xzr
+	mov	w8, #168
 .LBB38_104:
-	mov	w8, #98
-	umull	x14, w26, w8
-	add	x8, x28, #168
-	cmp	x28, x14
-	b.hs	.LBB38_130
-	mov	w9, #25088
-	mov	w12, #98
-	umull	x11, w25, w9
-	umaddl	x9, w19, w12, x11
-	add	x10, x9, #167
-	cmp	x10, x8
-	csel	x10, x10, x8, lo
-	sub	x9, x9, x10
-	add	x10, x9, #168
-	add	x9, x14, #168
-	cmp	x10, #8
-	b.lo	.LBB38_128
-	cmp	x10, #32
-	b.hs	.LBB38_121
-	mov	x13, xzr
-	b	.LBB38_125
-.LBB38_108:
-	mov	w10, #98
-	ldp	x8, x9, [x29, #-160]
-	umull	x12, w19, w10
-	mov	w13, #25088
-	ldr	x14, [x21, #136]
-	ldp	x10, x11, [x29, #-144]
-	umaddl	x12, w25, w13, x12
-	ldr	x2, [sp, #72]
-	mov	x28, xzr
-	mov	x24, x21
-	rev	x13, x8
-	rev	x14, x14
-	rev	x15, x9
-	rev	x16, x10
-	rev	x17, x11
-	add	x21, sp, #2320
-.LBB38_109:
-	add	x18, x24, x28
-	ldur	x0, [x18, #234]
-	cmp	x0, x8
-	b.ne	.LBB38_114
-	ldur	x18, [x18, #242]
-	cmp	x18, x9
-	b.ne	.LBB38_115
-	add	x0, x24, x28
-	ldur	x18, [x0, #250]
-	cmp	x18, x10
-	b.ne	.LBB38_116
-	add	x18, x0, #258
-	ldr	x18, [x18]
-	cmp	x18, x11
-	b.eq	.LBB38_104
-	ldr	x0, [x24, #160]
-	rev	x18, x18
-	mov	x1, x17
-	b	.LBB38_117
-.LBB38_114:
-	rev	x18, x0
-	mov	x0, x14
-	mov	x1, x13
-	b	.LBB38_118
-.LBB38_115:
-	ldr	x0, [x24, #144]
-	rev	x18, x18
-	mov	x1, x15
-	b	.LBB38_117
-.LBB38_116:
-	ldr	x0, [x24, #152]
-	rev	x18, x18
-	mov	x1, x16
-.LBB38_117:
-	rev	x0, x0
-.LBB38_118:
-	eor	x1, x1, x0
-	eor	x18, x0, x18
-	cmp	x18, x1
-	b.hs	.LBB38_104
-	add	x28, x28, #98
-	cmp	x12, x28
-	b.ne	.LBB38_109
-	mov	w8, #98
-	umull	x28, w26, w8
-	b	.LBB38_104
-.LBB38_121:
-	ldr	x16, [sp, #16]
-	and	x15, x10, #0x18
-	and	x13, x10, #0xffffffffffffffe0
-	add	x14, x16, x14
-	and	x16, x10, #0xffffffffffffffe0
-.LBB38_122:
-	ldur	q0, [x14, #-98]
-	ldur	q1, [x14, #-114]
-	sub	x16, x16, #32
-	stp	q1, q0, [x14, #-16]
-	sub	x14, x14, #32
-	cbnz	x16, .LBB38_122
-	cmp	x10, x13
-	b.eq	.LBB38_130
-	cbz	x15, .LBB38_136
-.LBB38_125:
-	umull	x12, w19, w12
-	add	x12, x11, x12
-	and	x11, x10, #0xfffffffffffffff8
-	sub	x14, x12, x13
-	sub	x12, x13, x11
-	ldr	x13, [sp, #40]
-	sub	x9, x9, x11
-	add	x13, x13, x14
-.LBB38_126:
-	ldur	d0, [x13, #-98]
-	add	x12, x12, #8
-	str	d0, [x13], #-8
-	cbnz	x12, .LBB38_126
-	cmp	x10, x11
-	b.eq	.LBB38_130
-.LBB38_128:
-	ldr	x10, [sp, #48]
-	add	x10, x10, x9
-.LBB38_129:
-	sub	x9, x9, #1
-	ldurb	w11, [x10, #-98]
-	cmp	x8, x9
-	strb	w11, [x10], #-1
-	b.lo	.LBB38_129
-.LBB38_130:
-	ldr	q0, [sp, #2320]
-	ldr	q1, [sp, #2336]
-	subs	x9, x2, x8
-	ldr	q2, [sp, #2368]
-	sturb	wzr, [x29, #-116]
-	stp	q0, q1, [x29, #-80]
-	ldr	q0, [sp, #2352]
-	sturb	w22, [x29, #-115]
-	stp	q0, q2, [x29, #-48]
-	ldp	q1, q0, [x21, #64]
-	stp	q1, q0, [x29, #-112]
-	b.ls	.LBB38_133
+	ldr	q0, [sp, #2672]
+	ldr	q1, [sp, #2688]
+	add	x9, sp, #2672
+	ldr	q2, [sp, #2720]
+	sturb	wzr, [x29, #-112]
+	str	q0, [sp, #2320]
+	ldr	q0, [sp, #2704]
+	str	q1, [sp, #2336]
+	str	q0, [sp, #2352]
+	ldp	q1, q0, [x9, #64]
+	subs	x9, x3, x8
+	str	q2, [sp, #2368]
+	sturb	w22, [x29, #-111]
+	stp	q1, q0, [x29, #-208]
+	b.ls	.LBB38_107
 	cmp	x9, #2
 	mov	w10, #2
-	add	x0, x24, x8
-	csel	x2, x9, x10, lo
-	sub	x1, x29, #116
-	bl	memcpy
-	ldr	x2, [sp, #72]
-	add	x8, x28, #170
-	subs	x9, x2, x8
-	b.hi	.LBB38_134
-.LBB38_132:
-	add	x8, x28, #234
-	subs	x9, x2, x8
-	b.ls	.LBB38_90
-	b	.LBB38_135
-.LBB38_133:
-	add	x8, x28, #170
-	subs	x9, x2, x8
-	b.ls	.LBB38_132
-.LBB38_134:
-	cmp	x9, #64
-	mov	w10, #64
-	add	x0, x24, x8
-	csel	x2, x9, x10, lo
-	sub	x1, x29, #80
-	bl	memcpy
-	ldr	x2, [sp, #72]
-	add	x8, x28, #234
-	subs	x9, x2, x8
-	b.ls	.LBB38_90
-.LBB38_135:
-	cmp	x9, #32
-	mov	w10, #32
-	add	x0, x24, x8
+	add	x0, x21, x8
 	csel	x2, x9, x10, lo
 	sub	x1, x29, #112
 	bl	memcpy
+	ldr	x3, [sp, #72]
+	add	x8, x24, #170
+	subs	x9, x3, x8
+	b.hi	.LBB38_108
+.LBB38_106:
+	add	x8, x24, #234
+	subs	x9, x3, x8
+	b.ls	.LBB38_90
+	b	.LBB38_109
+.LBB38_107:
+	add	x8, x24, #170
+	subs	x9, x3, x8
+	b.ls	.LBB38_106
+.LBB38_108:
+	cmp	x9, #64
+	mov	w10, #64
+	add	x0, x21, x8
+	csel	x2, x9, x10, lo
+	add	x1, sp, #2320
+	bl	memcpy
+	ldr	x3, [sp, #72]
+	add	x8, x24, #234
+	subs	x9, x3, x8
+	b.ls	.LBB38_90
+.LBB38_109:
+	cmp	x9, #32
+	mov	w10, #32
+	add	x0, x21, x8
+	csel	x2, x9, x10, lo
+	sub	x1, x29, #208
+	bl	memcpy
 	b	.LBB38_90
+.LBB38_110:
+	mov	w11, #98
+	ldp	x9, x10, [x29, #-80]
+	umull	x13, w27, w11
+	mov	w14, #25088
+	ldr	x15, [x26, #136]
+	ldp	x11, x12, [x29, #-64]
+	umaddl	x13, w19, w14, x13
+	ldr	x3, [sp, #72]
+	mov	x24, xzr
+	mov	x8, xzr
+	mov	x21, x26
+	rev	x14, x9
+	rev	x15, x15
+	rev	x16, x10
+	rev	x17, x11
+	rev	x18, x12
+.LBB38_111:
+	add	x0, x21, x24
+	ldur	x1, [x0, #234]
+	cmp	x1, x9
+	b.ne	.LBB38_116
+	ldur	x0, [x0, #242]
+	cmp	x0, x10
+	b.ne	.LBB38_117
+	add	x1, x21, x24
+	ldur	x0, [x1, #250]
+	cmp	x0, x11
+	b.ne	.LBB38_118
+	add	x0, x1, #258
+	ldr	x0, [x0]
+	cmp	x0, x12
+	b.eq	.LBB38_123
+	ldr	x1, [x21, #160]
+	rev	x0, x0
+	mov	x2, x18
+	b	.LBB38_119
+.LBB38_116:
+	rev	x0, x1
+	mov	x1, x15
+	mov	x2, x14
+	b	.LBB38_120
+.LBB38_117:
+	ldr	x1, [x21, #144]
+	rev	x0, x0
+	mov	x2, x16
+	b	.LBB38_119
+.LBB38_118:
+	ldr	x1, [x21, #152]
+	rev	x0, x0
+	mov	x2, x17
+.LBB38_119:
+	rev	x1, x1
+.LBB38_120:
+	eor	x2, x2, x1
+	eor	x0, x1, x0
+	cmp	x0, x2
+	b.hs	.LBB38_123
+	add	x24, x24, #98
+	add	x8, x8, #1
+	cmp	x13, x24
+	b.ne	.LBB38_111
+	mov	w8, #98
+	umull	x24, w25, w8
+	mov	x8, x25
+.LBB38_123:
+	sub	x8, x25, x8
+	mov	w9, #98
+	mul	x9, x8, x9
+	add	x8, x24, #168
+	cbz	x9, .LBB38_104
+	cmp	x9, #8
+	mov	x11, x9
+	b.lo	.LBB38_134
+	cmp	x9, #32
+	b.hs	.LBB38_127
+	mov	x10, xzr
+	b	.LBB38_131
+.LBB38_127:
+	ldr	x13, [sp, #16]
+	add	x12, x24, x9
+	and	x11, x9, #0x18
+	and	x10, x9, #0xffffffffffffffe0
+	add	x12, x13, x12
+	and	x13, x9, #0xffffffffffffffe0
+.LBB38_128:
+	ldur	q0, [x12, #-98]
+	ldur	q1, [x12, #-114]
+	sub	x13, x13, #32
+	stp	q1, q0, [x12, #-16]
+	sub	x12, x12, #32
+	cbnz	x13, .LBB38_128
+	cmp	x9, x10
+	b.eq	.LBB38_104
+	cbz	x11, .LBB38_136
+.LBB38_131:
+	add	x11, x24, x9
+	ldr	x14, [sp, #40]
+	and	x12, x9, #0xfffffffffffffff8
+	sub	x13, x11, x10
+	and	x11, x9, #0x6
+	sub	x10, x10, x12
+	add	x13, x14, x13
+.LBB38_132:
+	ldur	d0, [x13, #-98]
+	add	x10, x10, #8
+	str	d0, [x13], #-8
+	cbnz	x10, .LBB38_132
+	cmp	x9, x12
+	b.eq	.LBB38_104
+.LBB38_134:
+	add	x10, x11, x24
+	neg	x9, x11
+	ldr	x11, [sp, #48]
+	add	x10, x11, x10
+.LBB38_135:
+	ldurb	w11, [x10, #-98]
+	adds	x9, x9, #1
+	strb	w11, [x10], #-1
+	b.lo	.LBB38_135
+	b	.LBB38_104
 .LBB38_136:
-	sub	x9, x9, x13
-	b	.LBB38_128
+	and	x11, x9, #0x1e
+	b	.LBB38_134
 .LBB38_137:
 	ldr	x21, [x8, #40]
 	cmp	x23, #7
@@ -11017,7 +11026,7 @@ starterbell_lookup_reply:
 .LBB38_141:
 	movi	v0.2d, #0000000000000000
 	add	x0, sp, #848
-	mov	x1, x24
+	mov	x1, x21
 	stp	q0, q0, [sp, #848]
 	stp	q0, q0, [sp, #880]
 	stp	q0, q0, [sp, #912]
@@ -11026,12 +11035,12 @@ starterbell_lookup_reply:
 	stp	q0, q0, [sp, #1008]
 	bl	"lookup_in_place::settle"
 	ldp	q0, q1, [sp, #944]
-	ldrb	w8, [x24, #4]
+	ldrb	w8, [x21, #4]
 	ldrb	w9, [sp, #1016]
 	ldrb	w0, [sp, #1017]
 	ldrb	w20, [sp, #1024]
 	cmp	w8, #0
-	sturh	wzr, [x24, #5]
+	sturh	wzr, [x21, #5]
 	str	q0, [sp, #1888]
 	cset	w8, ne
 	cmp	w9, #1
@@ -11039,12 +11048,12 @@ starterbell_lookup_reply:
 	cset	w10, eq
 	str	q1, [sp, #1904]
 	ldr	x9, [sp, #1032]
-	strb	w8, [x24, #4]
+	strb	w8, [x21, #4]
 	ldr	x8, [sp, #1008]
 	str	q0, [sp, #1920]
 	ldp	q1, q0, [sp, #880]
 	str	q2, [sp, #1936]
-	strb	wzr, [x24, #7]
+	strb	wzr, [x21, #7]
 	str	q0, [sp, #1840]
 	ldp	q2, q0, [sp, #912]
 	str	q1, [sp, #1824]
