@@ -2,6 +2,8 @@
 // Seen, settle, remove and doubt as a host calls them: the table's form is tested, ids are judged, and what isn't taken is refused by number and
 // changes nothing. Every public function takes any bytes.
 ghost use Rattle.std.specs.Prelude.{◌≡◌};
+ghost use Rattle.peer.specs.Peers.{peer_of, tidied};
+ghost use Rattle.sightings.specs.Sightings.{sighting_of, seen_table};
 ghost use Rattle.contact_calls.specs.Calls.{seen_call, seen_call_table, settle_call, settle_call_table, remove_call, remove_call_table, doubt_call, doubt_call_table};
 ghost use Rattle.contact_calls.specs.Inner.{judged, admitted, client_outcome};
 
@@ -43,6 +45,20 @@ fn client_outcome(fit: bool) -> Result<Settled, Refusal>
     })
 }
 
+// A peer that was let in is seen, by value. Apart and never inlined: in `seen` its 1.2 KB would stand on the stack beside the index of the form test.
+#[inline(never)]
+fn see(
+    table: &mut [u8],
+    ours: &[u8],
+    id: &[u8],
+    place: [u8; 32],
+    addresses: &[u8],
+) -> Result<Sighting, Refusal>
+    ensures { (result ≡ sighting_of table.old ours.now (tidied (peer_of id.now place addresses.now))) × (table.new ≡ seen_table table.old ours.now (tidied (peer_of id.now place addresses.now))) }
+{
+    sightings::seen(table, ours, peer::peer_of(id, place, addresses))
+}
+
 // A peer is seen: its id, whether it is a client, and its addresses (each a length of two bytes, the lowest first, and its bytes).
 pub fn seen(
     table: &mut [u8],
@@ -57,7 +73,7 @@ pub fn seen(
     if client {
         return Err(Refusal::Client);
     }
-    sightings::seen(table, ours, peer::peer_of(id, place, addresses))
+    see(table, ours, id, place, addresses)
 }
 
 // The head of a full bucket has been probed for a newcomer, which is given as for seen.

@@ -424,7 +424,8 @@ fn rank(m: &[u8], n: usize, place: &[u8]) -> usize
     n
 }
 
-// The bytes from a up to e move up by a candidate.
+// The bytes from a up to e move up by a candidate. Never inlined, since a reply would take more of the stack.
+#[inline(never)]
 fn make_gap(m: &mut [u8], a: usize, e: usize)
     requires { (a ≤ e) × (e + candidate_size ≤ length m.old) }
     ensures { m.new ≡ sets m.old (a + candidate_size) (part m.old a e) }

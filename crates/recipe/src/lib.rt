@@ -1,6 +1,6 @@
 #![tactic(auto)]
 // A recipe: a note, one or two lists of setpoints and a trailer, read from its end.
-ghost use Rattle.std.specs.Prelude.{◌≡◌, ◌+◌, ◌*◌, ◌-◌, ◌<◌, ◌≤◌, ◌^◌, length, drop};
+ghost use Rattle.std.specs.Prelude.{◌≡◌, ◌+◌, ◌*◌, ◌-◌, ◌<◌, ◌≤◌, ◌^◌, length, drop, is_ok};
 ghost use Rattle.octets.specs.Octets.{little_number};
 ghost use Rattle.recipe.specs.Recipe.{trim_of, zigzag_of, varint, no_leap, from_end, distance_of, count_of, format_of, sequence_of, trailer_of, core_distance_of, core_count_of, pad_of, is_recipe, outranks};
 ghost use Rattle.recipe.specs.Faults.{rule_number, part_number, broken, rises, trim_in, stays, setpoint_fault, bytes_fault, list_fault, lists_fault, is_known, fault_of};
@@ -197,6 +197,12 @@ pub fn broken(rule: Rule, part: Part, setpoint: usize) -> Result<(), Breach>
         part,
         setpoint,
     })
+}
+
+pub fn is_good(verdict: Result<(), Breach>) -> bool
+    ensures { result ≡ is_ok verdict }
+{
+    verdict.is_ok()
 }
 
 // ---- a list of setpoints
@@ -468,7 +474,7 @@ pub fn fault(value: &[u8]) -> Result<(), Breach>
 pub fn check(value: &[u8]) -> bool
     ensures { result ≡ is_recipe value.now }
 {
-    fault(value).is_ok()
+    is_good(fault(value))
 }
 
 // Whether a ranks higher than b.

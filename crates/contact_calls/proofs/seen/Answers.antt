@@ -1,5 +1,5 @@
 -- `contact_calls::seen` meets its contract. Assumes nothing.
-use mathlib.Core.Path.{sym, ◌∙◌}
+use mathlib.Core.Path.{refl, sym, ◌∙◌}
 use Rattle.std.proofs.lemmas.Result.{err_from_is_err_and}
 use Rattle.contact_calls.proofs.Outcomes.{seen-bad, seen-client, seen-taken}
 use Rattle.contact_calls.proofs.seen.Goals as goal
@@ -13,4 +13,4 @@ pub returns-then-client : goal.returns-then-client
 returns-then-client c = seen-client c.args.table.now c.args.ours.now c.args.id.now c.args.client c.args.addresses.now _ (sym c.admit.ensures ∙ c.in_ok-place.was) c.if-client.true
 
 pub returns : goal.returns
-returns c = seen-taken c.args.table.now c.args.ours.now c.args.id.now c.args.client c.args.addresses.now _ (sym c.admit.ensures ∙ c.in_ok-place.was) c.if-client.false _ _ _ c.peer_of.ensures c.seen.ensures
+returns c = seen-taken c.args.table.now c.args.ours.now c.args.id.now c.args.client c.args.addresses.now _ (sym c.admit.ensures ∙ c.in_ok-place.was) c.if-client.false _ _ _ refl c.see.ensures

@@ -5,4 +5,4 @@ use Rattle.recipe.proofs.Faults.{fault-or-recipe}
 use Rattle.recipe.proofs.check.Goals as goal
 
 pub returns : goal.returns
-returns c = c.is_ok.ensures.value ∙ ap is_ok c.fault.ensures ∙ fault-or-recipe c.args.value.now
+returns c = c.is_good.ensures ∙ ap is_ok c.fault.ensures ∙ fault-or-recipe c.args.value.now
